@@ -2,7 +2,13 @@
 #![tactic(auto)]
 
 mod fault;
+mod reply;
+mod sale;
 mod sequence;
+mod statement;
 
 pub use fault::{Failed, NoMemory};
-pub use sequence::{Bytes, NumberList, Sequence};
+pub use reply::{Refusal, Reply};
+pub use sale::{Sale, ShopTotal};
+pub use sequence::{Bytes, CallList, NumberList, Sequence};
+pub use statement::{Request, Statement};

@@ -17,6 +17,9 @@ pub type Bytes = Sequence<u8>;
 /// A list of whole numbers.
 pub type NumberList = Sequence<i128>;
 
+/// The numbers of calls that are to fail, counted from 1.
+pub type CallList = Sequence<u64>;
+
 impl<T> Model for Sequence<T> {
     ghost use Rattle.std.specs.Prelude.{List};
 

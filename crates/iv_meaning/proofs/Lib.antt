@@ -1,0 +1,5 @@
+pub mod LineLemmas
+pub mod NumberLemmas
+pub mod RequestLemmas
+pub mod TableLemmas
+pub mod ViewLemmas

@@ -1,0 +1,10 @@
+pub mod Lines
+pub mod Table
+pub mod Database
+pub mod View
+pub mod Statement
+pub mod Reply
+pub mod Number
+pub mod Request
+pub mod Transcript
+pub mod Script

@@ -1,0 +1,12 @@
+-- The fields of a buffer of lines.
+use Rattle.std.specs.Prelude.{◌≡◌, ◌≤◌, ◌^◌, length}
+use Rattle.std.specs.Vec.{vec_capacity}
+use Rattle.line_wire.specs.declared.line.LineBuffer.TheInside.{Inside}
+
+pub record IsKept (b : Inside) : Type 0 where
+  pub behind : b.at ≤ b.end
+  pub within : b.end ≤ length b.chunk.items
+  pub chunk : length b.chunk.items ≡ 65536
+  pub taken : b.taken ≤ 2 ^ 40
+  pub text : length b.text.items ≤ 65536
+  pub room : 65536 ≤ vec_capacity b.text

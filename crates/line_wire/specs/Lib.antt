@@ -1,0 +1,5 @@
+pub mod Wire
+pub mod Memory
+pub mod Reading
+pub mod Found
+pub mod Kept

@@ -1,0 +1,153 @@
+-- A run that has answered some lines.
+use Rattle.std.proofs.Common.{◌≡◌, ◌≢◌, ◌<◌, ◌+◌, ℕ, Bool, true, false, cond, List, [], ◌∷◌, ◌++◌, length, take, drop, Option, Some, refl, ap, sym, subst, ◌∙◌, arith, append_assoc, inl, inr}
+use Rattle.std.specs.Prelude.{◌==◌}
+use Rattle.std.proofs.lemmas.List.{take-append-drop}
+use Rattle.iv_meaning.specs.Lines.{first_line, after_line, lines_of, onto_first}
+use Rattle.iv_meaning.specs.Database.{Database, opened}
+use Rattle.iv_meaning.specs.Transcript.{IsTranscript}
+use Rattle.iv_meaning.specs.Script.{Answers, IsScriptOutput, AnswersFirstLines}
+use Rattle.line_wire.specs.Wire.{WroteFront}
+use Rattle.line_wire.specs.Reading.{Reading, most_bytes}
+use Rattle.line_wire.specs.Found.{FoundLine, Counted, Reads}
+use Rattle.line_wire.specs.declared.line.Line.{Line}
+use Rattle.line_wire.specs.declared.line.Line.TheVariants.{Text, TooLong, End}
+use Rattle.view_server.specs.Answered.{AnswersLine, AddsAnswer, MovesOn}
+use Rattle.view_server.specs.Run.{Answered, Output, Taken, TookAll, TookMost, Finishes, FinishFaults}
+use Rattle.view_server.specs.declared.status.Status.{Status}
+use Rattle.view_server.specs.declared.status.Status.TheVariants.{WriteFault}
+
+-- the input's first lines, up to these others, are answered by this output
+pub record AnsweredUpTo (input : List ℕ) (others : List (List ℕ)) (out : List ℕ) : Type 0 where
+  pub first : List (List ℕ)
+  pub split : lines_of input ≡ first ++ others
+  pub transcript : IsTranscript Answers first opened out
+
+-- What was written and what waits answers the lines so far: whatever answers the first lines of what is ahead, both
+-- together answer so many lines more.
+pub record Serving (input before : List ℕ) (now : Reading) (left written : Option (List ℕ)) (waiting : List ℕ) (db : Database) : Type 0 where
+  pub rest : List ℕ
+  pub tells : left ≡ Some rest
+  pub count : now.taken + length rest ≡ length input
+  pub out : List ℕ
+  pub wrote : written ≡ Some (before ++ out)
+  pub goes_on : (first others : List (List ℕ)) (more : List ℕ) → lines_of (now.held ++ rest) ≡ first ++ others → IsTranscript Answers first db more → AnsweredUpTo input others ((out ++ waiting) ++ more)
+
+same_lines : (b : ℕ) (bytes : List ℕ) (t : Bool) → lines_of bytes ≡ first_line bytes ∷ lines_of (after_line bytes) → cond t ([] ∷ lines_of bytes) (onto_first b (lines_of bytes)) ≡ cond t [] (b ∷ first_line bytes) ∷ lines_of (cond t bytes (after_line bytes))
+same_lines b bytes true e = refl
+same_lines b bytes false e = ap (onto_first b) e
+
+last_line : (b : ℕ) (t : Bool) → cond t ([] ∷ []) ((b ∷ []) ∷ []) ≡ cond t [] (b ∷ []) ∷ lines_of (cond t [] [])
+last_line b true = refl
+last_line b false = refl
+
+-- what is ahead begins with its first line
+lines_more : (ahead : List ℕ) → ahead ≢ [] → lines_of ahead ≡ first_line ahead ∷ lines_of (after_line ahead)
+lines_more [] ne = absurd (ne refl)
+lines_more (b ∷ []) ne = last_line b (b == 10)
+lines_more (b ∷ c ∷ bytes) ne = same_lines b (c ∷ bytes) (b == 10) (lines_more (c ∷ bytes) (λ e. cc))
+
+nothing : {A : Type 0} (p : List A) → p ++ [] ≡ p
+nothing [] = refl
+nothing (x ∷ p) = ap (λ (q : List _). x ∷ q) (nothing p)
+
+no_front : {A : Type 0} (p : List A) → [] ++ p ≡ p
+no_front p = refl
+
+-- a run begins
+pub begun : (input before : List ℕ) (now : Reading) (left written : Option (List ℕ)) → now.held ≡ [] → now.taken ≡ 0 → left ≡ Some input → written ≡ Some before → Serving input before now left written [] opened
+begun input before now left written held taken l w = record {
+  rest = input;
+  tells = l;
+  count = omega (arith, taken);
+  out = [];
+  wrote = w ∙ ap Some (sym (nothing before));
+  goes_on = λ first others more split t. record { first = first; split = ap (λ (h : List ℕ). lines_of (h ++ input)) (sym held) ∙ split; transcript = t };
+}
+
+-- some of what waited was written
+pub moved : (input before : List ℕ) (now : Reading) (left written written' : Option (List ℕ)) (waiting waiting' : List ℕ) (db : Database) → (s : Serving input before now left written waiting db) → MovesOn (before ++ s.out) waiting waiting' written' → Serving input before now left written' waiting' db
+moved input before now left written written' waiting waiting' db s m = record {
+  rest = s.rest;
+  tells = s.tells;
+  count = s.count;
+  out = s.out ++ m.front;
+  wrote = m.wrote ∙ ap Some (append_assoc before s.out m.front);
+  goes_on = λ first others more split t.
+      let same : (s.out ++ m.front) ++ waiting' ≡ s.out ++ waiting = append_assoc s.out m.front waiting' ∙ ap (λ (xs : List ℕ). s.out ++ xs) m.whole in
+      subst (λ (xs : List ℕ). AnsweredUpTo input others (xs ++ more)) (sym same) (s.goes_on first others more split t);
+}
+
+regroup : (a b c d : List ℕ) → (a ++ (b ++ c)) ++ d ≡ (a ++ b) ++ (c ++ d)
+regroup a b c d = ap (λ (xs : List ℕ). xs ++ d) (sym (append_assoc a b c)) ∙ append_assoc (a ++ b) c d
+
+-- the answer to the line that was read
+line_answered : (line : Line) (ahead text then_ : List ℕ) (db after : Database) (piece : List ℕ) → line ≢ End → Reads line ahead text then_ → AnswersLine line text db piece after → (ahead ≢ []) × Answers (first_line ahead) db piece after × (then_ ≡ after_line ahead)
+line_answered Text ahead text then_ db after piece ne r a = (r.0, subst (λ (l : List ℕ). Answers l db piece after) r.2 a, r.3)
+line_answered TooLong ahead text then_ db after piece ne r a = (r.0, a (first_line ahead) r.1, r.2)
+line_answered End ahead text then_ db after piece ne r a = absurd (ne refl)
+
+-- a line was read and answered
+pub served : (input before : List ℕ) (line : Line) (now next : Reading) (left left' written : Option (List ℕ)) (waiting waiting' : List ℕ) (db after : Database) → line ≢ End → (s : Serving input before now left written waiting db) → FoundLine line (now.held ++ s.rest) now.taken (length s.rest) next left' → AddsAnswer line next.text db waiting waiting' after → Serving input before next left' written waiting' after
+served input before line now next left left' written waiting waiting' db after ne s f a =
+    let h = line_answered line (now.held ++ s.rest) next.text (next.held ++ f.counted.rest) db after a.piece ne f.reads a.answers in
+    let ahead : lines_of (now.held ++ s.rest) ≡ first_line (now.held ++ s.rest) ∷ lines_of (next.held ++ f.counted.rest) = lines_more (now.held ++ s.rest) h.0 ∙ ap (λ (xs : List ℕ). first_line (now.held ++ s.rest) ∷ lines_of xs) (sym h.2) in
+    record {
+      rest = f.counted.rest;
+      tells = f.counted.tells;
+      count = omega (arith, f.counted.count, s.count);
+      out = s.out;
+      wrote = s.wrote;
+      goes_on = λ first others more split t.
+          let whole = s.goes_on (first_line (now.held ++ s.rest) ∷ first) others (a.piece ++ more) (ahead ∙ ap (λ (ls : List (List ℕ)). first_line (now.held ++ s.rest) ∷ ls) split) (a.piece, after, more, h.1, refl, t) in
+          subst (λ (xs : List ℕ). AnsweredUpTo input others xs) (sym (ap (λ (w : List ℕ). (s.out ++ w) ++ more) a.added ∙ regroup s.out waiting a.piece more)) whole;
+    }
+
+-- the lines so far
+so_far : (input before : List ℕ) (now : Reading) (left written : Option (List ℕ)) (waiting : List ℕ) (db : Database) → (s : Serving input before now left written waiting db) → AnsweredUpTo input (lines_of (now.held ++ s.rest)) (s.out ++ waiting)
+so_far input before now left written waiting db s = subst (λ (xs : List ℕ). AnsweredUpTo input (lines_of (now.held ++ s.rest)) xs) (nothing (s.out ++ waiting)) (s.goes_on [] (lines_of (now.held ++ s.rest)) [] refl refl)
+
+pub first_lines : (input before : List ℕ) (now : Reading) (left written : Option (List ℕ)) (waiting : List ℕ) (db : Database) → (s : Serving input before now left written waiting db) → AnswersFirstLines input (s.out ++ waiting)
+unfolding so_far
+first_lines input before now left written waiting db s = let a = so_far input before now left written waiting db s in (a.first, lines_of (now.held ++ s.rest), a.split, a.transcript)
+
+-- the whole input was read
+pub whole : (input before : List ℕ) (now next : Reading) (left left' written : Option (List ℕ)) (waiting : List ℕ) (db : Database) → (s : Serving input before now left written waiting db) → FoundLine End (now.held ++ s.rest) now.taken (length s.rest) next left' → IsScriptOutput input (s.out ++ waiting)
+whole input before now next left left' written waiting db s f =
+    let a = so_far input before now left written waiting db s in
+    let none : lines_of (now.held ++ s.rest) ≡ [] = ap lines_of f.reads.0 in
+    let all : lines_of input ≡ a.first = a.split ∙ ap (λ (ls : List (List ℕ)). a.first ++ ls) none ∙ nothing a.first in
+    subst (λ (ls : List (List ℕ)). IsTranscript Answers ls opened (s.out ++ waiting)) (sym all) a.transcript
+
+-- with the front of what waits written
+pub front : (input before : List ℕ) (now : Reading) (left written written' : Option (List ℕ)) (waiting : List ℕ) (db : Database) → (s : Serving input before now left written waiting db) → WroteFront (before ++ s.out) waiting written' → Output WriteFault input before written'
+front input before now left written written' waiting db s w = record {
+  out = s.out ++ take w.count waiting;
+  wrote = w.same ∙ ap Some (append_assoc before s.out (take w.count waiting));
+  answered = (drop w.count waiting, subst (λ (xs : List ℕ). AnswersFirstLines input xs) (sym (append_assoc s.out (take w.count waiting) (drop w.count waiting) ∙ ap (λ (xs : List ℕ). s.out ++ xs) (take-append-drop w.count waiting))) (first_lines input before now left written waiting db s));
+}
+
+-- with all of it written
+pub all : (input before : List ℕ) (now : Reading) (left written written' : Option (List ℕ)) (waiting : List ℕ) (db : Database) → (s : Serving input before now left written waiting db) → written' ≡ Some ((before ++ s.out) ++ waiting) → written' ≡ Some (before ++ (s.out ++ waiting))
+all input before now left written written' waiting db s w = w ∙ ap Some (append_assoc before s.out waiting)
+
+nothing_left : (a b : List ℕ) → a ++ b ≡ [] → b ≡ []
+nothing_left [] b e = e
+nothing_left (x ∷ a) b e = absurd (cc)
+
+pub took_all : (input : List ℕ) (now next : Reading) (rest : List ℕ) (left' : Option (List ℕ)) → now.taken + length rest ≡ length input → FoundLine End (now.held ++ rest) now.taken (length rest) next left' → next.taken < most_bytes → TookAll input left'
+took_all input now next rest left' count f less =
+    let none : f.counted.rest ≡ [] = nothing_left next.held f.counted.rest f.reads.1 in
+    record { none = f.counted.tells ∙ ap Some none; less = omega (arith, count, f.counted.count, ap length none) }
+
+pub took_most : (input : List ℕ) (now next : Reading) (rest : List ℕ) (left' : Option (List ℕ)) → now.taken + length rest ≡ length input → Counted now.taken (length rest) next left' → next.taken ≡ most_bytes → TookMost input left'
+took_most input now next rest left' count c most = record { rest = c.rest; tells = c.tells; most = omega (arith, count, c.count, most) }
+
+-- a run that ends with what waits
+pub ended : (status result : Status) (input before : List ℕ) (now : Reading) (left written written' : Option (List ℕ)) (waiting : List ℕ) (db : Database) → (s : Serving input before now left written waiting db) → Finishes status result (before ++ s.out) waiting written' → Answered status input (s.out ++ waiting) → Output result input before written'
+ended status result input before now left written written' waiting db s (inl f) a = subst (λ (r : Status). Output r input before written') (sym f.0) (record { out = s.out ++ waiting; wrote = all input before now left written written' waiting db s f.1; answered = a })
+ended status result input before now left written written' waiting db s (inr f) a = subst (λ (r : Status). Output r input before written') (sym f.0) (front input before now left written written' waiting db s f.1)
+
+-- nothing is said of what was taken where the sink failed
+pub taken_by : (status result : Status) (before now : ℕ) (input : List ℕ) (left : Option (List ℕ)) → FinishFaults status result before now → Taken status input left → Taken result input left
+taken_by status result before now input left (inl f) t = subst (λ (r : Status). Taken r input left) (sym f.0) t
+taken_by status result before now input left (inr f) t = subst (λ (r : Status). Taken r input left) (sym f.0) tt

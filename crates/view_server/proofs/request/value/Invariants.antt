@@ -1,0 +1,6 @@
+use Rattle.std.proofs.Common.{◌≡◌, ◌≤◌, drop}
+use Rattle.iv_meaning.specs.Number.{value_onto, value_of}
+use Rattle.view_server.proofs.request.value.Given as goal
+
+abbrev pub invariant-loop-digit : goal.invariant-loop-digit
+invariant-loop-digit l = (l.value ≤ l.most) × (value_onto l.value (drop l.digit-index l.digits) ≡ value_of l.digits)

@@ -1,0 +1,86 @@
+use Rattle.std.proofs.Common.{◌≢◌, ◌∙◌, ◌++◌, ℕ, List, subst}
+use Rattle.line_wire.specs.declared.line.Line.TheVariants.{Text, TooLong, End}
+use Rattle.view_server.specs.Run.{Finishes}
+use Rattle.view_server.specs.declared.status.Status.TheVariants.{Done, ReadFault, NoMemory, TooMuch}
+use Rattle.view_server.proofs.Serving.{moved, served, first_lines, whole, front, ended, taken_by, took_all}
+use Rattle.view_server.proofs.script.answer_lines.Goals as goal
+
+not_end_text : Text ≢ End
+not_end_text e = cc
+
+not_end_long : TooLong ≢ End
+not_end_long e = cc
+
+pub returns-in-Err-clause-output : goal.returns-in-Err-clause-output
+returns-in-Err-clause-output g c = λ input before e w.
+    let s = c.loop-lines.invariant.serving input before e w in
+    front _ _ _ _ _ _ _ _ s (c.in-Err.ensures.err (before ++ s.out) s.wrote)
+
+pub returns-in-Ok-End-clause-output : goal.returns-in-Ok-End-clause-output
+returns-in-Ok-End-clause-output g c = λ input before e w.
+    let was = c.loop-lines.invariant.serving input before e w in
+    let s = moved _ _ _ _ _ _ _ _ _ was (c.in_default-flush.ensures.ok (before ++ was.out) was.wrote) in
+    ended Done _ _ _ _ _ _ _ _ _ s (c.finish.ensures.written (before ++ s.out) s.wrote)
+    (whole _ _ _ _ _ _ _ _ _ s (rw c.in-Ok-End.field-0-is at (c.in-Ok-End.ensures.found s.rest s.tells)))
+
+pub returns-in-Ok-End-clause-taken : goal.returns-in-Ok-End-clause-taken
+returns-in-Ok-End-clause-taken g c = λ input e.
+    let t = c.loop-lines.invariant.counted input e in
+    taken_by Done _ _ _ _ _ c.finish.ensures.fault
+    (took_all input c.loop-lines.lines c.read_line.new.kept t.0 _ t.2 (rw c.in-Ok-End.field-0-is at (c.in-Ok-End.ensures.found t.0 t.1)) (rw c.in-Ok-End.field-0-is at c.in-Ok-End.ensures.took))
+
+pub returns-in-Err-answer_line-clause-output : goal.returns-in-Err-answer_line-clause-output
+returns-in-Err-answer_line-clause-output g c = λ input before e w.
+    let was = c.loop-lines.invariant.serving input before e w in
+    let s = moved _ _ _ _ _ _ _ _ _ was (c.in_default-flush.ensures.ok (before ++ was.out) was.wrote) in
+    ended NoMemory _ _ _ _ _ _ _ _ _ s
+    (subst (λ (waits : List ℕ). Finishes NoMemory c.finish-in-Err-answer_line.result (before ++ s.out) waits (g.K.Sink.written c.finish-in-Err-answer_line.new.sink)) c.in-Err-answer_line.ensures.err (c.finish-in-Err-answer_line.ensures.written (before ++ s.out) s.wrote))
+    (first_lines _ _ _ _ _ _ _ s)
+
+pub loop-lines-preserved-in_default-answer_line : goal.loop-lines-preserved-in_default-answer_line
+loop-lines-preserved-in_default-answer_line g c = record {
+  serving = λ input before e w.
+      let was = c.loop-lines.invariant.serving input before e w in
+      let s = moved _ _ _ _ _ _ _ _ _ was (c.in_default-flush.ensures.ok (before ++ was.out) was.wrote) in
+      served _ _ Text _ _ _ _ _ _ _ _ _ not_end_text s (rw c.in-Ok-Text.field-0-is at (c.in-Ok-Text.ensures.found s.rest s.tells)) (rw c.text.ensures at c.in_default-answer_line.ensures.ok);
+  counted = λ input e.
+      let t = c.loop-lines.invariant.counted input e in
+      let f = rw c.in-Ok-Text.field-0-is at (c.in-Ok-Text.ensures.found t.0 t.1) in
+      (f.counted.rest, f.counted.tells, f.counted.count ∙ t.2);
+  reads = c.in-Ok-Text.ensures.fault ∙ c.loop-lines.invariant.reads;
+  writes = c.in_default-flush.ensures.fault ∙ c.loop-lines.invariant.writes;
+}
+
+pub returns-in-Err-refuse_line-clause-output : goal.returns-in-Err-refuse_line-clause-output
+returns-in-Err-refuse_line-clause-output g c = λ input before e w.
+    let was = c.loop-lines.invariant.serving input before e w in
+    let s = moved _ _ _ _ _ _ _ _ _ was (c.in_default-flush.ensures.ok (before ++ was.out) was.wrote) in
+    ended NoMemory _ _ _ _ _ _ _ _ _ s
+    (subst (λ (waits : List ℕ). Finishes NoMemory c.finish-in-Err-refuse_line.result (before ++ s.out) waits (g.K.Sink.written c.finish-in-Err-refuse_line.new.sink)) c.in-Err-refuse_line.ensures.err (c.finish-in-Err-refuse_line.ensures.written (before ++ s.out) s.wrote))
+    (first_lines _ _ _ _ _ _ _ s)
+
+pub loop-lines-preserved : goal.loop-lines-preserved
+loop-lines-preserved g c = record {
+  serving = λ input before e w.
+      let was = c.loop-lines.invariant.serving input before e w in
+      let s = moved _ _ _ _ _ _ _ _ _ was (c.in_default-flush.ensures.ok (before ++ was.out) was.wrote) in
+      served _ _ TooLong _ _ _ _ _ _ _ _ _ not_end_long s (rw c.in-Ok-TooLong.field-0-is at (c.in-Ok-TooLong.ensures.found s.rest s.tells)) (c.in_default-refuse_line.ensures.ok _ _);
+  counted = λ input e.
+      let t = c.loop-lines.invariant.counted input e in
+      let f = rw c.in-Ok-TooLong.field-0-is at (c.in-Ok-TooLong.ensures.found t.0 t.1) in
+      (f.counted.rest, f.counted.tells, f.counted.count ∙ t.2);
+  reads = c.in-Ok-TooLong.ensures.fault ∙ c.loop-lines.invariant.reads;
+  writes = c.in_default-flush.ensures.fault ∙ c.loop-lines.invariant.writes;
+}
+
+pub returns-in-Err-ReadFault-clause-output : goal.returns-in-Err-ReadFault-clause-output
+returns-in-Err-ReadFault-clause-output g c = λ input before e w.
+    let was = c.loop-lines.invariant.serving input before e w in
+    let s = moved _ _ _ _ _ _ _ _ _ was (c.in_default-flush.ensures.ok (before ++ was.out) was.wrote) in
+    ended ReadFault _ _ _ _ _ _ _ _ _ s (c.finish-in-Err-ReadFault.ensures.written (before ++ s.out) s.wrote) (first_lines _ _ _ _ _ _ _ s)
+
+pub returns-in-Err-TooMuch-clause-output : goal.returns-in-Err-TooMuch-clause-output
+returns-in-Err-TooMuch-clause-output g c = λ input before e w.
+    let was = c.loop-lines.invariant.serving input before e w in
+    let s = moved _ _ _ _ _ _ _ _ _ was (c.in_default-flush.ensures.ok (before ++ was.out) was.wrote) in
+    ended TooMuch _ _ _ _ _ _ _ _ _ s (c.finish-in-Err-TooMuch.ensures.written (before ++ s.out) s.wrote) (first_lines _ _ _ _ _ _ _ s)

@@ -1,0 +1,12 @@
+-- The exit statuses.
+use Rattle.std.specs.Prelude.{ℕ}
+use Rattle.view_server.specs.declared.status.Status.{Status}
+use Rattle.view_server.specs.declared.status.Status.TheVariants.{Done, Usage, ReadFault, WriteFault, NoMemory, TooMuch}
+
+abbrev pub code_of : Status → ℕ
+code_of Done = 0
+code_of Usage = 1
+code_of ReadFault = 2
+code_of WriteFault = 3
+code_of NoMemory = 6
+code_of TooMuch = 8

@@ -1,0 +1,11 @@
+//! The engine behind a script, and the program's top call.
+#![tactic(auto)]
+
+mod engine;
+mod print;
+mod request;
+mod script;
+mod status;
+
+pub use script::run;
+pub use status::Status;
