@@ -3,3 +3,4 @@ pub mod NumberLemmas
 pub mod RequestLemmas
 pub mod TableLemmas
 pub mod ViewLemmas
+pub mod GroupLemmas

@@ -9,10 +9,10 @@ use Rattle.iv_meaning.specs.View.{sales_of, count_of, total_of, sum_of_amounts}
 use Rattle.std.specs.Prelude.{None}
 use Rattle.iv_meaning.proofs.TableLemmas.{with_row_puts}
 
-abbrev in_group : ℤ → ℤ × Sale → Bool
+abbrev pub in_group : ℤ → ℤ × Sale → Bool
 in_group shop entry = int_eq entry.1.shop shop
 
-sum-append : (a b : Table Sale) → sum_of_amounts (a ++ b) ≡ sum_of_amounts a +ℤ sum_of_amounts b
+pub sum-append : (a b : Table Sale) → sum_of_amounts (a ++ b) ≡ sum_of_amounts a +ℤ sum_of_amounts b
 sum-append [] b = omega (arith, ints)
 sum-append (entry ∷ a) b = let h = sum-append a b in omega (arith, ints)
 

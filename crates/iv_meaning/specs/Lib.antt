@@ -2,6 +2,7 @@ pub mod Lines
 pub mod Table
 pub mod Database
 pub mod View
+pub mod Groups
 pub mod Statement
 pub mod Reply
 pub mod Number

@@ -1,4 +1,6 @@
 //! Errors without values of their own.
+ghost use Rattle.std.specs.Prelude.{◌≡◌, ◌+◌, ◌-◌, ◌^◌, min};
+
 use std::alloc::{AllocError, AllocFailed};
 use thiserror::Error;
 
@@ -23,3 +25,18 @@ impl<T: Drop> From<AllocFailed<T>> for NoMemory {
 #[derive(Clone, Copy, Debug, PartialEq, Eq, Error)]
 #[error("the call failed")]
 pub struct Failed;
+
+impl Failed {
+    /// A failure that a count of faults tells of; the count stands still at its type's end.
+    pub fn counted(faults: &mut u64) -> Failed
+        ensures { faults.new ≡ min (faults.old + 1) (2 ^ 64 - 1) }
+    {
+        *faults = faults.saturating_add(1);
+        Failed
+    }
+}
+
+/// The disk failed, and its count of faults says so.
+#[derive(Clone, Copy, Debug, PartialEq, Eq, Error)]
+#[error("the disk failed")]
+pub struct DiskFault;

@@ -7,7 +7,7 @@ mod sale;
 mod sequence;
 mod statement;
 
-pub use fault::{Failed, NoMemory};
+pub use fault::{DiskFault, Failed, NoMemory};
 pub use reply::{Refusal, Reply};
 pub use sale::{Sale, ShopTotal};
 pub use sequence::{Bytes, CallList, NumberList, Sequence};

@@ -1,5 +1,7 @@
 //! A source and a sink in memory, for tests: each tells its bytes, and fails at the calls that it is told to.
-ghost use Rattle.std.specs.Prelude.{◌≡◌, ◌≤◌, [], length, IfOk};
+ghost use Rattle.std.specs.Prelude.{◌≡◌, ◌≤◌, ◌<◌, ◌+◌, ◌-◌, ◌^◌, ◌↔◌, ◌⊎◌, ◌++◌, ℕ, List, [], length, take, min, vec_len, vec_capacity, Option, IfOk, OnOk, OnErr, IsErr, Contains};
+ghost use Rattle.iv_types.specs.Faults.{CountsFault};
+ghost use Rattle.line_wire.specs.Wire.{Gives};
 
 use crate::{Sink, Source};
 use iv_types::{Bytes, CallList, Failed, NoMemory};
@@ -44,11 +46,19 @@ impl Source for ListSource {
 
     ghost faults = { λ s. s.faults };
 
-    fn take(&mut self, into: &mut [u8]) -> Result<usize, Failed> {
+    fn take(&mut self, into: &mut [u8]) -> Result<usize, Failed>
+        requires { 0 < length into.old }
+        ensures within { IfOk result (λ count. count ≤ length into.new) }
+        ensures bytes { (bytes : List ℕ) → ◌≡◌ {A = Option (List ℕ)} (Some (bytes_left self.old)) (Some bytes) → IfOk result (λ count. Gives bytes count into.new (Some (bytes_left self.new))) }
+        ensures fault { CountsFault result self.old.faults self.new.faults }
+
+        // It fails exactly at the listed calls.
+        ensures exact { IsErr result ↔ Contains self.old.failing self.new.calls }
+        ensures calls { self.new.calls ≡ min (self.old.calls + 1) (2 ^ 64 - 1) }
+    {
         self.calls = self.calls.saturating_add(1);
         if self.failing.as_slice().contains(&self.calls) {
-            self.faults = self.faults.saturating_add(1);
-            return Err(Failed);
+            return Err(Failed::counted(&mut self.faults));
         }
         let left = &self.bytes.as_slice()[self.at..];
         let count = into.len().min(left.len());
@@ -66,6 +76,7 @@ pub struct ListSink {
     failing: CallList,
     calls: u64,
     faults: u64,
+    ghost has_room: { vec_len bytes + room ≤ vec_capacity bytes },
 }
 
 impl ListSink {
@@ -100,19 +111,33 @@ impl ListSink {
 
 impl Sink for ListSink {
     ghost use Rattle.std.specs.Prelude.{Some};
-    ghost use Rattle.line_wire.specs.Memory.{bytes_written};
+    ghost use Rattle.line_wire.specs.Memory.{bytes_written, room_left};
 
     ghost written = { λ s. Some (bytes_written s) };
 
     ghost faults = { λ s. s.faults };
 
-    fn put(&mut self, from: &[u8]) -> Result<usize, Failed> {
+    fn put(&mut self, from: &[u8]) -> Result<usize, Failed>
+        ensures within { IfOk result (λ count. count ≤ length from.now) }
+        ensures some { 0 < length from.now → IfOk result (λ count. 0 < count) }
+        ensures bytes { (before : List ℕ) → ◌≡◌ {A = Option (List ℕ)} (Some (bytes_written self.old)) (Some before) → IfOk result (λ count. ◌≡◌ {A = Option (List ℕ)} (Some (bytes_written self.new)) (Some (before ++ take count from.now))) }
+        ensures nothing { (before : List ℕ) → ◌≡◌ {A = Option (List ℕ)} (Some (bytes_written self.old)) (Some before) → OnErr result (◌≡◌ {A = Option (List ℕ)} (Some (bytes_written self.new)) (Some before)) }
+        ensures fault { CountsFault result self.old.faults self.new.faults }
+
+        // It fails exactly at the listed calls, and where there is no room.
+        ensures exact { IsErr result ↔ (Contains self.old.failing self.new.calls ⊎ (room_left self.old < length from.now)) }
+        ensures calls { self.new.calls ≡ min (self.old.calls + 1) (2 ^ 64 - 1) }
+        ensures room { OnOk result (room_left self.new + length from.now ≡ room_left self.old) }
+        ensures room_err { OnErr result (room_left self.new ≡ room_left self.old) }
+    {
         self.calls = self.calls.saturating_add(1);
-        let fails = self.failing.as_slice().contains(&self.calls) || from.len() > self.room;
-        if fails || self.bytes.extend_from_slice(from).is_err() {
-            self.faults = self.faults.saturating_add(1);
-            return Err(Failed);
+        if self.failing.as_slice().contains(&self.calls) {
+            return Err(Failed::counted(&mut self.faults));
         }
+        if from.len() > self.room {
+            return Err(Failed::counted(&mut self.faults));
+        }
+        self.bytes.extend_from_slice(from).unwrap();
         self.room -= from.len();
         Ok(from.len())
     }

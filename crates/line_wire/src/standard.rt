@@ -29,10 +29,7 @@ impl<R: Read + Drop> Source for StdSource<R> {
     fn take(&mut self, into: &mut [u8]) -> Result<usize, Failed> {
         match self.reader.read(into) {
             Ok(count) => Ok(count),
-            Err(_) => {
-                self.faults = self.faults.saturating_add(1);
-                Err(Failed)
-            }
+            Err(_) => Err(Failed::counted(&mut self.faults)),
         }
     }
 }
@@ -66,13 +63,9 @@ impl<W: Write + Drop> Sink for StdSink<W> {
                 if count > 0 || from.is_empty() {
                     return Ok(count);
                 }
-                self.faults = self.faults.saturating_add(1);
-                Err(Failed)
+                Err(Failed::counted(&mut self.faults))
             }
-            Err(_) => {
-                self.faults = self.faults.saturating_add(1);
-                Err(Failed)
-            }
+            Err(_) => Err(Failed::counted(&mut self.faults)),
         }
     }
 }

@@ -12,7 +12,8 @@ use Rattle.iv_meaning.specs.Table.{Table, row_at, with_row}
 use Rattle.iv_meaning.specs.View.{count_of, total_of, view_row}
 use Rattle.iv_meaning.proofs.TableLemmas.{length-with_row}
 use Rattle.iv_meaning.proofs.ViewLemmas.{one_if, amount_if, count_of-with_row, total_of-with_row, total_of_none}
-use Rattle.view_server.specs.Groups.{grown, IsSmall, IsView}
+use Rattle.iv_meaning.specs.Groups.{IsSmall}
+use Rattle.view_server.specs.Groups.{grown, IsView}
 
 the_group : (shop : ℤ) (m n : ℕ) (x y : ℤ) → m ≡ n → x ≡ y → ◌≡◌ {A = ShopTotal} (record { shop = shop; count = m; total = x }) (record { shop = shop; count = n; total = y })
 the_group shop m n x y e h = cc

@@ -6,16 +6,12 @@ use Rattle.iv_types.specs.declared.sale.Sale.{Sale}
 use Rattle.iv_types.specs.declared.sale.ShopTotal.{ShopTotal}
 use Rattle.iv_meaning.specs.Table.{Table}
 use Rattle.iv_meaning.specs.View.{view_row}
+use Rattle.iv_meaning.specs.Groups.{IsSmall}
 
 -- a group with one row more
 abbrev pub grown : Sale → Option ShopTotal → ShopTotal
 grown sale None = record { shop = sale.shop; count = 1; total = sale.amount }
 grown sale (Some group) = record { shop = group.shop; count = group.count + 1; total = group.total +ℤ sale.amount }
-
--- small enough for so many rows, each of 64 bits
-pub record IsSmall (rows : ℕ) (group : ShopTotal) : Type 0 where
-  pub count : group.count ≤ rows
-  pub total : unsigned_abs group.total ≤ rows * 2 ^ 63
 
 -- the kept rows are the view's, evaluated afresh
 pub record IsView (sales : Table Sale) (groups : BTreeMap ℤ ShopTotal) : Type 0 where

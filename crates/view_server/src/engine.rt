@@ -7,7 +7,8 @@ ghost use Rattle.iv_meaning.specs.Table.{has_key, with_row};
 ghost use Rattle.iv_meaning.specs.Database.{opened};
 ghost use Rattle.iv_meaning.specs.View.{view_row};
 ghost use Rattle.iv_meaning.specs.Statement.{committed};
-ghost use Rattle.view_server.specs.Groups.{grown, IsSmall};
+ghost use Rattle.iv_meaning.specs.Groups.{IsSmall};
+ghost use Rattle.view_server.specs.Groups.{grown};
 ghost use Rattle.view_server.specs.Answer.{IsAnswer};
 
 use iv_types::{NoMemory, Refusal, Sale, ShopTotal, Statement};

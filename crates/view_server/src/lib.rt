@@ -9,3 +9,6 @@ mod status;
 
 pub use script::run;
 pub use status::Status;
+
+#[cfg(test)]
+mod tests;
