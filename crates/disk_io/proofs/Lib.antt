@@ -1,0 +1,5 @@
+mod Crashes
+pub mod Moments
+mod Moved
+mod Recording
+mod Replays

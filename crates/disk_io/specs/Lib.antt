@@ -1,0 +1,10 @@
+pub mod Bytes
+pub mod Counts
+pub mod Disk
+pub mod Events
+pub mod File
+pub mod Images
+pub mod Memory
+pub mod Plain
+pub mod Record
+pub mod Recorded

@@ -1,0 +1,14 @@
+pub mod After
+pub mod Begin
+pub mod Beginnings
+pub mod Free
+pub mod Gates
+pub mod Laid
+pub mod Loop
+pub mod Old
+pub mod Ranges
+pub mod Runs
+pub mod Slots
+pub mod Stores
+pub mod Unchanged
+pub mod Whole

@@ -1,0 +1,4 @@
+pub mod Image
+pub mod Kept
+pub mod Publish
+pub mod Store
