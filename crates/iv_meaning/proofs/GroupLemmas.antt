@@ -1,6 +1,5 @@
 -- A group whose rows are counted from the front.
-use Rattle.std.proofs.Common.{◌≡◌, ◌<◌, ◌+◌, ℕ, ℤ, pos, ◌+ℤ◌, Bool, true, false, cond, List, [], ◌∷◌, ◌++◌, length, take, drop, get_or, Option, Some, None, refl, ap, sym, ◌∙◌, arith, length-append}
-use Rattle.std.specs.Prelude.{◌==◌}
+use Rattle.std.proofs.Common.{◌≡◌, ◌<◌, ◌+◌, ℕ, ℤ, ◌+ℤ◌, Bool, true, false, cond, [], ◌∷◌, ◌++◌, length, take, get_or, ap, ◌∙◌, arith, length-append}
 use Rattle.std.specs.Ordering.{int_eq}
 use Rattle.std.proofs.lemmas.Int.{ints}
 use Rattle.std.proofs.lemmas.List.Elements.{filter-append}
@@ -8,7 +7,7 @@ use Rattle.std.proofs.lemmas.Grind.{take_at_read}
 use Rattle.iv_types.specs.declared.sale.Sale.{Sale}
 use Rattle.iv_types.specs.declared.sale.ShopTotal.{ShopTotal}
 use Rattle.iv_meaning.specs.Table.{Table}
-use Rattle.iv_meaning.specs.View.{sales_of, count_of, total_of, sum_of_amounts, view_row}
+use Rattle.iv_meaning.specs.View.{sales_of, count_of, total_of, sum_of_amounts}
 use Rattle.iv_meaning.specs.Groups.{with_sale}
 use Rattle.iv_meaning.proofs.ViewLemmas.{in_group, sum-append}
 

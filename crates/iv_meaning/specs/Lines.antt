@@ -29,11 +29,15 @@ longest_line = 65536
 abbrev pub ended : List (List ℕ) → List ℕ
 ended lines = flat_map (λ line. line ++ 10 ∷ []) lines
 
+-- there are bytes, and the last is no line end
+abbrev pub LacksEnd : List ℕ → Type 0
+LacksEnd input = (input ≢ []) × ((front : List ℕ) → input ≢ front ++ 10 ∷ [])
+
 -- What the lines of an input are, without a word on how they are found: no line has a line end in it, the lines with
 -- their ends are the input, and where the input lacks its last line end, they are the input with that one added.
 pub record AreLines (input : List ℕ) (lines : List (List ℕ)) : Type 0 where
   pub no_end_within : All (All (λ b. b ≢ 10)) lines
-  pub whole : (ended lines ≡ input) ⊎ (ended lines ≡ input ++ 10 ∷ [])
+  pub whole : (ended lines ≡ input) ⊎ (LacksEnd input × (ended lines ≡ input ++ 10 ∷ []))
 
 -- `lines_of` gives the lines of every input
 abbrev pub LinesLaw : Type 0

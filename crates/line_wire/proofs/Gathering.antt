@@ -6,7 +6,7 @@ use Rattle.iv_meaning.specs.Lines.{first_line, after_line, longest_line}
 use Rattle.line_wire.specs.Reading.{Reading}
 use Rattle.line_wire.specs.declared.line.Line.{Line}
 use Rattle.line_wire.specs.declared.line.Line.TheVariants.{Text, TooLong, End}
-use Rattle.line_wire.specs.Found.{Reads, Counted, FoundLine, Filled}
+use Rattle.line_wire.specs.Found.{Reads, Counted, FoundLine, NoLineTaken, Filled}
 use Rattle.line_wire.proofs.FirstLine.{first_line-append, after_line-append, first_line_twice}
 
 -- the front of `all` was read, with no line end in it, and `text` is what is kept of it
@@ -125,6 +125,15 @@ gathering_more before long all was size count old mid new left left' g end adds 
       line = subst (λ (t : List ℕ). InLine t long all (new.held ++ f.rest)) (sym text)
           (more before long old.text mid.text (first_line old.held) all (new.held ++ f.rest) (first_line_twice old.held) adds (subst (λ (xs : List ℕ). InLine old.text before all xs) ahead g.line));
     }
+
+-- no more may be taken
+pub gathering_stops : (before : Bool) (all : List ℕ) (was size : ℕ) (old new : Reading) (left : Option (List ℕ)) → Gathering before all was size old left → first_line old.held ≡ old.held → new.taken ≡ old.taken → NoLineTaken all was size new left
+gathering_stops before all was size old new left g end taken = record {
+  counted = record { rest = g.counted.rest; tells = g.counted.tells; count = omega (arith, g.counted.count, taken) };
+  front = g.line.front ++ old.held;
+  whole = g.line.whole ∙ sym (append_assoc g.line.front old.held g.counted.rest);
+  no_end = first_line-append g.line.front old.held g.line.no_end ∙ ap (λ (xs : List ℕ). g.line.front ++ xs) end;
+}
 
 -- nothing was left to be taken
 pub gathering_last : (before long : Bool) (all : List ℕ) (was size count : ℕ) (old mid new : Reading) (left left' : Option (List ℕ)) → Gathering before all was size old left → first_line old.held ≡ old.held → Adds long before old.text mid.text (first_line old.held) → mid.taken ≡ old.taken → ((bytes : List ℕ) → left ≡ Some bytes → Filled bytes count mid.taken new left') → count ≡ 0 → new.text ≡ mid.text → length new.text ≤ longest_line → (line : Line) → line ≡ cond long TooLong (cond (length new.text == 0) End Text) → FoundLine line all was size new left'

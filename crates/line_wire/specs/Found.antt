@@ -25,9 +25,16 @@ pub record FoundLine (line : Line) (ahead : List ℕ) (before size : ℕ) (now :
   pub counted : Counted before size now left
   pub reads : Reads line ahead now.text (now.held ++ counted.rest)
 
+-- the same, where no line ends in all that was taken
+pub record NoLineTaken (ahead : List ℕ) (before size : ℕ) (now : Reading) (left : Option (List ℕ)) : Type 0 where
+  pub counted : Counted before size now left
+  pub front : List ℕ
+  pub whole : ahead ≡ front ++ counted.rest
+  pub no_end : first_line front ≡ front
+
 abbrev pub Found : Result Line LineFault → List ℕ → ℕ → ℕ → Reading → Option (List ℕ) → Type 0
 Found (Ok line) ahead before size now left = FoundLine line ahead before size now left
-Found (Err TooMuch) ahead before size now left = Counted before size now left
+Found (Err TooMuch) ahead before size now left = NoLineTaken ahead before size now left
 Found (Err ReadFault) ahead before size now left = Unit {0}
 
 -- how many bytes were taken, by what was found

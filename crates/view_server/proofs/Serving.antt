@@ -8,11 +8,11 @@ use Rattle.iv_meaning.specs.Transcript.{IsTranscript}
 use Rattle.iv_meaning.specs.Script.{Answers, IsScriptOutput, AnswersFirstLines}
 use Rattle.line_wire.specs.Wire.{WroteFront}
 use Rattle.line_wire.specs.Reading.{Reading, most_bytes}
-use Rattle.line_wire.specs.Found.{FoundLine, Counted, Reads}
+use Rattle.line_wire.specs.Found.{FoundLine, Reads}
 use Rattle.line_wire.specs.declared.line.Line.{Line}
 use Rattle.line_wire.specs.declared.line.Line.TheVariants.{Text, TooLong, End}
 use Rattle.view_server.specs.Answered.{AnswersLine, AddsAnswer, MovesOn}
-use Rattle.view_server.specs.Run.{Answered, Output, Taken, TookAll, TookMost, Finishes, FinishFaults}
+use Rattle.view_server.specs.Run.{Answered, Output, Taken, TookAll, Finishes, FinishFaults}
 use Rattle.view_server.specs.declared.status.Status.{Status}
 use Rattle.view_server.specs.declared.status.Status.TheVariants.{WriteFault}
 
@@ -138,9 +138,6 @@ pub took_all : (input : List ℕ) (now next : Reading) (rest : List ℕ) (left' 
 took_all input now next rest left' count f less =
     let none : f.counted.rest ≡ [] = nothing_left next.held f.counted.rest f.reads.1 in
     record { none = f.counted.tells ∙ ap Some none; less = omega (arith, count, f.counted.count, ap length none) }
-
-pub took_most : (input : List ℕ) (now next : Reading) (rest : List ℕ) (left' : Option (List ℕ)) → now.taken + length rest ≡ length input → Counted now.taken (length rest) next left' → next.taken ≡ most_bytes → TookMost input left'
-took_most input now next rest left' count c most = record { rest = c.rest; tells = c.tells; most = omega (arith, count, c.count, most) }
 
 -- a run that ends with what waits
 pub ended : (status result : Status) (input before : List ℕ) (now : Reading) (left written written' : Option (List ℕ)) (waiting : List ℕ) (db : Database) → (s : Serving input before now left written waiting db) → Finishes status result (before ++ s.out) waiting written' → Answered status input (s.out ++ waiting) → Output result input before written'

@@ -1,5 +1,5 @@
 -- The view's rows as the engine keeps them, in a table beside the rows.
-use Rattle.std.specs.Prelude.{◌≡◌, ◌≤◌, ◌+◌, ◌*◌, ◌^◌, ℕ, ℤ, ◌+ℤ◌, unsigned_abs, length, Option, Some, None, IfSome}
+use Rattle.std.specs.Prelude.{◌≡◌, ◌≤◌, ◌+◌, ◌^◌, ℤ, ◌+ℤ◌, length, Option, Some, None, IfSome}
 use Rattle.std.specs.Ordering.{int_cmp}
 use Rattle.std.specs.BTreeMap.{BTreeMap, get}
 use Rattle.iv_types.specs.declared.sale.Sale.{Sale}

@@ -1,8 +1,8 @@
 //! Scripts from end to end, over a source and a sink in memory.
 use crate::{Status, run};
 use iv_meaning::plain;
-use iv_types::{CallList, Sale, Sequence};
-use line_wire::{ListSink, ListSource};
+use iv_types::{CallList, Failed, Sale, Sequence};
+use line_wire::{ListSink, ListSource, Source};
 use std::alloc::{AllocError, Global};
 use std::fmt::Write;
 use std::test::Fail;
@@ -164,6 +164,42 @@ fn faults_in_mid_stream(rt: HostRuntime) -> Result<(), Fail> {
         assert_eq!(rt; ended, status, "read {read}, write {write}");
         assert_eq!(rt; written.len(), bytes, "read {read}, write {write}");
     }
+    Ok(())
+}
+
+// A source that counts how often it is asked, and tells nothing.
+#[derive(Drop)]
+struct Counting {
+    source: ListSource,
+    asked: u64,
+}
+
+impl Source for Counting {
+    ghost use Rattle.std.specs.Prelude.{None};
+
+    ghost left = { λ _. None };
+
+    ghost faults = { λ s. s.source.faults };
+
+    fn take(&mut self, into: &mut [u8]) -> Result<usize, Failed> {
+        self.asked = self.asked.saturating_add(1);
+        self.source.take(into)
+    }
+}
+
+#[test]
+fn replies_are_written_before_more_is_asked(rt: HostRuntime) -> Result<(), Fail> {
+    let words = words(rt.alloc(), &["script", "-"])?;
+    let line = Sequence::from_vec(b"1: HELLO\n".to_vec(rt.alloc())?);
+    let mut source = Counting {
+        source: ListSource::new(line, calls(rt.alloc(), 0)?),
+        asked: 0,
+    };
+    // the first write fails, so the source is not asked again
+    let mut sink = ListSink::new(rt.alloc(), 100, calls(rt.alloc(), 1)?)?;
+    let status = run(rt.alloc(), &words, &mut source, &mut sink);
+    assert_eq!(rt; status, Status::WriteFault);
+    assert_eq!(rt; source.asked, 1);
     Ok(())
 }
 

@@ -1,4 +1,4 @@
-use Rattle.std.proofs.Common.{◌≡◌, ◌∙◌, ap, sym, ℤ, pos, get_or}
+use Rattle.std.proofs.Common.{◌∙◌, ap, sym, ℤ, pos, get_or}
 use Rattle.iv_types.specs.declared.sale.Sale.{Sale}
 use Rattle.iv_types.specs.declared.sale.ShopTotal.{ShopTotal}
 use Rattle.iv_meaning.specs.Groups.{with_sale}

@@ -1,4 +1,4 @@
-use Rattle.std.proofs.Common.{◌≡◌, ◌≤◌, take, length}
+use Rattle.std.proofs.Common.{◌≡◌, take}
 use Rattle.iv_meaning.specs.Groups.{IsSmall}
 use Rattle.iv_meaning.proofs.GroupLemmas.{group_of}
 use Rattle.iv_meaning.proofs.plain.view_row.Given as goal

@@ -1,5 +1,5 @@
 use Rattle.std.proofs.Common.{◌≡◌, ◌≤◌, ◌∙◌, ap, arith, refl, length}
-use Rattle.line_wire.proofs.Gathering.{gathering_begun, gathering_ends, gathering_more, gathering_last}
+use Rattle.line_wire.proofs.Gathering.{gathering_begun, gathering_ends, gathering_more, gathering_stops, gathering_last}
 use Rattle.line_wire.proofs.line.read_line.Goals as goal
 
 pub loop-long-init : goal.loop-long-init
@@ -15,6 +15,10 @@ loop-long-init g c = record {
 pub returns-then-gather-clause-found : goal.returns-then-gather-clause-found
 returns-then-gather-clause-found g c = λ bytes e.
     gathering_ends c.loop-long.long c.gather.new.long _ _ _ c.loop-long.kept c.gather.new.self _ (c.loop-long.invariant.gathering bytes e) c.if-gather.ensures.end (record { text = c.gather.ensures.text; longer = c.gather.ensures.long }) c.gather.ensures.short c.gather.ensures.taken _ c.whole.ensures
+
+pub returns-then-taken-eq-MOST_BYTES-clause-found : goal.returns-then-taken-eq-MOST_BYTES-clause-found
+returns-then-taken-eq-MOST_BYTES-clause-found g c = λ bytes e.
+    gathering_stops c.loop-long.long _ _ _ c.loop-long.kept c.gather.new.self _ (c.loop-long.invariant.gathering bytes e) c.if-gather.ensures.end.0 c.gather.ensures.taken
 
 pub returns-then-count-eq0-clause-found : goal.returns-then-count-eq0-clause-found
 returns-then-count-eq0-clause-found g c = λ bytes e.
