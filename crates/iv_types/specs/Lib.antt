@@ -1,1 +1,15 @@
 pub mod Faults
+pub mod Terminals
+pub mod Syntax
+pub mod Tokens
+pub mod Limits
+pub mod Expressions
+pub mod Grammar
+pub mod Refusing
+pub mod Printing
+pub mod Replies
+pub mod Encoding
+pub mod BadRow
+pub mod Intervals
+pub mod Sinks
+pub mod Definitions

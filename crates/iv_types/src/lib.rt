@@ -1,14 +1,41 @@
 //! The types that the engine's crates share.
+//!
+//! `specs/` has the language's definitions: statements without where they lie in memory (`Syntax`), the tokens of a text
+//! (`Tokens`), the grammar (`Limits`, `Expressions`, `Grammar`), the one text of a statement (`Printing`), the texts of
+//! replies (`Replies`), and rows and keys in bytes (`Encoding`, `BadRow`, `Intervals`).
 #![tactic(auto)]
 
+mod catalog;
+mod expression;
 mod fault;
+mod lock;
+mod refusal;
 mod reply;
-mod sale;
 mod sequence;
+mod session;
 mod statement;
+mod terminal;
+mod value;
+mod writing;
 
+pub use catalog::{Catalog, Definition, IndexDef, Second, TableDef, ViewDef};
+pub use expression::{ColumnAt, ColumnAtList, Expr, ExprList, Op, Ref, RefList};
 pub use fault::{DiskFault, Failed, NoMemory};
-pub use reply::{Refusal, Reply};
-pub use sale::{Sale, ShopTotal};
-pub use sequence::{Bytes, CallList, NumberList, Sequence};
-pub use statement::{Request, Statement};
+pub use lock::{
+    Change, ChangeList, DeltaList, GroupDelta, IndexEntry, IndexEntryList, Kept, KeptList,
+    KeptStep, LockMode, Prefix, PrefixList, ViewRow, ViewRowList, Want, WantList,
+};
+pub use refusal::{EngineRefusal, Refusal};
+pub use reply::{Reply, ReplyList};
+pub use sequence::{Bytes, CallList, NameList, NumberList, Places, Sequence};
+pub use session::{Cycle, Sessions};
+pub use statement::{
+    ColumnDef, ColumnList, Item, ItemList, Join, JoinList, Mode, Order, OrderKey, OrderList, Query,
+    Relation, Set, SetList, Statement, TupleList,
+};
+pub use terminal::{KEYWORDS, Terminal};
+pub use value::{Interval, Kind, KindList, Row, RowList, Value};
+pub use writing::{PieceSink, leaves_tight, stands_close, statement_bytes, write_statement};
+
+/// The number in a disk's header by which its format is known.
+pub const FORMAT: u32 = 1;

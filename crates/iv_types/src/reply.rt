@@ -1,30 +1,24 @@
 //! What a line is answered.
-use crate::ShopTotal;
-use thiserror::Error;
-
-/// Why a line was refused.
-#[derive(Clone, Copy, Debug, PartialEq, Eq, Error)]
-pub enum Refusal {
-    /// Code 10: a row with this primary key is there.
-    #[error("a row with this primary key is there")]
-    DuplicateKey,
-    /// Code 29: there was no memory for the statement, which changed nothing.
-    #[error("out of memory")]
-    NoMemory,
-    /// Code 41: the line has none of the forms of a line.
-    #[error("the line has none of the forms of a line")]
-    BadLine,
-}
+use crate::{Refusal, Row, Sequence, Sessions};
 
 /// One line of an answer.
-#[derive(Clone, Copy, Debug, PartialEq, Eq)]
+#[derive(Debug, Drop)]
 pub enum Reply {
     /// A row that was asked for.
-    Row(ShopTotal),
-    /// The statement is done: how many rows it listed or inserted.
+    Row(Row),
+    /// The statement is done: how many rows it listed, inserted or matched.
     Done(u64),
-    /// Its transaction is committed under this number.
+    /// Its transaction is committed, and this is the greatest commit number then.
     Commit(u64),
+    /// A snapshot of this number is open.
+    Snapshot(u64),
+    /// The statement waits for these sessions.
+    Wait(Sessions),
+    /// A step was done, and the statement has not ended.
+    Step,
     /// It was refused.
     Error(Refusal),
 }
+
+/// The replies to a line, in order.
+pub type ReplyList = Sequence<Reply>;

@@ -17,6 +17,12 @@ pub type Bytes = Sequence<u8>;
 /// A list of whole numbers.
 pub type NumberList = Sequence<i128>;
 
+/// Places in a list, counted from 0.
+pub type Places = Sequence<u32>;
+
+/// A list of names.
+pub type NameList = Sequence<Bytes>;
+
 /// The numbers of calls that are to fail, counted from 1.
 pub type CallList = Sequence<u64>;
 

@@ -1,18 +1,135 @@
-//! What a session can ask for.
-use crate::Sale;
+//! Statements as they are parsed. Names are in lower case.
+use crate::{Bytes, Expr, ExprList, Kind, NameList, Ref, RefList, Sequence};
 
+/// How a transaction reads: serializable by locks, or a snapshot that writes nothing.
 #[derive(Clone, Copy, Debug, PartialEq, Eq)]
-pub enum Statement {
-    /// `INSERT INTO sale VALUES (..)`: adds a row under a new id.
-    Insert(Sale),
-    /// `SELECT * FROM by_shop WHERE shop = ..`: asks for the view's row of this shop.
-    Select(i64),
+pub enum Mode {
+    Serial,
+    Snapshot,
 }
 
-/// A statement of a session.
-#[derive(Clone, Copy, Debug, PartialEq, Eq)]
-pub struct Request {
-    /// The session's number, from 1 to 64.
-    pub session: u32,
-    pub statement: Statement,
+/// A column of a table.
+#[derive(Debug, Drop)]
+pub struct ColumnDef {
+    pub name: Bytes,
+    pub kind: Kind,
+}
+
+/// The columns of a table, in order.
+pub type ColumnList = Sequence<ColumnDef>;
+
+/// The tuples of an INSERT.
+pub type TupleList = Sequence<ExprList>;
+
+/// A relation of FROM: a table or a view, and the name by which the statement calls it where that is another.
+#[derive(Debug, Drop)]
+pub struct Relation {
+    pub name: Bytes,
+    pub alias: Option<Bytes>,
+}
+
+/// A further relation of FROM and its ON condition.
+#[derive(Debug, Drop)]
+pub struct Join {
+    pub relation: Relation,
+    pub on: Expr,
+}
+
+/// The further relations of FROM.
+pub type JoinList = Sequence<Join>;
+
+/// An item of a SELECT, with the name that AS gives it.
+#[derive(Debug, Drop)]
+pub enum Item {
+    /// `*`: all columns of FROM.
+    All,
+    /// `COUNT(*)`.
+    Count(Option<Bytes>),
+    /// `SUM(column)`.
+    Sum(Ref, Option<Bytes>),
+    Plain(Expr, Option<Bytes>),
+}
+
+/// The items of a SELECT.
+pub type ItemList = Sequence<Item>;
+
+/// A query, without its ORDER BY. An empty `group` means that it has no GROUP BY.
+#[derive(Debug, Drop)]
+pub struct Query {
+    pub items: ItemList,
+    pub first: Relation,
+    pub joins: JoinList,
+    pub condition: Option<Expr>,
+    pub group: RefList,
+}
+
+/// By what an ORDER BY sorts: the item of this number, counted from 1, or the item of this name.
+#[derive(Debug, Drop)]
+pub enum OrderKey {
+    Place(i128),
+    Name(Bytes),
+}
+
+/// One term of an ORDER BY.
+#[derive(Debug, Drop)]
+pub struct Order {
+    pub by: OrderKey,
+    pub descending: bool,
+}
+
+/// The terms of an ORDER BY.
+pub type OrderList = Sequence<Order>;
+
+/// One assignment of an UPDATE.
+#[derive(Debug, Drop)]
+pub struct Set {
+    pub name: Bytes,
+    pub value: Expr,
+}
+
+/// The assignments of an UPDATE.
+pub type SetList = Sequence<Set>;
+
+/// A statement.
+#[derive(Debug, Drop)]
+pub enum Statement {
+    CreateTable {
+        name: Bytes,
+        columns: ColumnList,
+        primary: NameList,
+    },
+    CreateIndex {
+        name: Bytes,
+        table: Bytes,
+        columns: NameList,
+    },
+    CreateView {
+        name: Bytes,
+        query: Query,
+    },
+    Insert {
+        table: Bytes,
+        tuples: TupleList,
+    },
+    Update {
+        table: Bytes,
+        sets: SetList,
+        condition: Option<Expr>,
+    },
+    Delete {
+        table: Bytes,
+        condition: Option<Expr>,
+    },
+    Select {
+        query: Query,
+        order: OrderList,
+    },
+    Begin(Mode),
+    Commit,
+    Rollback {
+        to: Option<Bytes>,
+    },
+    Savepoint {
+        name: Bytes,
+    },
 }

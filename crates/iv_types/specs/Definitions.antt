@@ -1,0 +1,33 @@
+-- The definitions of a database: its tables, indexes and views in the order in which they were made.
+use Rattle.std.specs.Prelude.{◌≡◌, ℕ, zero, suc, List, [], ◌∷◌, slice_get, Option, Some, None, Vec, if◌then◌else◌}
+use Rattle.std.specs.Str.{bytes_eq}
+use Rattle.iv_types.specs.declared.catalog.Definition.{Definition}
+use Rattle.iv_types.specs.declared.catalog.Definition.TheVariants.{Table, Index, View}
+
+abbrev pub Definitions : Type 0
+Definitions = List Definition
+
+abbrev pub number_of : Definition → ℕ
+number_of (Table table) = table.number
+number_of (Index index) = index.number
+number_of (View view) = view.number
+
+abbrev pub name_of : Definition → List ℕ
+name_of (Table table) = table.name
+name_of (Index index) = index.name
+name_of (View view) = view.name
+
+-- the definition of an object number: they count from 1
+abbrev pub numbered : Definitions → ℕ → Option Definition
+numbered ds zero = None
+numbered ds (suc n) = slice_get ds n
+
+-- the definition that has a name
+abbrev pub named : Definitions → List ℕ → Option Definition
+named [] name = None
+named (d ∷ ds) name = if bytes_eq name (name_of d) then Some d else named ds name
+
+-- the definitions after the first n: each is kept under its own name, and its number is that of its place
+abbrev pub AreKept : {A : Type 0} → ℕ → List (Vec ℕ A × Definition) → Type 0
+AreKept n [] = Unit {0}
+AreKept n (e ∷ es) = (e.0.items ≡ name_of e.1) × (number_of e.1 ≡ suc n) × AreKept (suc n) es

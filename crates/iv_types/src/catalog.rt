@@ -1,0 +1,160 @@
+//! What a database defines: tables, indexes and views.
+ghost use Rattle.std.specs.Prelude.{◌≡◌, ◌+◌, ◌++◌, [], ◌∷◌, length, None, IfSome, OnOk, OnErr};
+ghost use Rattle.std.specs.Option.{option_copied};
+ghost use Rattle.iv_types.specs.Definitions.{number_of, name_of, numbered, named};
+
+use crate::{Bytes, ColumnAtList, ColumnList, Expr, NameList, NoMemory, Places};
+use indexmap::IndexMap;
+use std::alloc::Global;
+use std::marker::Model;
+
+/// A table. Its object number is that of its primary index too.
+#[derive(Debug, Drop)]
+pub struct TableDef {
+    pub number: u32,
+    pub name: Bytes,
+    pub columns: ColumnList,
+    /// The columns of the primary key.
+    pub primary: Places,
+}
+
+/// An index that CREATE INDEX made.
+#[derive(Debug, Drop)]
+pub struct IndexDef {
+    pub number: u32,
+    pub name: Bytes,
+    pub table: u32,
+    pub columns: Places,
+}
+
+/// The second table of a join view.
+#[derive(Debug, Drop)]
+pub struct Second {
+    pub table: u32,
+    /// The first table's columns that are equal to the second's primary key, in the key's order.
+    pub joined: Places,
+    /// The index of the first table that begins with these columns.
+    pub index: u32,
+}
+
+/// A view. Its object number is that of its index too.
+#[derive(Debug, Drop)]
+pub struct ViewDef {
+    pub number: u32,
+    pub name: Bytes,
+    /// The names of its columns: the group columns, the count and the sums.
+    pub names: NameList,
+    pub first: u32,
+    pub second: Option<Second>,
+    pub condition: Option<Expr>,
+    pub group: ColumnAtList,
+    pub sums: ColumnAtList,
+}
+
+/// What an object number stands for.
+#[derive(Debug, Drop)]
+pub enum Definition {
+    Table(TableDef),
+    Index(IndexDef),
+    View(ViewDef),
+}
+
+impl Definition {
+    /// The object number.
+    pub fn number(&self) -> u32
+        ensures { result ≡ number_of self.now }
+    {
+        match self {
+            Definition::Table(table) => table.number,
+            Definition::Index(index) => index.number,
+            Definition::View(view) => view.number,
+        }
+    }
+
+    /// The name.
+    pub fn name(&self) -> &Bytes
+        ensures { result.now ≡ name_of self.now }
+    {
+        match self {
+            Definition::Table(table) => &table.name,
+            Definition::Index(index) => &index.name,
+            Definition::View(view) => &view.name,
+        }
+    }
+}
+
+/// The definitions of a database, in the order in which they were made, and their names. No two have one name, and the
+/// object numbers count them from 1.
+#[derive(Debug, Drop)]
+pub struct Catalog {
+    named: IndexMap<Vec<u8>, Definition>,
+}
+
+impl Model for Catalog {
+    ghost use Rattle.indexmap.specs.IndexMap.{values};
+    ghost use Rattle.iv_types.specs.Definitions.{Definitions, AreKept};
+    ghost use Rattle.iv_types.specs.contracts.expression.Expr as expr;
+    ghost use Rattle.std.specs.Coded.{codes};
+
+    ghost Value = { Definitions };
+
+    ghost coded = { Prim.hlevel (codes, expr.the_row.coded) };
+
+    ghost view = { λ c. values c.named };
+
+    ghost invariant = { λ c. AreKept 0 c.named.entries };
+}
+
+impl Catalog {
+    /// A catalog without definitions, which takes no memory.
+    pub fn new(alloc: Global) -> Self
+        ensures { result ≡ [] }
+    {
+        Catalog {
+            named: IndexMap::new(alloc),
+        }
+    }
+
+    /// How many definitions there are.
+    pub fn len(&self) -> usize
+        ensures { result ≡ length self.now }
+    {
+        self.named.len()
+    }
+
+    /// The definition of an object number, if there is one.
+    pub fn get(&self, number: u32) -> Option<&Definition>
+        ensures value { option_copied result ≡ numbered self.now number }
+        ensures number { IfSome result (λ d. number_of d.now ≡ number) }
+    {
+        if number == 0 {
+            return None;
+        }
+        match self.named.get_index(number as usize - 1) {
+            Some((_, definition)) => Some(definition),
+            None => None,
+        }
+    }
+
+    /// The definition that has a name, if there is one.
+    pub fn find(&self, name: &[u8]) -> Option<&Definition>
+        ensures { option_copied result ≡ named self.now name.now }
+    {
+        self.named.get(name)
+    }
+
+    /// Adds a definition that has the next object number and a name of its own.
+    pub fn add(&mut self, definition: Definition) -> Result<(), NoMemory>
+        requires number { number_of definition ≡ length self.old + 1 }
+        requires name { named self.old (name_of definition) ≡ None }
+        ensures ok { OnOk result (self.new ≡ self.old ++ definition ∷ []) }
+        ensures err { OnErr result (self.new ≡ self.old) }
+    {
+        let name = definition
+            .name()
+            .as_slice()
+            .to_vec(*self.named.allocator())?;
+        self.named.insert(name, definition)?;
+        Ok(())
+    }
+}

@@ -1,0 +1,7 @@
+pub mod Laws
+pub mod Starts
+pub mod Extends
+pub mod Loops
+pub mod Lines
+pub mod Rows
+pub mod Once
