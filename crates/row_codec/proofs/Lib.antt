@@ -1,0 +1,9 @@
+pub mod Numbers
+pub mod Columns
+pub mod Formats
+pub mod RowFormat
+pub mod Shifts
+pub mod KeyFormat
+pub mod Orders
+pub mod KeyOrders
+pub mod RangeLaws
