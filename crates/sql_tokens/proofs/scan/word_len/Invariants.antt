@@ -1,0 +1,13 @@
+use Rattle.std.proofs.Common.{length, ◌-◌, ◌≡◌, ◌≤◌, drop, ◌+◌}
+use Rattle.std.specs.List.{prefix_len}
+use Rattle.iv_types.specs.Tokens.{is_in_name}
+use Rattle.sql_tokens.proofs.scan.word_len.Given as goal
+
+abbrev pub invariant-loop-size : goal.invariant-loop-size
+invariant-loop-size l = record {
+  within : l.size ≤ length l.bytes;
+  same : l.size + prefix_len is_in_name (drop l.size l.bytes) ≡ prefix_len is_in_name l.bytes;
+}
+
+abbrev pub decreases-loop-size : goal.decreases-loop-size
+decreases-loop-size l = length l.bytes - l.size

@@ -1,0 +1,9 @@
+use Rattle.std.proofs.Common.{◌≡◌, ◌<◌, ◌^◌, drop}
+use Rattle.iv_types.specs.Tokens.{value_onto, value_of}
+use Rattle.sql_tokens.proofs.token.value.Given as goal
+
+abbrev pub invariant-loop-digit : goal.invariant-loop-digit
+invariant-loop-digit l = record {
+  fits : l.value < 2 ^ 128;
+  same : value_onto l.value (drop l.digit-index l.digits) ≡ value_of l.digits;
+}
