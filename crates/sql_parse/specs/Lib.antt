@@ -1,0 +1,5 @@
+pub mod Ladder
+pub mod Statements
+pub mod Levels
+pub mod Passing
+pub mod Parsing

@@ -1,0 +1,136 @@
+//! Statements, and texts that are statements.
+ghost use Rattle.std.specs.Prelude.{◌≡◌, ◌<◌, ◌≤◌, ◌⊎◌, ℕ, List, pos, length, map, IfOk, IfErr};
+ghost use Rattle.text_grammar.specs.Readers.{Gives};
+ghost use Rattle.iv_types.specs.declared.refusal.Refusal.TheVariants as refusal;
+ghost use Rattle.iv_types.specs.Tokens.{place_of_last};
+ghost use Rattle.iv_types.specs.Limits.{the_limits, most_of};
+ghost use Rattle.iv_types.specs.Syntax.{StatementTree, statement_tree};
+ghost use Rattle.iv_types.specs.Grammar.{Spells};
+ghost use Rattle.iv_types.specs.Refusing.{Refuses};
+ghost use Rattle.sql_tokens.specs.View.{placed, symbols_at};
+ghost use Rattle.sql_parse.specs.Statements.{statement, line, whole_line};
+ghost use Rattle.sql_parse.specs.Parsing.{Answers, refusal_of};
+
+use crate::changing::{control_of, deletion_of, insertion_of, update_of};
+use crate::creating::creation_of;
+use crate::cursor::Cursor;
+use crate::selecting::selection_of;
+use iv_types::{Refusal, Statement, Terminal};
+use sql_tokens::{Token, split};
+use std::alloc::Global;
+use text_grammar::{Cause, Fault, ParseError};
+
+#[tactic(auto, unfolding(crate::specs::Statements::statement))]
+fn statement_of(alloc: Global, cursor: &mut Cursor) -> Result<Statement, ParseError>
+    ensures reads { Gives (λ x. (statement_tree x, cursor.new)) result (statement the_limits cursor.old) }
+    ensures shorter { IfOk result (λ _. length cursor.new < length cursor.old) }
+{
+    if cursor.begins(Terminal::Create) {
+        return creation_of(alloc, cursor);
+    }
+    if cursor.begins(Terminal::Insert) {
+        return insertion_of(alloc, cursor);
+    }
+    if cursor.begins(Terminal::Update) {
+        return update_of(alloc, cursor);
+    }
+    if cursor.begins(Terminal::Delete) {
+        return deletion_of(alloc, cursor);
+    }
+    if cursor.begins(Terminal::Select) {
+        return selection_of(alloc, cursor);
+    }
+    control_of(alloc, cursor)
+}
+
+// A statement, perhaps with a semicolon behind it.
+#[tactic(auto, unfolding(crate::specs::Statements::line))]
+fn line_of(alloc: Global, cursor: &mut Cursor) -> Result<Statement, ParseError>
+    ensures reads { Gives (λ x. (statement_tree x, cursor.new)) result (line the_limits cursor.old) }
+{
+    let statement = statement_of(alloc, cursor)?;
+    cursor.skip(Terminal::Semicolon);
+    Ok(statement)
+}
+
+// The statement that all tokens of a text spell.
+#[tactic(auto, unfolding(crate::specs::Statements::whole_line))]
+fn whole_of(alloc: Global, text: &[u8], tokens: &[Token]) -> Result<Statement, ParseError>
+    ensures { Gives statement_tree result (whole_line the_limits (symbols_at text.now tokens.now)) }
+{
+    let mut cursor = Cursor::new(text, tokens);
+    let statement = line_of(alloc, &mut cursor)?;
+    if !cursor.is_at_end() {
+        return Err(cursor.fault(Cause::Syntax));
+    }
+    Ok(statement)
+}
+
+// Where the last so many tokens begin, which is the end of the text where there are none.
+fn place_of(tokens: &[Token], left: usize, end: usize) -> u64
+    ensures { (text : List ℕ) → result ≡ place_of_last left (map (placed text) tokens.now) end }
+{
+    if left > tokens.len() {
+        return end as u64;
+    }
+    match tokens.get(tokens.len() - left) {
+        Some(token) => token.start as u64,
+        None => end as u64,
+    }
+}
+
+// The most that the limit of this number allows.
+fn most_of(which: u32) -> i128
+    ensures { result ≡ pos (most_of which) }
+{
+    match which {
+        1 => 64,
+        2 => i128::MAX,
+        3 => 200,
+        4 => 64,
+        5 => 1000,
+        7 => 4,
+        17 => 64,
+        _ => 1024,
+    }
+}
+
+// What a text is refused for.
+fn refusal_of(fault: Fault, tokens: &[Token], end: usize) -> Refusal
+    ensures { (text : List ℕ) → result ≡ refusal_of fault (map (placed text) tokens.now) end }
+{
+    match fault.cause {
+        Cause::Syntax => Refusal::Syntax(place_of(tokens, fault.left, end)),
+        Cause::Limit(which) => Refusal::Limit {
+            which,
+            most: most_of(which),
+        },
+    }
+}
+
+/// The statement of a text: that one which the grammar derives from it.
+///
+/// # Errors
+///
+/// `Syntax` with the place, in bytes from 0, of the first token after which no text of the grammar goes on, of a token
+/// that cannot be read, or of the text's end where it ends too early. `Limit` where with that token a limit is passed.
+/// The earlier place goes first, and at one token a syntax fault goes before a limit and a lower limit before a higher
+/// one. `NoMemory` where there is no memory for it.
+pub fn parse(alloc: Global, text: &str) -> Result<Statement, Refusal>
+    // What is answered is derived.
+    ensures found { IfOk result (λ s. Spells text.now (statement_tree s)) }
+    // What is derived is answered, unless memory runs out.
+    ensures only { (s : StatementTree) → Spells text.now s → Answers s result }
+    // What is refused goes wrong there, for that cause.
+    ensures refused { IfErr result (λ r. (r ≡ refusal.NoMemory) ⊎ Refuses text.now r) }
+{
+    let bytes = text.as_bytes();
+    let Ok(tokens) = split(alloc, bytes) else {
+        return Err(Refusal::NoMemory);
+    };
+    match whole_of(alloc, bytes, &tokens) {
+        Ok(statement) => Ok(statement),
+        Err(ParseError::Memory) => Err(Refusal::NoMemory),
+        Err(ParseError::Fault(fault)) => Err(refusal_of(fault, &tokens, bytes.len())),
+    }
+}
