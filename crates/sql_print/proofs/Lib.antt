@@ -1,0 +1,11 @@
+pub mod Members
+pub mod Joined
+pub mod Levels
+pub mod Facts
+pub mod Spelled
+pub mod Again
+pub mod Statements
+pub mod Holes
+pub mod Fine
+pub mod Lexed
+pub mod Printed

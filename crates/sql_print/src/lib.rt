@@ -1,0 +1,14 @@
+//! The texts of statements and replies.
+#![tactic(auto)]
+
+mod bytes;
+mod reply;
+mod statement;
+
+pub use reply::reply_text;
+pub use statement::{printed_law, statement_text};
+
+#[cfg(test)]
+mod round_trips;
+#[cfg(test)]
+mod tests;
