@@ -4,8 +4,8 @@ use Rattle.std.specs.Ordering.{int_eq}
 use Rattle.std.proofs.lemmas.Int.{ints}
 use Rattle.std.proofs.lemmas.List.Elements.{filter-append}
 use Rattle.std.proofs.lemmas.Grind.{take_at_read}
-use Rattle.iv_types.specs.declared.sale.Sale.{Sale}
-use Rattle.iv_types.specs.declared.sale.ShopTotal.{ShopTotal}
+use Rattle.iv_meaning.specs.declared.sale.Sale.{Sale}
+use Rattle.iv_meaning.specs.declared.sale.ShopTotal.{ShopTotal}
 use Rattle.iv_meaning.specs.Table.{Table}
 use Rattle.iv_meaning.specs.View.{sales_of, count_of, total_of, sum_of_amounts}
 use Rattle.iv_meaning.specs.Groups.{with_sale}

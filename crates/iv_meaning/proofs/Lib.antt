@@ -1,6 +1,6 @@
 pub mod LineLemmas
 pub mod NumberLemmas
-pub mod RequestLemmas
+pub mod SessionLemmas
 pub mod TableLemmas
 pub mod ViewLemmas
 pub mod GroupLemmas

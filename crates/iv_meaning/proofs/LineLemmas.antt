@@ -2,61 +2,60 @@
 use Rattle.std.proofs.Common.{◌≡◌, ◌≢◌, ℕ, Bool, true, false, List, [], ◌∷◌, ◌++◌, drop, refl, ap, sym, ◌∙◌, inl, inr}
 use Rattle.std.specs.Prelude.{◌==◌, cond}
 use Rattle.std.specs.List.{All}
-use Rattle.std.proofs.lemmas.Bool.{eqb-true, eqb-false}
-use Rattle.std.proofs.lemmas.List.Elements.{All-nil, All-cons, All-head, All-tail}
-use Rattle.iv_meaning.specs.Lines.{lines_of, onto_first, LacksEnd, AreLines}
+use Rattle.std.proofs.lemmas.Bool.{eqb-true, eqb-false, eq-eqb, and_parts, and_from, false≢true}
+use Rattle.std.proofs.lemmas.List.Elements.{All-nil, All-cons}
+use Rattle.iv_meaning.specs.Lines.{begins_with_lf, is_return, lines_of, onto_first, GoesOn, AreLines}
 
-abbrev HasNoEnd : List ℕ → Type 0
-HasNoEnd line = All (λ b. b ≢ 10) line
+abbrev HasNoLf : List ℕ → Type 0
+HasNoLf line = All (λ b. b ≢ 10) line
 
--- a byte more before them
-lacks_more : (b : ℕ) (bytes : List ℕ) → LacksEnd bytes → LacksEnd (b ∷ bytes)
-lacks_more b bytes lacks = ((λ e. absurd (let none : b ∷ bytes ≡ [] = e in cc)), behind)
+-- a LF, before some lines
+lf_first : (b : ℕ) (bytes : List ℕ) (lines : List (List ℕ)) → b ≡ 10 → AreLines bytes lines → AreLines (b ∷ bytes) ([] ∷ lines)
+lf_first b bytes lines e are = (All-nil (λ x. x ≢ 10), inr (bytes, inr (ap (λ (x : ℕ). x ∷ bytes) e, none), are))
   where
-    behind : (front : List ℕ) → b ∷ bytes ≢ front ++ 10 ∷ []
-    behind [] e = lacks.0 (ap (λ (xs : List ℕ). drop 1 xs) e)
-    behind (c ∷ front) e = lacks.1 front (ap (λ (xs : List ℕ). drop 1 xs) e)
+    none : (front : List ℕ) → ◌≢◌ {A = List ℕ} [] (front ++ 13 ∷ [])
+    none [] z = cc
+    none (x ∷ front) z = cc
 
-lacks_alone : (b : ℕ) → b ≢ 10 → LacksEnd (b ∷ [])
-lacks_alone b ne = ((λ e. absurd (let none : b ∷ [] ≡ [] = e in cc)), behind)
+-- a CR and a LF, before some lines
+return_first : (b c : ℕ) (bytes : List ℕ) (lines : List (List ℕ)) → b ≡ 13 → c ≡ 10 → AreLines bytes lines → AreLines (b ∷ c ∷ bytes) ([] ∷ lines)
+return_first b c bytes lines e f are = (All-nil (λ x. x ≢ 10), inr (bytes, inl (ap (λ (x : ℕ). x ∷ c ∷ bytes) e ∙ ap (λ (x : ℕ). 13 ∷ x ∷ bytes) f), are))
+
+-- no CR before a LF ends a line that it is put before
+no_return : (b : ℕ) (bytes line rest : List ℕ) → is_return b bytes ≡ false → bytes ≡ line ++ 10 ∷ rest → ((front : List ℕ) → line ≢ front ++ 13 ∷ []) → (front : List ℕ) → b ∷ line ≢ front ++ 13 ∷ []
+no_return b bytes [] rest other e none [] z =
+    let cr : b ≡ 13 = cc in
+    false≢true (sym other ∙ and_from (b == 13) (begins_with_lf bytes) (eq-eqb b 13 cr) (ap begins_with_lf e))
+no_return b bytes (x ∷ line) rest other e none [] z = cc
+no_return b bytes line rest other e none (x ∷ front) z = none front (ap (λ (xs : List ℕ). drop 1 xs) z)
+
+-- any other byte, before the first of some lines
+byte_first : (b : ℕ) (bytes : List ℕ) (lines : List (List ℕ)) → b ≢ 10 → is_return b bytes ≡ false → AreLines bytes lines → AreLines (b ∷ bytes) (onto_first b lines)
+byte_first b bytes [] ne other are =
+    (All-cons (λ x. x ≢ 10) b [] ne (All-nil (λ x. x ≢ 10)), inl (record { whole = ap (λ (xs : List ℕ). b ∷ xs) are; some = λ e. absurd (let none : b ∷ [] ≡ [] = e in cc); last = refl }))
+byte_first b bytes (line ∷ lines) ne other are = (
+  All-cons (λ x. x ≢ 10) b line ne are.0,
+  elim are.1 [
+    | inl h ↦ inl (record { whole = ap (λ (xs : List ℕ). b ∷ xs) h.whole; some = λ e. absurd (let none : b ∷ line ≡ [] = e in cc); last = h.last })
+    | inr h ↦ inr (h.0, longer h.0 h.1, h.2)
+  ],
+)
   where
-    behind : (front : List ℕ) → b ∷ [] ≢ front ++ 10 ∷ []
-    behind [] e = ne (let same : b ∷ [] ≡ 10 ∷ [] = e in cc)
-    behind (c ∷ []) e = absurd (let more : b ∷ [] ≡ c ∷ 10 ∷ [] = e in cc)
-    behind (c ∷ d ∷ front) e = absurd (let more : b ∷ [] ≡ c ∷ d ∷ (front ++ 10 ∷ []) = e in cc)
+    longer : (rest : List ℕ) → GoesOn bytes line rest → GoesOn (b ∷ bytes) (b ∷ line) rest
+    longer rest (inl e) = inl (ap (λ (xs : List ℕ). b ∷ xs) e)
+    longer rest (inr h) = inr (ap (λ (xs : List ℕ). b ∷ xs) h.0, no_return b bytes line rest other h.0 h.1)
 
--- a line end before some lines
-end_first : (b : ℕ) (bytes : List ℕ) (lines : List (List ℕ)) → b ≡ 10 → AreLines bytes lines → AreLines (b ∷ bytes) ([] ∷ lines)
-end_first b bytes lines e are = record {
-  no_end_within = All-cons HasNoEnd [] lines (All-nil (λ x. x ≢ 10)) are.no_end_within;
-  whole = elim are.whole [
-    | inl same ↦ inl (ap (λ (xs : List ℕ). 10 ∷ xs) same ∙ ap (λ (x : ℕ). x ∷ bytes) (sym e))
-    | inr more ↦ inr (lacks_more b bytes more.0, ap (λ (xs : List ℕ). 10 ∷ xs) more.1 ∙ ap (λ (x : ℕ). x ∷ (bytes ++ 10 ∷ [])) (sym e))
-  ];
-}
+by_return : (b c : ℕ) (bytes : List ℕ) (t : Bool) → (c == 10) ≡ t → b ≡ 13 → AreLines bytes (lines_of bytes) → (t ≡ true) → AreLines (b ∷ c ∷ bytes) (cond t ([] ∷ lines_of bytes) (cond (is_return c bytes) (lines_of bytes) (onto_first c (lines_of bytes))))
+by_return b c bytes true e cr are here = return_first b c bytes (lines_of bytes) cr (eqb-true c 10 e) are
+by_return b c bytes false e cr are here = absurd (false≢true here)
 
-one_byte : (b : ℕ) → b ≢ 10 → HasNoEnd (b ∷ [])
-one_byte b ne = All-cons (λ x. x ≢ 10) b [] ne (All-nil (λ x. x ≢ 10))
-
-no_lines : (b : ℕ) (bytes : List ℕ) → b ≢ 10 → AreLines bytes [] → AreLines (b ∷ bytes) ((b ∷ []) ∷ [])
-no_lines b [] ne are = record { no_end_within = All-cons HasNoEnd (b ∷ []) [] (one_byte b ne) (All-nil HasNoEnd); whole = inr (lacks_alone b ne, refl) }
-no_lines b (c ∷ bytes) ne are = elim are.whole [ inl same ↦ absurd (let e : [] ≡ c ∷ bytes = same in cc) | inr more ↦ absurd (let e : [] ≡ c ∷ (bytes ++ 10 ∷ []) = more.1 in cc) ]
-
--- a byte before the first line
-byte_first : (b : ℕ) (bytes : List ℕ) (lines : List (List ℕ)) → b ≢ 10 → AreLines bytes lines → AreLines (b ∷ bytes) (onto_first b lines)
-byte_first b bytes [] ne are = no_lines b bytes ne are
-byte_first b bytes (line ∷ lines) ne are = record {
-  no_end_within = All-cons HasNoEnd (b ∷ line) lines (All-cons (λ x. x ≢ 10) b line ne (All-head HasNoEnd line lines are.no_end_within)) (All-tail HasNoEnd line lines are.no_end_within);
-  whole = elim are.whole [
-    | inl same ↦ inl (ap (λ (xs : List ℕ). b ∷ xs) same)
-    | inr more ↦ inr (lacks_more b bytes more.0, ap (λ (xs : List ℕ). b ∷ xs) more.1)
-  ];
-}
-
-by_byte : (b : ℕ) (bytes : List ℕ) (t : Bool) → (b == 10) ≡ t → AreLines bytes (lines_of bytes) → AreLines (b ∷ bytes) (cond t ([] ∷ lines_of bytes) (onto_first b (lines_of bytes)))
-by_byte b bytes true e are = end_first b bytes (lines_of bytes) (eqb-true b 10 e) are
-by_byte b bytes false e are = byte_first b bytes (lines_of bytes) (eqb-false b 10 e) are
+by_byte : (b : ℕ) (bytes : List ℕ) (s t : Bool) → (b == 10) ≡ s → is_return b bytes ≡ t → AreLines bytes (lines_of bytes) → (t ≡ true → AreLines (b ∷ bytes) (lines_of bytes)) → AreLines (b ∷ bytes) (cond s ([] ∷ lines_of bytes) (cond t (lines_of bytes) (onto_first b (lines_of bytes))))
+by_byte b bytes true t e f are return = lf_first b bytes (lines_of bytes) (eqb-true b 10 e) are
+by_byte b bytes false true e f are return = return refl
+by_byte b bytes false false e f are return = byte_first b bytes (lines_of bytes) (eqb-false b 10 e) f are
 
 pub are_lines : (input : List ℕ) → AreLines input (lines_of input)
-are_lines [] = record { no_end_within = All-nil HasNoEnd; whole = inl refl }
-are_lines (b ∷ bytes) = by_byte b bytes (b == 10) refl (are_lines bytes)
+are_lines [] = refl
+are_lines (b ∷ []) = by_byte b [] (b == 10) (is_return b []) refl refl refl (λ here. absurd (false≢true ((and_parts (b == 13) false here).1)))
+are_lines (b ∷ c ∷ bytes) = by_byte b (c ∷ bytes) (b == 10) (is_return b (c ∷ bytes)) refl refl (are_lines (c ∷ bytes))
+    (λ here. let both = and_parts (b == 13) (c == 10) here in by_return b c bytes (c == 10) refl (eqb-true b 13 both.0) (are_lines bytes) both.1)

@@ -4,7 +4,8 @@ use Rattle.std.specs.Prelude.{cond, decimal}
 use Rattle.std.specs.Char.{is_ascii_digit}
 use Rattle.std.specs.Str.{all_ascii_digits}
 use Rattle.std.specs.Fmt.{signed_decimal}
-use Rattle.iv_meaning.specs.Number.{digits_at_front, BeginsWithNoDigit, value_onto, value_of}
+use Rattle.iv_types.specs.Tokens.{value_onto, value_of}
+use Rattle.iv_meaning.specs.Number.{digits_at_front, BeginsWithNoDigit}
 use mir.Val.{SFits}
 use mir.Syntax.{w64}
 use Rattle.std.proofs.lemmas.List.{take_at, get_or-take, get_or_append_left, take-append-drop}

@@ -3,7 +3,7 @@ use Rattle.std.proofs.Common.{◌≡◌, ◌+◌, ℕ, ℤ, pos, ◌+ℤ◌, Boo
 use Rattle.std.specs.Ordering.{int_eq}
 use Rattle.std.proofs.lemmas.Int.{ints}
 use Rattle.std.proofs.lemmas.List.Elements.{filter-append}
-use Rattle.iv_types.specs.declared.sale.Sale.{Sale}
+use Rattle.iv_meaning.specs.declared.sale.Sale.{Sale}
 use Rattle.iv_meaning.specs.Table.{Table, row_at, with_row}
 use Rattle.iv_meaning.specs.View.{sales_of, count_of, total_of, sum_of_amounts}
 use Rattle.std.specs.Prelude.{None}

@@ -1,6 +1,6 @@
 -- What is known between two transactions: nothing of any view.
 use Rattle.std.specs.Prelude.{ℕ, []}
-use Rattle.iv_types.specs.declared.sale.Sale.{Sale}
+use Rattle.iv_meaning.specs.declared.sale.Sale.{Sale}
 use Rattle.iv_meaning.specs.Table.{Table}
 
 pub record Database : Type 0 where

@@ -1,8 +1,8 @@
 -- A group of the view while its rows are counted, one after another.
 use Rattle.std.specs.Prelude.{◌≤◌, ◌+◌, ◌*◌, ◌^◌, ℕ, ◌+ℤ◌, unsigned_abs, if◌then◌else◌}
 use Rattle.std.specs.Ordering.{int_eq}
-use Rattle.iv_types.specs.declared.sale.Sale.{Sale}
-use Rattle.iv_types.specs.declared.sale.ShopTotal.{ShopTotal}
+use Rattle.iv_meaning.specs.declared.sale.Sale.{Sale}
+use Rattle.iv_meaning.specs.declared.sale.ShopTotal.{ShopTotal}
 
 -- the group with one row more, where the row is of its shop
 abbrev pub with_sale : ShopTotal → Sale → ShopTotal

@@ -3,6 +3,7 @@ pub mod Table
 pub mod Database
 pub mod View
 pub mod Groups
+pub mod Form
 pub mod Statement
 pub mod Reply
 pub mod Number

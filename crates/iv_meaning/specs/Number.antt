@@ -1,5 +1,5 @@
 -- A number at the front of a text.
-use Rattle.std.specs.Prelude.{◌≡◌, ℕ, ◌+◌, ◌-◌, ◌*◌, List, [], ◌∷◌}
+use Rattle.std.specs.Prelude.{◌≡◌, ℕ, List}
 use Rattle.std.specs.List.{prefix_len}
 use Rattle.std.specs.Char.{is_ascii_digit}
 
@@ -9,11 +9,3 @@ digits_at_front text = prefix_len is_ascii_digit text
 
 abbrev pub BeginsWithNoDigit : List ℕ → Type 0
 BeginsWithNoDigit text = digits_at_front text ≡ 0
-
--- the number that digits write, behind those that write n
-abbrev pub value_onto : ℕ → List ℕ → ℕ
-value_onto n [] = n
-value_onto n (digit ∷ digits) = value_onto (n * 10 + (digit - 48)) digits
-
-abbrev pub value_of : List ℕ → ℕ
-value_of digits = value_onto 0 digits

@@ -1,42 +1,77 @@
--- How a session's statement is written, and what a line asks for.
-use Rattle.std.specs.Prelude.{◌≡◌, ◌≢◌, ℕ, ◌≤◌, List, ◌++◌, length, codes, decimal, Option, Some, None}
-use Rattle.std.specs.Fmt.{signed_decimal}
-use Rattle.std.specs.Int.{w64}
-use Rattle.std.specs.Int.RustNames.{FitsSigned}
-use Rattle.iv_types.specs.declared.sale.Sale.{Sale}
-use Rattle.iv_types.specs.declared.statement.Statement.{Statement}
-use Rattle.iv_types.specs.declared.statement.Statement.TheVariants.{Insert, Select}
-use Rattle.iv_types.specs.declared.statement.Request.{Request}
+-- What a line asks for.
+use Rattle.std.specs.Prelude.{◌≡◌, ◌≢◌, ◌⊎◌, ◌≤◌, ◌<◌, ℕ, List, [], ◌++◌, length, codes, decimal, IsUtf8}
+use Rattle.std.specs.List.{All}
+use Rattle.iv_types.specs.declared.refusal.Refusal.{Refusal}
+use Rattle.iv_types.specs.Syntax.{StatementTree}
+use Rattle.iv_types.specs.Grammar.{Spells}
+use Rattle.iv_types.specs.Refusing.{Refuses}
+use Rattle.iv_meaning.specs.declared.form.Form.{Form}
+use Rattle.iv_meaning.specs.Form.{form_tree, InRange}
 use Rattle.iv_meaning.specs.Lines.{longest_line}
 
--- A number is written without leading zeros, with a minus where it is negative, and without any other sign.
-abbrev pub tuple_text : Sale → List ℕ
-tuple_text sale = codes "(" ++ (signed_decimal sale.id ++ (codes ", " ++ (signed_decimal sale.shop ++ (codes ", " ++ (signed_decimal sale.amount ++ codes ")")))))
+-- an empty line, or one that begins with `#`
+abbrev pub IsRemark : List ℕ → Type 0
+IsRemark line = (line ≡ []) ⊎ ((rest : List ℕ) × (line ≡ codes "#" ++ rest))
 
-abbrev pub statement_text : Statement → List ℕ
-statement_text (Insert sale) = codes "INSERT INTO sale VALUES " ++ tuple_text sale
-statement_text (Select shop) = codes "SELECT * FROM by_shop WHERE shop = " ++ signed_decimal shop
+-- A session's line: the session's number from 1 to 64, a colon, any number of spaces, and a text in UTF-8, which begins
+-- with no space. What stands before the text is ASCII, so this is to say that the line is UTF-8.
+pub record IsOfSession (session : ℕ) (text line : List ℕ) : Type 0 where
+  pub first : 1 ≤ session
+  pub last : session ≤ 64
+  pub spaces : List ℕ
+  pub only_spaces : All (λ b. b ≡ 32) spaces
+  pub written : line ≡ decimal session ++ (codes ":" ++ (spaces ++ text))
+  pub unspaced : (rest : List ℕ) → text ≢ codes " " ++ rest
+  pub readable : IsUtf8 text
 
-abbrev pub request_text : Request → List ℕ
-request_text request = decimal request.session ++ (codes ": " ++ statement_text request.statement)
+-- no session's line
+abbrev pub HasNoForm : List ℕ → Type 0
+HasNoForm line = (session : ℕ) (text : List ℕ) → ¬ (IsOfSession session text line)
 
--- numbers of 64 bits
-abbrev pub InRange : Statement → Type 0
-InRange (Insert sale) = FitsSigned w64 sale.id × FitsSigned w64 sale.shop × FitsSigned w64 sale.amount
-InRange (Select shop) = FitsSigned w64 shop
+-- a session's line with the text of a statement that is not built
+pub record IsFormLeft (line : List ℕ) : Type 0 where
+  pub session : ℕ
+  pub text : List ℕ
+  pub tree : StatementTree
+  pub of_session : IsOfSession session text line
+  pub spelled : Spells text tree
+  pub left : (form : Form) → InRange form → tree ≢ form_tree form
 
--- what a session may ask for
-pub record IsRequest (request : Request) : Type 0 where
-  pub first : 1 ≤ request.session
-  pub last : request.session ≤ 64
-  pub statement : InRange request.statement
+-- a session's line with a text that the grammar refuses
+pub record IsRefusedText (session : ℕ) (refusal : Refusal) (line : List ℕ) : Type 0 where
+  pub text : List ℕ
+  pub of_session : IsOfSession session text line
+  pub refused : Refuses text refusal
 
--- A line asks for a request where it is that request's text. A line that is no request's text, or is too long to be
--- read, asks for nothing.
-abbrev pub Asks : List ℕ → Option Request → Type 0
-Asks line (Some request) = (length line ≤ longest_line) × IsRequest request × (line ≡ request_text request)
-Asks line None = length line ≤ longest_line → (request : Request) → IsRequest request → line ≢ request_text request
+-- a session's line with the text of a statement that is built
+pub record IsStatement (session : ℕ) (form : Form) (line : List ℕ) : Type 0 where
+  pub text : List ℕ
+  pub of_session : IsOfSession session text line
+  pub spelled : Spells text (form_tree form)
+  pub range : InRange form
 
--- no line asks for two things
-abbrev pub RequestLaw : Type 0
-RequestLaw = (line : List ℕ) (one other : Option Request) → Asks line one → Asks line other → one ≡ other
+-- what a line can ask for
+pub data Asked : Type 0 where
+  nothing : Asked
+  -- it is too long to be read
+  too_long : Asked
+  -- it has no form of a line, or its statement is not built
+  bad : Asked
+  -- the grammar refuses its text
+  refused : (session : ℕ) (refusal : Refusal) → Asked
+  statement : (session : ℕ) (form : Form) → Asked
+
+abbrev pub AsksRead : List ℕ → Asked → Type 0
+AsksRead line nothing = IsRemark line
+AsksRead line too_long = ⊥
+AsksRead line bad = ¬ (IsRemark line) × (HasNoForm line ⊎ IsFormLeft line)
+AsksRead line (refused session refusal) = IsRefusedText session refusal line
+AsksRead line (statement session form) = IsStatement session form line
+
+-- a line of more bytes than are read is too long, whatever it is; any other asks for what stands in it
+abbrev pub Asks : List ℕ → Asked → Type 0
+Asks line asked = ((longest_line < length line) × (asked ≡ too_long)) ⊎ ((length line ≤ longest_line) × AsksRead line asked)
+
+-- no line is of two sessions or has two texts
+abbrev pub SessionLaw : Type 0
+SessionLaw = (line text other : List ℕ) (session another : ℕ) → IsOfSession session text line → IsOfSession another other line → (session ≡ another) × (text ≡ other)

@@ -1,36 +1,50 @@
 -- What a script of autocommit lines is answered: each line by the plain meaning of its statement alone.
-use Rattle.std.specs.Prelude.{◌≡◌, ◌⊎◌, ℕ, List, [], ◌∷◌, Option, Some, None}
-use Rattle.iv_types.specs.declared.statement.Request.{Request}
-use Rattle.iv_types.specs.declared.reply.Refusal.TheVariants.{NoMemory, BadLine}
+use Rattle.std.specs.Prelude.{◌≡◌, ◌⊎◌, ◌≤◌, ℕ, List, [], ◌∷◌, length}
+use Rattle.iv_types.specs.declared.refusal.Refusal.{Refusal}
+use Rattle.iv_types.specs.declared.refusal.Refusal.TheVariants.{NoMemory, BadLine, LineTooLong}
 use Rattle.iv_types.specs.declared.reply.Reply.TheVariants.{Error}
+use Rattle.iv_meaning.specs.declared.form.Form.{Form}
+use Rattle.iv_meaning.specs.Lines.{longest_line}
 use Rattle.iv_meaning.specs.Database.{Database, opened}
 use Rattle.iv_meaning.specs.Reply.{reply_lines}
-use Rattle.iv_meaning.specs.Request.{Asks}
+use Rattle.iv_meaning.specs.Request.{IsOfSession, Asked, nothing, too_long, bad, refused, statement, Asks}
 use Rattle.iv_meaning.specs.Statement.{alone}
 use Rattle.iv_meaning.specs.Transcript.{IsOutput, AnswersFirst, IsOutputPart}
 
+-- the line prints nothing and changes nothing
+pub record IsSilent (before : Database) (piece : List ℕ) (after : Database) : Type 0 where
+  pub told : piece ≡ []
+  pub left : after ≡ before
+
+-- the line is refused and changes nothing
+pub record IsRefused (session : ℕ) (refusal : Refusal) (before : Database) (piece : List ℕ) (after : Database) : Type 0 where
+  pub told : piece ≡ reply_lines session (Error refusal ∷ [])
+  pub left : after ≡ before
+
 -- the statement ran alone, as a transaction of its own
-pub record RunsAlone (request : Request) (before : Database) (piece : List ℕ) (after : Database) : Type 0 where
-  pub told : piece ≡ reply_lines request.session (alone request.statement before).replies
-  pub left : after ≡ (alone request.statement before).leaves
+pub record RunsAlone (session : ℕ) (form : Form) (before : Database) (piece : List ℕ) (after : Database) : Type 0 where
+  pub told : piece ≡ reply_lines session (alone form before).replies
+  pub left : after ≡ (alone form before).leaves
 
--- for want of memory the statement is passed over
-pub record PassedOver (request : Request) (before : Database) (piece : List ℕ) (after : Database) : Type 0 where
-  pub told : piece ≡ reply_lines request.session (Error NoMemory ∷ [])
-  pub left : after ≡ before
+-- A refusal of the line itself is told with the number 0.
+abbrev pub AnswersTo : Asked → Database → List ℕ → Database → Type 0
+AnswersTo nothing = IsSilent
+AnswersTo too_long = IsRefused 0 LineTooLong
+AnswersTo bad = IsRefused 0 BadLine
+AnswersTo (refused session refusal) = IsRefused session refusal
+AnswersTo (statement session form) = RunsAlone session form
 
--- the line has no form of a line
-pub record IsBad (before : Database) (piece : List ℕ) (after : Database) : Type 0 where
-  pub told : piece ≡ reply_lines 0 (Error BadLine ∷ [])
-  pub left : after ≡ before
+-- for want of memory a session's line is passed over
+pub record PassedOver (line : List ℕ) (before : Database) (piece : List ℕ) (after : Database) : Type 0 where
+  pub read : length line ≤ longest_line
+  pub session : ℕ
+  pub text : List ℕ
+  pub of_session : IsOfSession session text line
+  pub refused : IsRefused session NoMemory before piece after
 
-abbrev pub AnswersTo : Option Request → Database → List ℕ → Database → Type 0
-AnswersTo None before piece after = IsBad before piece after
-AnswersTo (Some request) before piece after = RunsAlone request before piece after ⊎ PassedOver request before piece after
-
--- a line is answered as what it asks for
+-- a line is answered as what it asks for, unless it is passed over
 abbrev pub Answers : List ℕ → Database → List ℕ → Database → Type 0
-Answers line before piece after = (asked : Option Request) × Asks line asked × AnswersTo asked before piece after
+Answers line before piece after = ((asked : Asked) × Asks line asked × AnswersTo asked before piece after) ⊎ PassedOver line before piece after
 
 -- the output of a script on the opened database: whole, of its first lines, and of these with the end cut off
 abbrev pub IsScriptOutput : List ℕ → List ℕ → Type 0

@@ -4,5 +4,10 @@
 //! functions of `plain` are slow programs that the definitions describe, for tests to compare faster ones with.
 #![tactic(auto)]
 
+mod form;
 pub mod laws;
 pub mod plain;
+mod sale;
+
+pub use form::Form;
+pub use sale::{Sale, ShopTotal};

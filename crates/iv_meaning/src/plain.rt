@@ -4,7 +4,7 @@ ghost use Rattle.std.specs.Ordering.{int_eq};
 ghost use Rattle.iv_meaning.specs.View.{view_row};
 ghost use Rattle.iv_meaning.specs.Groups.{with_sale, IsSmall};
 
-use iv_types::{Sale, ShopTotal};
+use crate::{Sale, ShopTotal};
 
 // A group with one row more, where the row is of the group's shop.
 fn with_sale(group: ShopTotal, sale: Sale, rows: usize) -> ShopTotal

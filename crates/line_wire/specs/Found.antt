@@ -2,7 +2,7 @@
 use Rattle.std.specs.Prelude.{◌≡◌, ◌≢◌, ◌+◌, ◌<◌, ◌≤◌, ℕ, List, [], ◌++◌, length, Option, Some, Result, Ok, Err}
 use Rattle.iv_meaning.specs.Lines.{first_line, after_line, longest_line}
 use Rattle.iv_types.specs.Faults.{Rose}
-use Rattle.line_wire.specs.Reading.{Reading, most_bytes}
+use Rattle.line_wire.specs.Reading.{Reading, most_bytes, before_lf}
 use Rattle.line_wire.specs.declared.line.Line.{Line}
 use Rattle.line_wire.specs.declared.line.Line.TheVariants.{Text, TooLong, End}
 use Rattle.line_wire.specs.declared.line.LineFault.{LineFault}
@@ -25,12 +25,12 @@ pub record FoundLine (line : Line) (ahead : List ℕ) (before size : ℕ) (now :
   pub counted : Counted before size now left
   pub reads : Reads line ahead now.text (now.held ++ counted.rest)
 
--- the same, where no line ends in all that was taken
+-- the same, where no LF is in all that was taken
 pub record NoLineTaken (ahead : List ℕ) (before size : ℕ) (now : Reading) (left : Option (List ℕ)) : Type 0 where
   pub counted : Counted before size now left
   pub front : List ℕ
   pub whole : ahead ≡ front ++ counted.rest
-  pub no_end : first_line front ≡ front
+  pub no_lf : before_lf front ≡ front
 
 abbrev pub Found : Result Line LineFault → List ℕ → ℕ → ℕ → Reading → Option (List ℕ) → Type 0
 Found (Ok line) ahead before size now left = FoundLine line ahead before size now left

@@ -8,5 +8,5 @@ pub record IsKept (b : Inside) : Type 0 where
   pub within : b.end ≤ length b.chunk.items
   pub chunk : length b.chunk.items ≡ 65536
   pub taken : b.taken ≤ 2 ^ 40
-  pub text : length b.text.items ≤ 65536
-  pub room : 65536 ≤ vec_capacity b.text
+  pub text : length b.text.items ≤ 65537
+  pub room : 65537 ≤ vec_capacity b.text

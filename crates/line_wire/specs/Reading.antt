@@ -1,5 +1,5 @@
 -- Where a reader of lines stands.
-use Rattle.std.specs.Prelude.{ℕ, ◌+◌, ◌-◌, ◌*◌, ◌^◌, List, length}
+use Rattle.std.specs.Prelude.{◌≡◌, ◌≢◌, ◌⊎◌, ℕ, ◌+◌, ◌-◌, ◌*◌, ◌^◌, ◌==◌, List, [], ◌∷◌, ◌++◌, length, if◌then◌else◌}
 
 pub record Reading : Type 0 where
   -- the bytes that were taken from the source and are not read yet
@@ -12,6 +12,19 @@ pub record Reading : Type 0 where
 -- the most bytes that are taken from a source
 abbrev pub most_bytes : ℕ
 most_bytes = 2 ^ 40
+
+-- the most bytes of a line that are kept: those of the longest line that is read, and a CR
+abbrev pub most_kept : ℕ
+most_kept = 65537
+
+-- the bytes before the first LF, with a CR that stands there
+abbrev pub before_lf : List ℕ → List ℕ
+before_lf [] = []
+before_lf (b ∷ bytes) = if b == 10 then [] else b ∷ before_lf bytes
+
+-- a CR at the end is dropped, if there is one
+abbrev pub DropsReturn : List ℕ → List ℕ → Type 0
+DropsReturn old new = (old ≡ new ++ 13 ∷ []) ⊎ ((new ≡ old) × ((front : List ℕ) → old ≢ front ++ 13 ∷ []))
 
 -- a bound on the lines that are left to a reader
 abbrev pub lines_left : Reading → ℕ

@@ -1,9 +1,9 @@
 //! The lines of a source, read in bounded memory.
-ghost use Rattle.std.specs.Prelude.{◌≡◌, ◌<◌, ◌≤◌, ◌^◌, ◌+◌, ◌∷◌, ◌++◌, ◌⊎◌, ℕ, List, [], length, true, false, IfSome, IfNone, IfOk, OnOk, OnErr, MatchBool, Option, if◌then◌else◌, ◌==◌, ◌≢◌, ◌↔◌, IsTrue, vec_capacity};
+ghost use Rattle.std.specs.Prelude.{◌≡◌, ◌<◌, ◌≤◌, ◌^◌, ◌+◌, ◌-◌, ◌∷◌, ◌++◌, ◌⊎◌, ℕ, List, [], length, take, nat_lt, true, false, IfSome, IfNone, IfOk, OnOk, OnErr, MatchBool, Option, if◌then◌else◌, ◌==◌, ◌≢◌, ◌↔◌, IsTrue, vec_capacity};
 ghost use Rattle.iv_types.specs.Faults.{CountsFault};
-ghost use Rattle.iv_meaning.specs.Lines.{first_line, after_line, longest_line};
+ghost use Rattle.iv_meaning.specs.Lines.{after_line, longest_line};
 ghost use Rattle.line_wire.specs.Wire.{Gives};
-ghost use Rattle.line_wire.specs.Reading.{most_bytes, lines_left};
+ghost use Rattle.line_wire.specs.Reading.{most_bytes, most_kept, before_lf, DropsReturn, lines_left};
 ghost use Rattle.line_wire.specs.Found.{Found, Filled, Took, Nearer, CountsReadFault};
 
 use crate::Source;
@@ -16,6 +16,9 @@ use thiserror::Error;
 /// The most bytes of a line that is read.
 pub const LONGEST_LINE: usize = 65536;
 
+// The most bytes of a line that are kept: a CR may stand behind those of the longest line.
+const MOST_KEPT: usize = 65537;
+
 /// The most bytes that are taken from a source.
 pub const MOST_BYTES: u64 = 1 << 40;
 
@@ -25,9 +28,10 @@ const CHUNK: usize = 65536;
 /// What was read.
 #[derive(Clone, Copy, Debug, PartialEq, Eq)]
 pub enum Line {
-    /// A line, which `LineBuffer::text` gives without its end.
+    /// A line, which `LineBuffer::text` gives without its end: a LF, and a CR directly before it. The last line may lack
+    /// its LF, and a CR at its end is its own then.
     Text,
-    /// A line of more than `LONGEST_LINE` bytes, which was skipped up to its end.
+    /// A line of more than `LONGEST_LINE` bytes without its end, which was skipped up to its end.
     TooLong,
     /// The end of the input.
     End,
@@ -67,10 +71,10 @@ impl Model for LineBuffer {
     ghost invariant = { IsKept };
 }
 
-// The place of the first line end.
+// The place of the first LF.
 fn line_end(held: &[u8]) -> Option<usize>
-    ensures some { IfSome result (λ place. (held.now ≡ first_line held.now ++ 10 ∷ after_line held.now) × (place ≡ length (first_line held.now))) }
-    ensures none { IfNone result (first_line held.now ≡ held.now) }
+    ensures some { IfSome result (λ place. (held.now ≡ before_lf held.now ++ 10 ∷ after_line held.now) × (place ≡ length (before_lf held.now))) }
+    ensures none { IfNone result (before_lf held.now ≡ held.now) }
 {
     memchr(b'\n', held)
 }
@@ -87,7 +91,7 @@ impl LineBuffer {
             at: 0,
             end: 0,
             taken: 0,
-            text: Vec::with_capacity(alloc, LONGEST_LINE)?,
+            text: Vec::with_capacity(alloc, MOST_KEPT)?,
         })
     }
 
@@ -98,9 +102,9 @@ impl LineBuffer {
         &self.text
     }
 
-    /// Whether the end of the next line is held, so that it is read without asking the source.
+    /// Whether the LF of the next line is held, so that it is read without asking the source.
     pub fn holds_line(&self) -> bool
-        ensures { IsTrue result ↔ (first_line self.now.held ≢ self.now.held) }
+        ensures { IsTrue result ↔ (before_lf self.now.held ≢ self.now.held) }
     {
         line_end(&self.chunk[self.at..self.end]).is_some()
     }
@@ -123,13 +127,13 @@ impl LineBuffer {
         self.text.clear();
     }
 
-    // Moves what is held of a line to the text, and answers whether the line's end was there.
+    // Moves what is held of a line to the text, and answers whether its LF was there.
     fn gather(&mut self, long: &mut bool) -> bool
-        ensures end { MatchBool result (self.old.held ≡ first_line self.old.held ++ 10 ∷ self.new.held) ((first_line self.old.held ≡ self.old.held) × (self.new.held ≡ [])) }
-        ensures text { long.new ≡ false → (long.old ≡ false) × (self.new.text ≡ self.old.text ++ first_line self.old.held) }
-        ensures long { long.new ≡ true → (long.old ≡ true) ⊎ (longest_line < length self.old.text + length (first_line self.old.held)) }
-        ensures short { length self.new.text ≤ longest_line }
-        ensures grows { length self.new.text ≤ length self.old.text + length (first_line self.old.held) }
+        ensures end { MatchBool result (self.old.held ≡ before_lf self.old.held ++ 10 ∷ self.new.held) ((before_lf self.old.held ≡ self.old.held) × (self.new.held ≡ [])) }
+        ensures text { long.new ≡ false → (long.old ≡ false) × (self.new.text ≡ self.old.text ++ before_lf self.old.held) }
+        ensures long { long.new ≡ true → (long.old ≡ true) ⊎ (most_kept < length self.old.text + length (before_lf self.old.held)) }
+        ensures short { length self.new.text ≤ most_kept }
+        ensures grows { length self.new.text ≤ length self.old.text + length (before_lf self.old.held) }
         ensures taken { self.new.taken ≡ self.old.taken }
     {
         let held = &self.chunk[self.at..self.end];
@@ -145,6 +149,17 @@ impl LineBuffer {
                 false
             }
         }
+    }
+
+    // Ends a line of which the LF was read.
+    fn finish(&mut self, long: bool) -> Line
+        ensures line { result ≡ (if long then Line.TooLong else (if nat_lt longest_line (length self.new.text) then Line.TooLong else Line.Text)) }
+        ensures text { DropsReturn self.old.text self.new.text }
+        ensures held { self.new.held ≡ self.old.held }
+        ensures taken { self.new.taken ≡ self.old.taken }
+    {
+        drop_return(&mut self.text);
+        whole(&self.text, long)
     }
 
     // Takes bytes from the source where none is held, and answers how many: none at the end of the input.
@@ -169,17 +184,17 @@ impl LineBuffer {
     }
 }
 
-// Adds a piece of a line to its text unless the line is too long then. Answers whether it is too long.
+// Adds a piece of a line to its text unless more than that is kept then. Answers whether the line is too long.
 fn append(text: &mut Vec<u8>, piece: &[u8], long: bool) -> bool
-    requires short { length text.old.items ≤ longest_line }
-    requires room { longest_line ≤ vec_capacity text.old }
+    requires short { length text.old.items ≤ most_kept }
+    requires room { most_kept ≤ vec_capacity text.old }
     ensures text { result ≡ false → (long ≡ false) × (text.new.items ≡ text.old.items ++ piece.now) }
-    ensures long { result ≡ true → (long ≡ true) ⊎ (longest_line < length text.old.items + length piece.now) }
-    ensures short { length text.new.items ≤ longest_line }
+    ensures long { result ≡ true → (long ≡ true) ⊎ (most_kept < length text.old.items + length piece.now) }
+    ensures short { length text.new.items ≤ most_kept }
     ensures grows { length text.new.items ≤ length text.old.items + length piece.now }
-    ensures room { longest_line ≤ vec_capacity text.new }
+    ensures room { most_kept ≤ vec_capacity text.new }
 {
-    if long || piece.len() > LONGEST_LINE - text.len() {
+    if long || piece.len() > MOST_KEPT - text.len() {
         return true;
     }
     text.extend_from_slice(piece).unwrap();
@@ -198,18 +213,46 @@ fn take_front<S: Source>(source: &mut S, chunk: &mut [u8], room: usize) -> Resul
     source.take(&mut chunk[..room])
 }
 
-// What a line is that was read to its end.
-fn whole(long: bool) -> Line
-    ensures { result ≡ (if long then Line.TooLong else Line.Text) }
+// Whether the last byte is a CR.
+fn ends_with_return(text: &[u8]) -> bool
+    ensures { MatchBool result (text.now ≡ take (length text.now - 1) text.now ++ 13 ∷ []) ((front : List ℕ) → text.now ≢ front ++ 13 ∷ []) }
 {
-    if long { Line::TooLong } else { Line::Text }
+    let size = text.len();
+    size > 0 && text[size - 1] == b'\r'
+}
+
+// Drops a CR at the end.
+fn drop_return(text: &mut Vec<u8>)
+    ensures text { DropsReturn text.old.items text.new.items }
+    ensures room { vec_capacity text.new ≡ vec_capacity text.old }
+{
+    if ends_with_return(text) {
+        let _ = text.pop();
+    }
+}
+
+// Whether a line of which these bytes were kept, or of which more bytes came, is too long.
+fn is_too_long(text: &[u8], long: bool) -> bool
+    ensures { result ≡ (if long then true else nat_lt longest_line (length text.now)) }
+{
+    long || text.len() > LONGEST_LINE
+}
+
+// What a line is that was read to its LF.
+fn whole(text: &[u8], long: bool) -> Line
+    ensures { result ≡ (if long then Line.TooLong else (if nat_lt longest_line (length text.now) then Line.TooLong else Line.Text)) }
+{
+    if is_too_long(text, long) {
+        return Line::TooLong;
+    }
+    Line::Text
 }
 
 // What stands at the end of the input.
 fn last(text: &[u8], long: bool) -> Line
-    ensures { result ≡ (if long then Line.TooLong else (if length text.now == 0 then Line.End else Line.Text)) }
+    ensures { result ≡ (if long then Line.TooLong else (if nat_lt longest_line (length text.now) then Line.TooLong else (if length text.now == 0 then Line.End else Line.Text))) }
 {
-    if long {
+    if is_too_long(text, long) {
         return Line::TooLong;
     }
     if text.is_empty() {
@@ -222,7 +265,7 @@ fn last(text: &[u8], long: bool) -> Line
 /// Reads the next line of a source, of which the buffer holds what was taken already.
 ///
 /// `ReadFault` comes only where the source failed, and what was begun of the line is lost then; `TooMuch` exactly
-/// where all the bytes that may be taken were taken and no line end is left among them.
+/// where all the bytes that may be taken were taken and no LF is left among them.
 pub fn read_line<S: Source>(source: &mut S, kept: &mut LineBuffer) -> Result<Line, LineFault>
     // Where the source tells what is left, this is the first line of what is ahead.
     ensures found { (bytes : List ℕ) → S.left source.old ≡ Some bytes → Found result (kept.old.held ++ bytes) kept.old.taken (length bytes) kept.new (S.left source.new) }
@@ -234,7 +277,7 @@ pub fn read_line<S: Source>(source: &mut S, kept: &mut LineBuffer) -> Result<Lin
     let mut long = false;
     loop {
         if kept.gather(&mut long) {
-            return Ok(whole(long));
+            return Ok(kept.finish(long));
         }
         if kept.taken() == MOST_BYTES {
             return Err(LineFault::TooMuch);

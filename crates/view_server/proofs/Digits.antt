@@ -3,7 +3,8 @@ use Rattle.std.proofs.Common.{◌≡◌, ◌≤◌, ◌<◌, ◌+◌, ◌*◌, �
 use Rattle.std.specs.Prelude.{nat_le, if◌then◌else◌}
 use Rattle.std.specs.Char.{is_ascii_digit}
 use Rattle.std.proofs.lemmas.Bool.Decides.{nat_tests}
-use Rattle.iv_meaning.specs.Number.{digits_at_front, value_onto}
+use Rattle.iv_types.specs.Tokens.{value_onto}
+use Rattle.iv_meaning.specs.Number.{digits_at_front}
 
 pub next_is : (xs : List ℕ) (i : ℕ) → i < length xs → drop i xs ≡ get_or xs i 0 ∷ drop (i + 1) xs
 next_is xs i h = rw add-one (drop-cons xs i 0 h)

@@ -6,8 +6,8 @@ use Rattle.std.specs.BTreeMap.{BTreeMap, get}
 use Rattle.std.proofs.lemmas.Int.{ints}
 use Rattle.std.proofs.lemmas.Bool.{eqb-true, ne_eqb}
 use Rattle.std.proofs.lemmas.Bool.Decides.{Decides-int_eq}
-use Rattle.iv_types.specs.declared.sale.Sale.{Sale}
-use Rattle.iv_types.specs.declared.sale.ShopTotal.{ShopTotal}
+use Rattle.iv_meaning.specs.declared.sale.Sale.{Sale}
+use Rattle.iv_meaning.specs.declared.sale.ShopTotal.{ShopTotal}
 use Rattle.iv_meaning.specs.Table.{Table, row_at, with_row}
 use Rattle.iv_meaning.specs.View.{count_of, total_of, view_row}
 use Rattle.iv_meaning.proofs.TableLemmas.{length-with_row}

@@ -1,8 +1,10 @@
 -- A run that has answered some lines.
 use Rattle.std.proofs.Common.{◌≡◌, ◌≢◌, ◌<◌, ◌+◌, ℕ, Bool, true, false, cond, List, [], ◌∷◌, ◌++◌, length, take, drop, Option, Some, refl, ap, sym, subst, ◌∙◌, arith, append_assoc, inl, inr}
 use Rattle.std.specs.Prelude.{◌==◌}
+use Rattle.std.proofs.Math.Bool.{and-false}
+use Rattle.std.proofs.lemmas.Bool.{and_parts, false≢true}
 use Rattle.std.proofs.lemmas.List.{take-append-drop}
-use Rattle.iv_meaning.specs.Lines.{first_line, after_line, lines_of, onto_first}
+use Rattle.iv_meaning.specs.Lines.{is_return, first_line, after_line, lines_of, onto_first}
 use Rattle.iv_meaning.specs.Database.{Database, opened}
 use Rattle.iv_meaning.specs.Transcript.{IsTranscript}
 use Rattle.iv_meaning.specs.Script.{Answers, IsScriptOutput, AnswersFirstLines}
@@ -32,19 +34,29 @@ pub record Serving (input before : List ℕ) (now : Reading) (left written : Opt
   pub wrote : written ≡ Some (before ++ out)
   pub goes_on : (first others : List (List ℕ)) (more : List ℕ) → lines_of (now.held ++ rest) ≡ first ++ others → IsTranscript Answers first db more → AnsweredUpTo input others ((out ++ waiting) ++ more)
 
-same_lines : (b : ℕ) (bytes : List ℕ) (t : Bool) → lines_of bytes ≡ first_line bytes ∷ lines_of (after_line bytes) → cond t ([] ∷ lines_of bytes) (onto_first b (lines_of bytes)) ≡ cond t [] (b ∷ first_line bytes) ∷ lines_of (cond t bytes (after_line bytes))
-same_lines b bytes true e = refl
-same_lines b bytes false e = ap (onto_first b) e
+lf_next : (c : ℕ) (bytes : List ℕ) (t : Bool) → (c == 10) ≡ t → t ≡ true → cond t [] (cond (is_return c bytes) [] (c ∷ first_line bytes)) ≡ []
+lf_next c bytes true e here = refl
+lf_next c bytes false e here = absurd (false≢true here)
 
-last_line : (b : ℕ) (t : Bool) → cond t ([] ∷ []) ((b ∷ []) ∷ []) ≡ cond t [] (b ∷ []) ∷ lines_of (cond t [] [])
-last_line b true = refl
-last_line b false = refl
+-- what is ahead, a byte before the others
+same_lines : (b : ℕ) (bytes : List ℕ) (s t : Bool) → (t ≡ true → first_line bytes ≡ []) → lines_of bytes ≡ first_line bytes ∷ lines_of (after_line bytes) → cond s ([] ∷ lines_of bytes) (cond t (lines_of bytes) (onto_first b (lines_of bytes))) ≡ cond s [] (cond t [] (b ∷ first_line bytes)) ∷ lines_of (cond s bytes (after_line bytes))
+same_lines b bytes true t next e = refl
+same_lines b bytes false true next e = e ∙ ap (λ (line : List ℕ). line ∷ lines_of (after_line bytes)) (next refl)
+same_lines b bytes false false next e = ap (onto_first b) e
+
+last_line : (b : ℕ) (s t : Bool) → t ≡ false → cond s ([] ∷ []) (cond t [] ((b ∷ []) ∷ [])) ≡ cond s [] (cond t [] (b ∷ [])) ∷ lines_of (cond s [] [])
+last_line b true t e = refl
+last_line b false true e = absurd (false≢true (sym e))
+last_line b false false e = refl
 
 -- what is ahead begins with its first line
 lines_more : (ahead : List ℕ) → ahead ≢ [] → lines_of ahead ≡ first_line ahead ∷ lines_of (after_line ahead)
 lines_more [] ne = absurd (ne refl)
-lines_more (b ∷ []) ne = last_line b (b == 10)
-lines_more (b ∷ c ∷ bytes) ne = same_lines b (c ∷ bytes) (b == 10) (lines_more (c ∷ bytes) (λ e. cc))
+lines_more (b ∷ []) ne = last_line b (b == 10) (is_return b []) (and-false (b == 13))
+lines_more (b ∷ c ∷ bytes) ne =
+    same_lines b (c ∷ bytes) (b == 10) (is_return b (c ∷ bytes))
+    (λ here. lf_next c bytes (c == 10) refl (and_parts (b == 13) (c == 10) here).1)
+    (lines_more (c ∷ bytes) (λ e. cc))
 
 nothing : {A : Type 0} (p : List A) → p ++ [] ≡ p
 nothing [] = refl
@@ -82,7 +94,7 @@ regroup a b c d = ap (λ (xs : List ℕ). xs ++ d) (sym (append_assoc a b c)) �
 
 -- the answer to the line that was read
 line_answered : (line : Line) (ahead text then_ : List ℕ) (db after : Database) (piece : List ℕ) → line ≢ End → Reads line ahead text then_ → AnswersLine line text db piece after → (ahead ≢ []) × Answers (first_line ahead) db piece after × (then_ ≡ after_line ahead)
-line_answered Text ahead text then_ db after piece ne r a = (r.0, subst (λ (l : List ℕ). Answers l db piece after) r.2 a, r.3)
+line_answered Text ahead text then_ db after piece ne r a = (r.0, subst (λ (l : List ℕ). Answers l db piece after) r.2 (a r.1), r.3)
 line_answered TooLong ahead text then_ db after piece ne r a = (r.0, a (first_line ahead) r.1, r.2)
 line_answered End ahead text then_ db after piece ne r a = absurd (ne refl)
 

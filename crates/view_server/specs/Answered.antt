@@ -1,5 +1,5 @@
 -- How a line that was read is answered.
-use Rattle.std.specs.Prelude.{◌≡◌, ◌<◌, ℕ, List, ◌++◌, length, Option, Some}
+use Rattle.std.specs.Prelude.{◌≡◌, ◌<◌, ◌≤◌, ℕ, List, ◌++◌, length, Option, Some}
 use Rattle.iv_meaning.specs.Lines.{longest_line}
 use Rattle.iv_meaning.specs.Database.{Database}
 use Rattle.iv_meaning.specs.Script.{Answers}
@@ -8,7 +8,7 @@ use Rattle.line_wire.specs.declared.line.Line.TheVariants.{Text, TooLong, End}
 
 -- a line that was read whole, and one that was too long for it; there is none at the end
 abbrev pub AnswersLine : Line → List ℕ → Database → List ℕ → Database → Type 0
-AnswersLine Text text before piece after = Answers text before piece after
+AnswersLine Text text before piece after = length text ≤ longest_line → Answers text before piece after
 AnswersLine TooLong text before piece after = (line : List ℕ) → longest_line < length line → Answers line before piece after
 AnswersLine End text before piece after = Unit {0}
 

@@ -2,8 +2,8 @@
 use Rattle.std.specs.Prelude.{◌≡◌, ◌≤◌, ◌+◌, ◌^◌, ℤ, ◌+ℤ◌, length, Option, Some, None, IfSome}
 use Rattle.std.specs.Ordering.{int_cmp}
 use Rattle.std.specs.BTreeMap.{BTreeMap, get}
-use Rattle.iv_types.specs.declared.sale.Sale.{Sale}
-use Rattle.iv_types.specs.declared.sale.ShopTotal.{ShopTotal}
+use Rattle.iv_meaning.specs.declared.sale.Sale.{Sale}
+use Rattle.iv_meaning.specs.declared.sale.ShopTotal.{ShopTotal}
 use Rattle.iv_meaning.specs.Table.{Table}
 use Rattle.iv_meaning.specs.View.{view_row}
 use Rattle.iv_meaning.specs.Groups.{IsSmall}

@@ -2,7 +2,6 @@
 ghost use Rattle.std.specs.Prelude.{◌≡◌, ◌≤◌, ◌<◌, ◌+◌, ◌^◌, ◌∷◌, [], ℤ, not, length, IfOk, IfSome, OnOk, OnErr, Some, None, Option, if◌then◌else◌};
 ghost use Rattle.std.specs.Ordering.{int_cmp, int_eq};
 ghost use Rattle.std.specs.BTreeMap.{get, insert_entry};
-ghost use Rattle.iv_types.specs.declared.statement.Statement.TheVariants.{Insert};
 ghost use Rattle.iv_meaning.specs.Table.{has_key, with_row};
 ghost use Rattle.iv_meaning.specs.Database.{opened};
 ghost use Rattle.iv_meaning.specs.View.{view_row};
@@ -11,7 +10,8 @@ ghost use Rattle.iv_meaning.specs.Groups.{IsSmall};
 ghost use Rattle.view_server.specs.Groups.{grown};
 ghost use Rattle.view_server.specs.Answer.{IsAnswer};
 
-use iv_types::{NoMemory, Refusal, Sale, ShopTotal, Statement};
+use iv_meaning::{Form, Sale, ShopTotal};
+use iv_types::{NoMemory, Refusal};
 use std::alloc::Global;
 use std::collections::BTreeMap;
 use std::marker::Model;
@@ -19,9 +19,11 @@ use std::marker::Model;
 // The most rows of a table: so many amounts of 64 bits have a sum of 128.
 const MOST_ROWS: usize = 1 << 60;
 
-/// What a statement is answered.
-#[derive(Clone, Copy, Debug, PartialEq, Eq)]
+/// What a line is answered.
+#[derive(Debug, Drop)]
 pub enum Answer {
+    /// No reply.
+    Nothing,
     Refused(Refusal),
     /// The row is in, and committed under this number.
     Inserted(u64),
@@ -145,16 +147,16 @@ impl Engine {
     }
 
     /// Runs a statement as a transaction of its own.
-    pub fn run(&mut self, statement: Statement) -> Answer
-        ensures { IsAnswer statement self.old result self.new }
+    pub fn run(&mut self, form: Form) -> Answer
+        ensures { IsAnswer form self.old result self.new }
     {
-        match statement {
-            Statement::Insert(sale) => match self.insert(sale) {
+        match form {
+            Form::Insert(sale) => match self.insert(sale) {
                 Ok(true) => Answer::Inserted(self.number()),
                 Ok(false) => Answer::Refused(Refusal::DuplicateKey),
                 Err(NoMemory) => Answer::Refused(Refusal::NoMemory),
             },
-            Statement::Select(shop) => Answer::Listed(self.select(shop), self.number()),
+            Form::Select(shop) => Answer::Listed(self.select(shop), self.number()),
         }
     }
 }

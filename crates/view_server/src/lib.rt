@@ -1,7 +1,9 @@
 //! The engine behind a script, and the program's top call.
 #![tactic(auto)]
 
+mod asked;
 mod engine;
+mod form;
 mod print;
 mod request;
 mod script;

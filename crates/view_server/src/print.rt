@@ -1,76 +1,83 @@
-//! The text of an answer.
-ghost use Rattle.std.specs.Prelude.{◌≡◌, ◌∷◌, ◌++◌, [], OnOk, string_bytes};
+//! The lines of an answer.
+ghost use Rattle.std.specs.Prelude.{◌≡◌, ◌∷◌, ◌++◌, [], IfOk, OnOk};
 ghost use Rattle.iv_types.specs.declared.reply.Reply.TheVariants.{Row, Done, Commit, Error};
-ghost use Rattle.iv_meaning.specs.Reply.{refusal_text, reply_line, reply_lines};
+ghost use Rattle.iv_meaning.specs.Reply.{reply_line, reply_lines};
+ghost use Rattle.iv_meaning.specs.Statement.{row_of};
 ghost use Rattle.view_server.specs.Answer.{replies_of};
 
 use crate::engine::Answer;
-use iv_types::{NoMemory, Refusal, ShopTotal};
-use std::fmt::Write;
+use iv_meaning::ShopTotal;
+use iv_types::{NoMemory, Reply, Row, Sequence, Value};
+use sql_print::reply_text;
+use std::alloc::Global;
 
-fn refusal_name(refusal: Refusal) -> &'static str
-    ensures { result.now ≡ refusal_text refusal }
+fn push_reply(
+    alloc: Global,
+    text: &mut Vec<u8>,
+    session: u32,
+    reply: &Reply,
+) -> Result<(), NoMemory>
+    ensures { OnOk result (text.new.items ≡ text.old.items ++ reply_line session reply.now) }
 {
-    match refusal {
-        Refusal::DuplicateKey => "10 DuplicateKey",
-        Refusal::NoMemory => "29 NoMemory",
-        Refusal::BadLine => "41 BadLine",
-    }
-}
-
-fn push_refusal(text: &mut String, session: u32, refusal: Refusal) -> Result<(), NoMemory>
-    ensures { OnOk result (string_bytes text.new ≡ string_bytes text.old ++ reply_line session (Error refusal)) }
-{
-    let name = refusal_name(refusal);
-    write!(text, "{session} ERR {name}\n")?;
+    let line = reply_text(alloc, Some(session), reply)?;
+    text.extend_from_slice(line.as_slice())?;
+    text.push(b'\n')?;
     Ok(())
 }
 
-fn push_row(text: &mut String, session: u32, row: ShopTotal) -> Result<(), NoMemory>
-    ensures { OnOk result (string_bytes text.new ≡ string_bytes text.old ++ reply_line session (Row row)) }
+// A row of the view: its shop, its count and its total.
+fn row(alloc: Global, group: ShopTotal) -> Result<Row, NoMemory>
+    ensures { IfOk result (λ row. row ≡ row_of group) }
 {
-    let ShopTotal { shop, count, total } = row;
-    write!(text, "{session} ROW {shop} {count} {total}\n")?;
-    Ok(())
-}
-
-fn push_done(text: &mut String, session: u32, count: u64) -> Result<(), NoMemory>
-    ensures { OnOk result (string_bytes text.new ≡ string_bytes text.old ++ reply_line session (Done count)) }
-{
-    write!(text, "{session} OK {count}\n")?;
-    Ok(())
-}
-
-fn push_commit(text: &mut String, session: u32, number: u64) -> Result<(), NoMemory>
-    ensures { OnOk result (string_bytes text.new ≡ string_bytes text.old ++ reply_line session (Commit number)) }
-{
-    write!(text, "{session} COMMIT {number}\n")?;
-    Ok(())
+    let mut row = Sequence::new(alloc);
+    row.push(Value::Number(i128::from(group.shop)))?;
+    row.push(Value::Number(i128::from(group.count)))?;
+    row.push(Value::Number(group.total))?;
+    Ok(row)
 }
 
 // A statement's end, as a transaction of its own.
-fn push_end(text: &mut String, session: u32, count: u64, number: u64) -> Result<(), NoMemory>
-    ensures { OnOk result (string_bytes text.new ≡ string_bytes text.old ++ reply_lines session (Done count ∷ Commit number ∷ [])) }
+fn push_end(
+    alloc: Global,
+    text: &mut Vec<u8>,
+    session: u32,
+    count: u64,
+    number: u64,
+) -> Result<(), NoMemory>
+    ensures { OnOk result (text.new.items ≡ text.old.items ++ reply_lines session (Done count ∷ Commit number ∷ [])) }
 {
-    push_done(text, session, count)?;
-    push_commit(text, session, number)
+    push_reply(alloc, text, session, &Reply::Done(count))?;
+    push_reply(alloc, text, session, &Reply::Commit(number))
 }
 
-fn push_listed(text: &mut String, session: u32, row: ShopTotal, number: u64) -> Result<(), NoMemory>
-    ensures { OnOk result (string_bytes text.new ≡ string_bytes text.old ++ reply_lines session (Row row ∷ Done 1 ∷ Commit number ∷ [])) }
+fn push_listed(
+    alloc: Global,
+    text: &mut Vec<u8>,
+    session: u32,
+    group: ShopTotal,
+    number: u64,
+) -> Result<(), NoMemory>
+    ensures { OnOk result (text.new.items ≡ text.old.items ++ reply_lines session (Row (row_of group) ∷ Done 1 ∷ Commit number ∷ [])) }
 {
-    push_row(text, session, row)?;
-    push_end(text, session, 1, number)
+    let row = Reply::Row(row(alloc, group)?);
+    push_reply(alloc, text, session, &row)?;
+    push_end(alloc, text, session, 1, number)
 }
 
-/// Writes the replies of an answer behind a text. Where memory is wanting, some of them may stand there.
-pub fn push_answer(text: &mut String, session: u32, answer: Answer) -> Result<(), NoMemory>
-    ensures { OnOk result (string_bytes text.new ≡ string_bytes text.old ++ reply_lines session (replies_of answer)) }
+/// Writes the lines of an answer behind a text. Where memory is wanting, some of them may stand there.
+pub fn push_answer(
+    alloc: Global,
+    text: &mut Vec<u8>,
+    session: u32,
+    answer: Answer,
+) -> Result<(), NoMemory>
+    ensures { OnOk result (text.new.items ≡ text.old.items ++ reply_lines session (replies_of answer)) }
 {
     match answer {
-        Answer::Refused(refusal) => push_refusal(text, session, refusal),
-        Answer::Inserted(number) => push_end(text, session, 1, number),
-        Answer::Listed(Some(row), number) => push_listed(text, session, row, number),
-        Answer::Listed(None, number) => push_end(text, session, 0, number),
+        Answer::Nothing => Ok(()),
+        Answer::Refused(refusal) => push_reply(alloc, text, session, &Reply::Error(refusal)),
+        Answer::Inserted(number) => push_end(alloc, text, session, 1, number),
+        Answer::Listed(Some(group), number) => push_listed(alloc, text, session, group, number),
+        Answer::Listed(None, number) => push_end(alloc, text, session, 0, number),
     }
 }

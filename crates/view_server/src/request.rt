@@ -2,16 +2,18 @@
 //!
 //! Each function that reads a part of a text has two clauses: what it has read stands there, and what stands there is
 //! what it reads.
-ghost use Rattle.std.specs.Prelude.{◌≡◌, ◌≢◌, ◌<◌, ◌≤◌, ◌^◌, ◌+◌, ◌*◌, ◌++◌, ℕ, ℤ, List, [], length, take, drop, Some, None, IfSome, IfNone, IsSomeAnd, IsTrue, ◌↔◌, ◌∷◌, ◌⊎◌, slice_index, nat_le, if◌then◌else◌, decimal, codes, pos, neg_ℤ};
-ghost use Rattle.std.specs.Fmt.{signed_decimal};
-ghost use Rattle.std.specs.Int.{w64};
-ghost use Rattle.std.specs.Int.RustNames.{FitsSigned};
-ghost use Rattle.iv_types.specs.declared.statement.Statement.TheVariants.{Insert, Select};
-ghost use Rattle.iv_meaning.specs.Number.{BeginsWithNoDigit, digits_at_front, value_of};
-ghost use Rattle.iv_meaning.specs.Request.{tuple_text, statement_text, request_text, InRange, IsRequest, Asks};
+ghost use Rattle.std.specs.Prelude.{◌≡◌, ◌<◌, ◌≤◌, ◌^◌, ◌++◌, ℕ, List, length, Some, None, IfSome, IfNone, IsSomeAnd, IsTrue, ◌↔◌, slice_index, nat_le, if◌then◌else◌, decimal};
+ghost use Rattle.iv_types.specs.Tokens.{value_of};
+ghost use Rattle.iv_meaning.specs.Number.{BeginsWithNoDigit, digits_at_front};
+ghost use Rattle.iv_meaning.specs.Request.{IsRemark, IsOfSession, HasNoForm};
+ghost use Rattle.view_server.specs.Spaces.{IsBehindSpaces};
+ghost use Rattle.view_server.specs.Request.{AsksFor};
 
-use iv_types::{Request, Sale, Statement};
-use line_wire::LONGEST_LINE;
+use crate::asked::Request;
+use crate::form::built;
+use sql_parse::parse;
+use std::alloc::Global;
+use std::str;
 
 // The rest of a text behind a word, where the text begins with the word.
 fn after<'a>(text: &'a [u8], word: &[u8]) -> Option<&'a [u8]>
@@ -82,132 +84,62 @@ fn natural(text: &[u8], most: u64) -> Option<(u64, &[u8])>
     }
 }
 
-// The negative number of this size.
-fn negated(size: u64) -> i64
-    requires some { 0 < size }
-    requires most { size ≤ 2 ^ 63 }
-    ensures { result ≡ neg_ℤ (pos size) }
+// Whether a line is empty or begins with `#`.
+fn is_remark(line: &[u8]) -> bool
+    ensures { IsTrue result ↔ IsRemark line.now }
 {
-    (-i128::from(size)) as i64
+    line.is_empty() || line[0] == b'#'
 }
 
-// The number of 64 bits that a text begins with, and the rest.
-fn number(text: &[u8]) -> Option<(i64, &[u8])>
-    ensures sound { IfSome result (λ x. (text.now ≡ signed_decimal x.0 ++ x.1.now) × BeginsWithNoDigit x.1.now) }
-    ensures complete { (n : ℤ) (rest : List ℕ) → FitsSigned w64 n → BeginsWithNoDigit rest → text.now ≡ signed_decimal n ++ rest → IsSomeAnd result (λ x. (x.0 ≡ n) × (x.1.now ≡ rest)) }
+// The rest of a text behind the spaces that it begins with.
+fn behind_spaces(text: &[u8]) -> &[u8]
+    ensures { IsBehindSpaces text.now result.now }
 {
-    match after(text, b"-") {
-        Some(digits) => negative(digits),
-        None => positive(text),
+    let mut at = 0usize;
+    while at < text.len() && text[at] == b' ' {
+        at += 1;
     }
+    &text[at..]
 }
 
-// The same behind a minus.
-fn negative(digits: &[u8]) -> Option<(i64, &[u8])>
-    ensures sound { IfSome result (λ x. (45 ∷ digits.now ≡ signed_decimal x.0 ++ x.1.now) × BeginsWithNoDigit x.1.now) }
-    ensures complete { (n : ℤ) (rest : List ℕ) → FitsSigned w64 n → BeginsWithNoDigit rest → 45 ∷ digits.now ≡ signed_decimal n ++ rest → IsSomeAnd result (λ x. (x.0 ≡ n) × (x.1.now ≡ rest)) }
+/// The session of a line, and its text.
+pub fn session_text(line: &[u8]) -> Option<(u32, &str)>
+    ensures sound { IfSome result (λ x. IsOfSession x.0 x.1.now line.now) }
+    ensures complete { IfNone result (HasNoForm line.now) }
 {
-    match natural(digits, 1 << 63) {
-        Some((size, rest)) => {
-            if size == 0 {
-                return None;
-            }
-            Some((negated(size), rest))
-        }
-        None => None,
-    }
-}
-
-// The same where no minus stands.
-fn positive(text: &[u8]) -> Option<(i64, &[u8])>
-    requires { (digits : List ℕ) → text.now ≢ 45 ∷ digits }
-    ensures sound { IfSome result (λ x. (text.now ≡ signed_decimal x.0 ++ x.1.now) × BeginsWithNoDigit x.1.now) }
-    ensures complete { (n : ℤ) (rest : List ℕ) → FitsSigned w64 n → BeginsWithNoDigit rest → text.now ≡ signed_decimal n ++ rest → IsSomeAnd result (λ x. (x.0 ≡ n) × (x.1.now ≡ rest)) }
-{
-    match natural(text, i64::MAX as u64) {
-        Some((size, rest)) => Some((size as i64, rest)),
-        None => None,
-    }
-}
-
-// The number that a text begins with and a word behind it, and the rest.
-fn number_before<'a>(text: &'a [u8], word: &[u8]) -> Option<(i64, &'a [u8])>
-    requires { (rest : List ℕ) → BeginsWithNoDigit (word.now ++ rest) }
-    ensures sound { IfSome result (λ x. text.now ≡ signed_decimal x.0 ++ (word.now ++ x.1.now)) }
-    ensures complete { (n : ℤ) (rest : List ℕ) → FitsSigned w64 n → text.now ≡ signed_decimal n ++ (word.now ++ rest) → IsSomeAnd result (λ x. (x.0 ≡ n) × (x.1.now ≡ rest)) }
-{
-    let (value, behind) = number(text)?;
-    match after(behind, word) {
-        Some(rest) => Some((value, rest)),
-        None => None,
-    }
-}
-
-// The row that a whole text writes.
-fn tuple(text: &[u8]) -> Option<Sale>
-    ensures sound { IfSome result (λ sale. (text.now ≡ tuple_text sale) × InRange (Insert sale)) }
-    ensures complete { (sale : Sale) → InRange (Insert sale) → text.now ≡ tuple_text sale → result ≡ Some sale }
-{
-    let text = after(text, b"(")?;
-    let (id, text) = number_before(text, b", ")?;
-    let (shop, text) = number_before(text, b", ")?;
-    let (amount, text) = number_before(text, b")")?;
-    if !text.is_empty() {
-        return None;
-    }
-    Some(Sale { id, shop, amount })
-}
-
-// The statement that a whole text writes.
-fn statement(text: &[u8]) -> Option<Statement>
-    ensures sound { IfSome result (λ statement. (text.now ≡ statement_text statement) × InRange statement) }
-    ensures complete { (statement : Statement) → InRange statement → text.now ≡ statement_text statement → result ≡ Some statement }
-{
-    match after(text, b"INSERT INTO sale VALUES ") {
-        Some(row) => insert(row),
-        None => match after(text, b"SELECT * FROM by_shop WHERE shop = ") {
-            Some(shop) => select(shop),
-            None => None,
-        },
-    }
-}
-
-fn insert(row: &[u8]) -> Option<Statement>
-    ensures sound { IfSome result (λ statement. (codes "INSERT INTO sale VALUES " ++ row.now ≡ statement_text statement) × InRange statement) }
-    ensures complete { (sale : Sale) → InRange (Insert sale) → row.now ≡ tuple_text sale → result ≡ Some (Insert sale) }
-{
-    match tuple(row) {
-        Some(sale) => Some(Statement::Insert(sale)),
-        None => None,
-    }
-}
-
-fn select(shop: &[u8]) -> Option<Statement>
-    ensures sound { IfSome result (λ statement. (codes "SELECT * FROM by_shop WHERE shop = " ++ shop.now ≡ statement_text statement) × InRange statement) }
-    ensures complete { (n : ℤ) → FitsSigned w64 n → shop.now ≡ signed_decimal n → result ≡ Some (Select n) }
-{
-    let (shop, rest) = number(shop)?;
-    if !rest.is_empty() {
-        return None;
-    }
-    Some(Statement::Select(shop))
-}
-
-/// What a line asks for.
-pub fn request(line: &[u8]) -> Option<Request>
-    ensures { Asks line.now result }
-{
-    if line.len() > LONGEST_LINE {
-        return None;
-    }
-    let (session, text) = natural(line, 64)?;
+    let (session, rest) = natural(line, 64)?;
     if session == 0 {
         return None;
     }
-    let text = after(text, b": ")?;
-    let statement = statement(text)?;
-    Some(Request {
-        session: session as u32,
-        statement,
-    })
+    let rest = after(rest, b":")?;
+    match str::from_utf8(behind_spaces(rest)) {
+        Ok(text) => Some((session as u32, text)),
+        Err(_) => None,
+    }
+}
+
+// What a session asks for by a text.
+fn asked(alloc: Global, session: u32, text: &str) -> Request
+    ensures { (line : List ℕ) → IsOfSession session text.now line → ¬ (IsRemark line) → AsksFor line result }
+{
+    match parse(alloc, text) {
+        Ok(statement) => match built(statement) {
+            Some(form) => Request::Statement(session, form),
+            None => Request::Bad,
+        },
+        Err(refusal) => Request::Refused(session, refusal),
+    }
+}
+
+/// What a line asks for that is not too long.
+pub fn request(alloc: Global, line: &[u8]) -> Request
+    ensures { AsksFor line.now result }
+{
+    if is_remark(line) {
+        return Request::Nothing;
+    }
+    match session_text(line) {
+        Some((session, text)) => asked(alloc, session, text),
+        None => Request::Bad,
+    }
 }

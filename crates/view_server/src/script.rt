@@ -1,7 +1,8 @@
 //! A run of a script.
-ghost use Rattle.std.specs.Prelude.{◌≡◌, ◌≢◌, ◌↔◌, ◌⊎◌, ◌++◌, ◌∷◌, ℕ, List, [], OnOk, OnErr, IsTrue, IsErr, Some, string_bytes};
+ghost use Rattle.std.specs.Prelude.{◌≡◌, ◌≢◌, ◌↔◌, ◌⊎◌, ◌++◌, ◌∷◌, ◌≤◌, ℕ, List, [], length, OnOk, OnErr, IsTrue, IsErr, Some, string_bytes};
 ghost use Rattle.iv_types.specs.Faults.{Rose, CountsFault};
 ghost use Rattle.iv_meaning.specs.Reply.{reply_lines};
+ghost use Rattle.iv_meaning.specs.Lines.{longest_line};
 ghost use Rattle.iv_meaning.specs.Database.{Database};
 ghost use Rattle.iv_meaning.specs.Script.{Answers};
 ghost use Rattle.line_wire.specs.declared.line.Line.TheVariants.{Text, TooLong};
@@ -10,6 +11,7 @@ ghost use Rattle.view_server.specs.Answer.{replies_of};
 ghost use Rattle.view_server.specs.Answered.{AddsAnswer, MovesOn};
 ghost use Rattle.view_server.specs.Run.{IsScript, Output, Taken, SourceFaults, SinkFaults, ToldUsage, Finishes, FinishFaults};
 
+use crate::asked::Request;
 use crate::engine::{Answer, Engine};
 use crate::print::push_answer;
 use crate::request::request;
@@ -42,73 +44,78 @@ fn is_script(words: &[String]) -> bool
 }
 
 // Runs what a line asks for, and says whom to answer.
-fn answer(engine: &mut Engine, line: &[u8]) -> (u32, Answer)
-    ensures { Answers line.now engine.old (reply_lines result.0 (replies_of result.1)) engine.new }
+fn answer(alloc: Global, engine: &mut Engine, line: &[u8]) -> (u32, Answer)
+    ensures { length line.now ≤ longest_line → Answers line.now engine.old (reply_lines result.0 (replies_of result.1)) engine.new }
 {
-    match request(line) {
-        Some(request) => (request.session, engine.run(request.statement)),
-        None => (0, Answer::Refused(Refusal::BadLine)),
+    match request(alloc, line) {
+        Request::Nothing => (0, Answer::Nothing),
+        Request::Bad => (0, Answer::Refused(Refusal::BadLine)),
+        Request::Refused(session, refusal) => (session, Answer::Refused(refusal)),
+        Request::Statement(session, form) => (session, engine.run(form)),
     }
 }
 
 // Puts an answer behind the replies that wait; the text is room for it.
 fn push_waiting(
-    waiting: &mut String,
-    text: &mut String,
+    alloc: Global,
+    waiting: &mut Vec<u8>,
+    text: &mut Vec<u8>,
     session: u32,
     answer: Answer,
 ) -> Result<(), NoMemory>
-    ensures ok { OnOk result (string_bytes waiting.new ≡ string_bytes waiting.old ++ reply_lines session (replies_of answer)) }
-    ensures err { OnErr result (string_bytes waiting.new ≡ string_bytes waiting.old) }
+    ensures ok { OnOk result (waiting.new.items ≡ waiting.old.items ++ reply_lines session (replies_of answer)) }
+    ensures err { OnErr result (waiting.new.items ≡ waiting.old.items) }
 {
     text.clear();
-    push_answer(text, session, answer)?;
-    waiting.push_str(text.as_str())?;
+    push_answer(alloc, text, session, answer)?;
+    waiting.extend_from_slice(text)?;
     Ok(())
 }
 
 // Answers a line that was read.
 fn answer_line(
+    alloc: Global,
     engine: &mut Engine,
     line: &[u8],
-    waiting: &mut String,
-    text: &mut String,
+    waiting: &mut Vec<u8>,
+    text: &mut Vec<u8>,
 ) -> Result<(), NoMemory>
-    ensures ok { OnOk result (AddsAnswer Text line.now engine.old (string_bytes waiting.old) (string_bytes waiting.new) engine.new) }
-    ensures err { OnErr result (string_bytes waiting.new ≡ string_bytes waiting.old) }
+    ensures ok { OnOk result (AddsAnswer Text line.now engine.old waiting.old.items waiting.new.items engine.new) }
+    ensures err { OnErr result (waiting.new.items ≡ waiting.old.items) }
 {
-    let (session, answer) = answer(engine, line);
-    push_waiting(waiting, text, session, answer)
+    let (session, answer) = answer(alloc, engine, line);
+    push_waiting(alloc, waiting, text, session, answer)
 }
 
 // Answers a line that was too long to be read.
-fn refuse_line(waiting: &mut String, text: &mut String) -> Result<(), NoMemory>
-    ensures ok { (bytes : List ℕ) (db : Database) → OnOk result (AddsAnswer TooLong bytes db (string_bytes waiting.old) (string_bytes waiting.new) db) }
-    ensures err { OnErr result (string_bytes waiting.new ≡ string_bytes waiting.old) }
+fn refuse_line(alloc: Global, waiting: &mut Vec<u8>, text: &mut Vec<u8>) -> Result<(), NoMemory>
+    ensures ok { (bytes : List ℕ) (db : Database) → OnOk result (AddsAnswer TooLong bytes db waiting.old.items waiting.new.items db) }
+    ensures err { OnErr result (waiting.new.items ≡ waiting.old.items) }
 {
-    push_waiting(waiting, text, 0, Answer::Refused(Refusal::BadLine))
+    let answer = Answer::Refused(Refusal::LineTooLong);
+    push_waiting(alloc, waiting, text, 0, answer)
 }
 
 // Writes the replies that wait, where it is due.
-fn flush<K: Sink>(sink: &mut K, waiting: &mut String, due: bool) -> Result<(), WriteFault>
-    ensures ok { (before : List ℕ) → K.written sink.old ≡ Some before → OnOk result (MovesOn before (string_bytes waiting.old) (string_bytes waiting.new) (K.written sink.new)) }
-    ensures err { (before : List ℕ) → K.written sink.old ≡ Some before → OnErr result (WroteFront before (string_bytes waiting.old) (K.written sink.new)) }
+fn flush<K: Sink>(sink: &mut K, waiting: &mut Vec<u8>, due: bool) -> Result<(), WriteFault>
+    ensures ok { (before : List ℕ) → K.written sink.old ≡ Some before → OnOk result (MovesOn before waiting.old.items waiting.new.items (K.written sink.new)) }
+    ensures err { (before : List ℕ) → K.written sink.old ≡ Some before → OnErr result (WroteFront before waiting.old.items (K.written sink.new)) }
     ensures fault { CountsFault result (K.faults sink.old) (K.faults sink.new) }
 {
     if !due {
         return Ok(());
     }
-    write_all(sink, waiting.as_bytes())?;
+    write_all(sink, waiting)?;
     waiting.clear();
     Ok(())
 }
 
 // Writes the replies that wait, and ends.
-fn finish<K: Sink>(sink: &mut K, waiting: &String, status: Status) -> Status
-    ensures written { (before : List ℕ) → K.written sink.old ≡ Some before → Finishes status result before (string_bytes waiting.now) (K.written sink.new) }
+fn finish<K: Sink>(sink: &mut K, waiting: &[u8], status: Status) -> Status
+    ensures written { (before : List ℕ) → K.written sink.old ≡ Some before → Finishes status result before waiting.now (K.written sink.new) }
     ensures fault { FinishFaults status result (K.faults sink.old) (K.faults sink.new) }
 {
-    match write_all(sink, waiting.as_bytes()) {
+    match write_all(sink, waiting) {
         Ok(()) => status,
         Err(WriteFault) => Status::WriteFault,
     }
@@ -126,8 +133,8 @@ fn answer_lines<S: Source, K: Sink>(alloc: Global, source: &mut S, sink: &mut K)
         return Status::NoMemory;
     };
     let mut engine = Engine::new(alloc);
-    let mut waiting = String::new(alloc);
-    let mut text = String::new(alloc);
+    let mut waiting = Vec::new(alloc);
+    let mut text = Vec::new(alloc);
     loop {
         // Before the source is asked for more, whoever waits for the replies gets them.
         let due = waiting.len() >= MOST_WAITING || !lines.holds_line();
@@ -138,6 +145,7 @@ fn answer_lines<S: Source, K: Sink>(alloc: Global, source: &mut S, sink: &mut K)
             Ok(Line::End) => return finish(sink, &waiting, Status::Done),
             Ok(Line::Text) => {
                 if let Err(NoMemory) = answer_line(
+                    alloc,
                     &mut engine,
                     lines.text(),
                     &mut waiting,
@@ -147,7 +155,7 @@ fn answer_lines<S: Source, K: Sink>(alloc: Global, source: &mut S, sink: &mut K)
                 }
             }
             Ok(Line::TooLong) => {
-                if let Err(NoMemory) = refuse_line(&mut waiting, &mut text) {
+                if let Err(NoMemory) = refuse_line(alloc, &mut waiting, &mut text) {
                     return finish(sink, &waiting, Status::NoMemory);
                 }
             }

@@ -1,13 +1,23 @@
-//! Scripts from end to end, over a source and a sink in memory.
+//! Scripts from end to end, over a source and a sink in memory, and the parts that read a line.
+use crate::form::built;
+use crate::request::session_text;
 use crate::{Status, run};
-use iv_meaning::plain;
-use iv_types::{CallList, Failed, Sale, Sequence};
-use line_wire::{ListSink, ListSource, Source};
+use iv_meaning::{Form, Sale, plain};
+use iv_types::{
+    Bytes, CallList, Expr, Failed, Item, NoMemory, Op, Query, Ref, Relation, Sequence, Statement,
+};
+use line_wire::{Line, LineBuffer, ListSink, ListSource, Source, read_line};
 use std::alloc::{AllocError, Global};
 use std::fmt::Write;
+use std::process::Abort;
 use std::test::Fail;
 
 const BAD_LINE: &[u8] = b"0 ERR 41 BadLine\n";
+
+const TOO_LONG: &[u8] = b"0 ERR 42 LineTooLong\n";
+
+// What a SELECT of a shop without rows prints on the opened database.
+const NO_ROW: &[u8] = b"1 OK 0\n1 COMMIT 2\n";
 
 fn calls(alloc: Global, number: u64) -> Result<CallList, AllocError> {
     let mut numbers = Vec::new(alloc);
@@ -35,74 +45,257 @@ fn script(alloc: Global, input: &[u8], read: u64, write: u64) -> Result<(Status,
     Ok((status, sink.written().to_vec(alloc)?))
 }
 
-#[test]
-fn the_worked_lines(rt: HostRuntime) -> Result<(), Fail> {
-    let input =
-        b"1: INSERT INTO sale VALUES (1, 7, 10)\n1: SELECT * FROM by_shop WHERE shop = 7\n2: INSERT INTO sale VALUES (1, 9, 4)\n1: SELECT * FROM by_shop WHERE shop = 9\n1: HELLO\n";
-    let (status, written) = script(rt.alloc(), input, 0, 0)?;
-    assert_eq!(rt; status, Status::Done);
-    assert_eq!(rt;
-        written.as_slice(),
-        b"1 OK 1\n1 COMMIT 3\n1 ROW 7 1 10\n1 OK 1\n1 COMMIT 3\n2 ERR 10 DuplicateKey\n1 OK 0\n1 COMMIT 3\n0 ERR 41 BadLine\n".as_slice()
-    );
+// Runs one line after another, each as a script of its own, and compares what each writes.
+fn check_lines(rt: &impl Abort, alloc: Global, lines: &[&[u8]], output: &[u8]) -> Result<(), Fail> {
+    for line in lines {
+        let mut input = line.to_vec(alloc)?;
+        input.push(b'\n')?;
+        check_script(rt, alloc, &input, output)?;
+    }
+    Ok(())
+}
+
+// Runs a script and compares what it writes.
+fn check_script(rt: &impl Abort, alloc: Global, input: &[u8], output: &[u8]) -> Result<(), Fail> {
+    let (status, written) = script(alloc, input, 0, 0)?;
+    assert_eq!(rt; status, Status::Done, "{input:?}");
+    assert_eq!(rt; written.as_slice(), output, "{input:?}");
     Ok(())
 }
 
 #[test]
-fn lines_of_neither_form(rt: HostRuntime) -> Result<(), Fail> {
-    let lines: [&[u8]; 33] = [
-        b"",
+fn the_worked_lines(rt: HostRuntime) -> Result<(), Fail> {
+    check_script(
+        &rt,
+        rt.alloc(),
+        b"1: INSERT INTO sale VALUES (1, 7, 10)\n1: SELECT * FROM by_shop WHERE shop = 7\n2: INSERT INTO sale VALUES (1, 9, 4)\n1: SELECT * FROM by_shop WHERE shop = 9\n1: HELLO\n",
+        b"1 OK 1\n1 COMMIT 3\n1 ROW 7 1 10\n1 OK 1\n1 COMMIT 3\n2 ERR 10 DuplicateKey\n1 OK 0\n1 COMMIT 3\n1 ERR 1 Syntax 0\n",
+    )?;
+    check_script(
+        &rt,
+        rt.alloc(),
+        b"1: SELEC * FROM sale\n1: SELECT\n1: insert into SALE values (1,7,10);\n1: COMMIT\n",
+        b"1 ERR 1 Syntax 0\n1 ERR 1 Syntax 6\n1 OK 1\n1 COMMIT 3\n0 ERR 41 BadLine\n",
+    )
+}
+
+#[test]
+fn spellings_of_a_select(rt: HostRuntime) -> Result<(), Fail> {
+    let lines: [&[u8]; 22] = [
+        b"1: SELECT * FROM by_shop WHERE shop = 7",
+        b"1:SELECT * FROM by_shop WHERE shop = 7",
+        b"1:    SELECT * FROM by_shop WHERE shop = 7",
+        b"1:\tSELECT * FROM by_shop WHERE shop = 7",
+        b"1: select * from by_shop where shop = 7",
+        b"1: Select * From BY_SHOP Where SHOP = 7",
+        b"1: SELECT * FROM by_shop WHERE shop = 7;",
+        b"1: SELECT * FROM by_shop WHERE shop = 7 ; ",
+        b"1: SELECT\t*\tFROM\tby_shop\tWHERE\tshop\t=\t7",
+        b"1: SELECT*FROM by_shop WHERE shop=7",
+        b"1: SELECT * FROM by_shop WHERE shop = 07",
+        b"1: SELECT * FROM by_shop WHERE shop = (7)",
+        b"1: SELECT * FROM by_shop WHERE (shop) = ((7))",
+        b"1: SELECT * FROM by_shop WHERE (shop = 7)",
+        b"1: SELECT * FROM by_shop WHERE shop = - 5",
+        b"1: SELECT * FROM by_shop WHERE shop = (-5)",
+        b"1: SELECT * FROM by_shop WHERE shop = -0",
+        b"1: SELECT * FROM by_shop WHERE shop = 9223372036854775807",
+        b"1: SELECT * FROM by_shop WHERE shop = -9223372036854775808",
+        b"1: SELECT * FROM by_shop WHERE shop = 7 -- a comment",
+        b"1: SELECT * FROM by_shop WHERE shop = 7; -- a comment; \xc3\xa9",
+        b"1: SELECT * FROM by_shop WHERE shop = 7\r",
+    ];
+    check_lines(&rt, rt.alloc(), &lines, NO_ROW)
+}
+
+#[test]
+fn spellings_of_an_insert(rt: HostRuntime) -> Result<(), Fail> {
+    let lines: [&[u8]; 8] = [
+        b"1: INSERT INTO sale VALUES (1, 7, 10)",
+        b"1: insert into SALE values (1,7,10);",
+        b"1:insert\tinto sale values(1,7,10)",
+        b"1:  INSERT INTO Sale VALUES ( 1 , 7 , 10 ) ;",
+        b"1: INSERT INTO sale VALUES ((1), (7), (10))",
+        b"1: INSERT INTO sale VALUES (- 5, (- 5), -5)",
+        b"1: INSERT INTO sale VALUES (01, 007, -0)",
+        b"1: INSERT INTO sale VALUES (1, 7, 10) -- a comment",
+    ];
+    check_lines(&rt, rt.alloc(), &lines, b"1 OK 1\n1 COMMIT 3\n")
+}
+
+#[test]
+fn forms_left(rt: HostRuntime) -> Result<(), Fail> {
+    let lines: [&[u8]; 42] = [
+        b"1: SELECT * FROM by_shop WHERE 7 = shop",
+        b"1: SELECT * FROM by_shop AS b WHERE shop = 7",
+        b"1: SELECT * FROM by_shop AS by_shop WHERE shop = 7",
+        b"1: SELECT * FROM by_shop WHERE by_shop.shop = 7",
+        b"1: SELECT * FROM by_shop WHERE shop = 3 + 4",
+        b"1: SELECT * FROM by_shop WHERE shop = -(7)",
+        b"1: SELECT * FROM by_shop WHERE shop = - -7",
+        b"1: SELECT * FROM by_shop WHERE shop = 9223372036854775808",
+        b"1: SELECT * FROM by_shop WHERE shop = -9223372036854775809",
+        b"1: SELECT * FROM by_shop WHERE shop = 170141183460469231731687303715884105727",
+        b"1: SELECT * FROM by_shop WHERE shop = '7'",
+        b"1: SELECT * FROM by_shop WHERE shop = shop",
+        b"1: SELECT * FROM by_shop WHERE shop <> 7",
+        b"1: SELECT * FROM by_shop WHERE shop >= 7",
+        b"1: SELECT * FROM by_shop WHERE NOT shop = 7",
+        b"1: SELECT * FROM by_shop WHERE shop = 7 AND shop = 7",
+        b"1: SELECT * FROM by_shop WHERE total = 7",
+        b"1: SELECT * FROM by_shop WHERE shop",
+        b"1: SELECT * FROM by_shop",
+        b"1: SELECT * FROM sale WHERE shop = 7",
+        b"1: SELECT shop FROM by_shop WHERE shop = 7",
+        b"1: SELECT *, * FROM by_shop WHERE shop = 7",
+        b"1: SELECT COUNT(*) FROM by_shop WHERE shop = 7",
+        b"1: SELECT * FROM by_shop WHERE shop = 7 GROUP BY shop",
+        b"1: SELECT * FROM by_shop WHERE shop = 7 ORDER BY 1",
+        b"1: SELECT * FROM by_shop JOIN sale ON id = shop WHERE shop = 7",
+        b"1: INSERT INTO sale VALUES (1, 7, 5 + 5)",
+        b"1: INSERT INTO sale VALUES (1, 7, -(5))",
+        b"1: INSERT INTO sale VALUES (1, 7, 9223372036854775808)",
+        b"1: INSERT INTO sale VALUES (-9223372036854775809, 7, 10)",
+        b"1: INSERT INTO sale VALUES (1, 7, 'ten')",
+        b"1: INSERT INTO sale VALUES (1, 7, amount)",
+        b"1: INSERT INTO sale VALUES (1, 7)",
+        b"1: INSERT INTO sale VALUES (1, 7, 10, 11)",
+        b"1: INSERT INTO sale VALUES (1, 7, 10), (2, 7, 10)",
+        b"1: INSERT INTO by_shop VALUES (1, 7, 10)",
+        b"1: CREATE TABLE t (id INT, PRIMARY KEY (id))",
+        b"1: UPDATE sale SET amount = 1",
+        b"1: DELETE FROM sale",
+        b"1: BEGIN",
+        b"1: ROLLBACK",
+        b"1: COMMIT;",
+    ];
+    check_lines(&rt, rt.alloc(), &lines, BAD_LINE)
+}
+
+#[test]
+fn lines_of_no_form(rt: HostRuntime) -> Result<(), Fail> {
+    let lines: [&[u8]; 26] = [
         b" ",
-        b"1",
-        b"1:",
-        b"1: ",
+        b"\t",
+        b"\r\r",
+        b" #",
         b"x",
+        b"1",
+        b"64",
+        b":",
+        b": SELECT * FROM by_shop WHERE shop = 7",
         b"01: SELECT * FROM by_shop WHERE shop = 7",
         b"0: SELECT * FROM by_shop WHERE shop = 7",
         b"65: SELECT * FROM by_shop WHERE shop = 7",
+        b"-1: SELECT * FROM by_shop WHERE shop = 7",
+        b"+1: SELECT * FROM by_shop WHERE shop = 7",
         b"18446744073709551617: SELECT * FROM by_shop WHERE shop = 7",
         b" 1: SELECT * FROM by_shop WHERE shop = 7",
         b"1 : SELECT * FROM by_shop WHERE shop = 7",
-        b"1:SELECT * FROM by_shop WHERE shop = 7",
-        b"1:  SELECT * FROM by_shop WHERE shop = 7",
         b"1/ SELECT * FROM by_shop WHERE shop = 7",
-        b"1: select * from by_shop where shop = 7",
-        b"1: SELECT * FROM by_shop WHERE shop = 7;",
-        b"1: SELECT * FROM by_shop WHERE shop = 7 ",
-        b"1: SELECT * FROM by_shop WHERE shop = 7\r",
-        b"1: SELECT * FROM by_shop WHERE shop = 07",
-        b"1: SELECT * FROM by_shop WHERE shop = -0",
-        b"1: SELECT * FROM by_shop WHERE shop = +1",
-        b"1: SELECT * FROM by_shop WHERE shop = ",
-        b"1: SELECT * FROM by_shop WHERE shop = -",
-        b"1: SELECT * FROM by_shop WHERE shop = 9223372036854775808",
-        b"1: SELECT * FROM by_shop WHERE shop = -9223372036854775809",
-        b"1: SELECT * FROM by_shop WHERE shop = 7\0",
-        b"1: SELECT * FROM by_shop WHERE shop = \xff",
-        b"1: INSERT INTO sale VALUES (1, 7,10)",
-        b"1: INSERT INTO sale VALUES (1,  7, 10)",
-        b"1: INSERT INTO sale VALUES (1, 7)",
-        b"1: INSERT INTO sale VALUES (1, 7, 10), (2, 7, 10)",
-        b"1: INSERT INTO sale VALUES (1, 7, 10",
+        b"1+",
+        b"clean",
+        b"checkpoint",
+        b"SELECT * FROM by_shop WHERE shop = 7",
+        b"\xff",
+        b"1: \xff",
+        b"1: SELECT * FROM by_shop WHERE shop = 7 -- \xc3",
+        b"1\xef\xbc\x9a SELECT * FROM by_shop WHERE shop = 7",
     ];
-    for line in lines {
-        let mut input = line.to_vec(rt.alloc())?;
-        input.push(b'\n')?;
-        let (status, written) = script(rt.alloc(), &input, 0, 0)?;
-        assert_eq!(rt; status, Status::Done, "{line:?}");
-        assert_eq!(rt; written.as_slice(), BAD_LINE, "{line:?}");
+    check_lines(&rt, rt.alloc(), &lines, BAD_LINE)
+}
+
+#[test]
+fn texts_that_the_grammar_refuses(rt: HostRuntime) -> Result<(), Fail> {
+    let cases: [(&[u8], &[u8]); 16] = [
+        (b"1:", b"1 ERR 1 Syntax 0\n"),
+        (b"1:   ", b"1 ERR 1 Syntax 0\n"),
+        (b"64: SELECT", b"64 ERR 1 Syntax 6\n"),
+        (b"1:   SELEC", b"1 ERR 1 Syntax 0\n"),
+        (b"1:\tSELEC", b"1 ERR 1 Syntax 1\n"),
+        (b"1: \t SELEC", b"1 ERR 1 Syntax 2\n"),
+        (b"1: \xc3\xa9", b"1 ERR 1 Syntax 0\n"),
+        (b"1: -- a comment", b"1 ERR 1 Syntax 12\n"),
+        (b"1: COMMIT COMMIT", b"1 ERR 1 Syntax 7\n"),
+        (
+            b"1: SELECT * FROM by_shop WHERE shop = ",
+            b"1 ERR 1 Syntax 35\n",
+        ),
+        (
+            b"1: SELECT * FROM by_shop WHERE shop = +1",
+            b"1 ERR 1 Syntax 35\n",
+        ),
+        (
+            b"1: SELECT * FROM by_shop WHERE shop = 7\0",
+            b"1 ERR 1 Syntax 36\n",
+        ),
+        (
+            b"1: SELECT * FROM by_shop WHERE shop = 7\r\r",
+            b"1 ERR 1 Syntax 36\n",
+        ),
+        (
+            b"1: INSERT INTO sale VALUES (1, 7, 10",
+            b"1 ERR 1 Syntax 33\n",
+        ),
+        (
+            b"1: SELECT * FROM by_shop WHERE shop = 170141183460469231731687303715884105728",
+            b"1 ERR 6 Limit 2 170141183460469231731687303715884105727\n",
+        ),
+        (
+            b"2: INSERT INTO sale VALUES (1, 7, -170141183460469231731687303715884105728)",
+            b"2 ERR 6 Limit 2 170141183460469231731687303715884105727\n",
+        ),
+    ];
+    for (line, output) in cases {
+        check_lines(&rt, rt.alloc(), &[line], output)?;
+    }
+    Ok(())
+}
+
+#[test]
+fn lines_that_print_nothing(rt: HostRuntime) -> Result<(), Fail> {
+    let inputs: [&[u8]; 11] = [
+        b"",
+        b"\n",
+        b"\r\n",
+        b"\n\r\n\n",
+        b"#",
+        b"#\r",
+        b"#\n",
+        b"# 1: SELECT * FROM by_shop WHERE shop = 7\r\n",
+        b"#\xff\xfe\n",
+        b"##\n\n#x",
+        b"\n# one\n\r\n# two",
+    ];
+    for input in inputs {
+        check_script(&rt, rt.alloc(), input, b"")?;
     }
     Ok(())
 }
 
 #[test]
 fn lines_at_the_edges(rt: HostRuntime) -> Result<(), Fail> {
-    let cases: [(&[u8], &[u8]); 6] = [
-        (b"", b""),
-        (b"\n", BAD_LINE),
+    let cases: [(&[u8], &[u8]); 11] = [
         (
             b"64: SELECT * FROM by_shop WHERE shop = 0",
             b"64 OK 0\n64 COMMIT 2\n",
+        ),
+        (b"1: SELECT * FROM by_shop WHERE shop = 7\r\n", NO_ROW),
+        // a CR that no LF follows stays in its line
+        (
+            b"1: SELECT * FROM by_shop WHERE shop = 7\r",
+            b"1 ERR 1 Syntax 36\n",
+        ),
+        (
+            b"1: SELECT * FROM\r by_shop WHERE shop = 7\n",
+            b"1 ERR 1 Syntax 13\n",
+        ),
+        (b"\r", BAD_LINE),
+        (b"\r\r\n", BAD_LINE),
+        (b"\n\rx\n#\n1:", b"0 ERR 41 BadLine\n1 ERR 1 Syntax 0\n"),
+        (
+            b"# shops\r\n\r\n1: SELECT * FROM by_shop WHERE shop = 7\r\n2:",
+            b"1 OK 0\n1 COMMIT 2\n2 ERR 1 Syntax 0\n",
         ),
         (
             b"9: INSERT INTO sale VALUES (-9223372036854775808, 9223372036854775807, -1)\n9: SELECT * FROM by_shop WHERE shop = 9223372036854775807",
@@ -118,24 +311,67 @@ fn lines_at_the_edges(rt: HostRuntime) -> Result<(), Fail> {
         ),
     ];
     for (input, output) in cases {
-        let (status, written) = script(rt.alloc(), input, 0, 0)?;
-        assert_eq!(rt; status, Status::Done);
-        assert_eq!(rt; written.as_slice(), output);
+        check_script(&rt, rt.alloc(), input, output)?;
+    }
+    Ok(())
+}
+
+// So many of a byte, and what stands behind them.
+fn long_script(alloc: Global, byte: u8, length: usize, end: &[u8]) -> Result<Vec<u8>, AllocError> {
+    let mut input = vec![in alloc; byte; length]?;
+    input.extend_from_slice(end)?;
+    Ok(input)
+}
+
+#[test]
+fn long_lines(rt: HostRuntime) -> Result<(), Fail> {
+    // a line's byte, how often it stands there, what follows, and what the line prints
+    let cases: [(u8, usize, &[u8], &[u8]); 24] = [
+        (b'x', 65_535, b"\n", BAD_LINE),
+        (b'x', 65_536, b"\n", BAD_LINE),
+        (b'x', 65_537, b"\n", TOO_LONG),
+        (b'x', 65_538, b"\n", TOO_LONG),
+        (b'x', 131_072, b"\n", TOO_LONG),
+        (b'x', 200_000, b"\n", TOO_LONG),
+        (b'x', 65_535, b"\r\n", BAD_LINE),
+        (b'x', 65_536, b"\r\n", BAD_LINE),
+        (b'x', 65_537, b"\r\n", TOO_LONG),
+        (b'x', 131_071, b"\r\n", TOO_LONG),
+        (b'x', 65_535, b"\r\r\n", BAD_LINE),
+        (b'x', 65_536, b"\r\r\n", TOO_LONG),
+        (b'x', 65_536, b"", BAD_LINE),
+        (b'x', 65_537, b"", TOO_LONG),
+        (b'x', 65_535, b"\r", BAD_LINE),
+        (b'x', 65_536, b"\r", TOO_LONG),
+        (b'\r', 65_536, b"\r\n", BAD_LINE),
+        (b'\xff', 65_537, b"\n", TOO_LONG),
+        (b'#', 65_536, b"\n", b""),
+        (b'#', 65_536, b"\r\n", b""),
+        (b'#', 65_536, b"", b""),
+        (b'#', 65_537, b"\n", TOO_LONG),
+        (b'#', 65_537, b"\r\n", TOO_LONG),
+        (b'#', 65_537, b"", TOO_LONG),
+    ];
+    for (byte, length, end, output) in cases {
+        let input = long_script(rt.alloc(), byte, length, end)?;
+        let (status, written) = script(rt.alloc(), &input, 0, 0)?;
+        assert_eq!(rt; status, Status::Done, "{length} {end:?}");
+        assert_eq!(rt; written.as_slice(), output, "{length} {end:?}");
     }
     Ok(())
 }
 
 #[test]
-fn long_lines(rt: HostRuntime) -> Result<(), Fail> {
-    for length in [65_535usize, 65_536, 65_537, 65_538, 131_072, 200_000] {
-        let mut input = vec![in rt.alloc(); b'x'; length]?;
-        input.extend_from_slice(b"\n1: SELECT * FROM by_shop WHERE shop = 7\n")?;
+fn a_long_line_is_skipped_to_its_end(rt: HostRuntime) -> Result<(), Fail> {
+    for length in [65_537usize, 131_072, 200_000] {
+        let end = b"\n1: SELECT * FROM by_shop WHERE shop = 7\n";
+        let mut input = long_script(rt.alloc(), b'x', length, end)?;
         input.extend_from_slice(&vec![in rt.alloc(); b'y'; length]?)?;
         let (status, written) = script(rt.alloc(), &input, 0, 0)?;
         assert_eq!(rt; status, Status::Done);
         assert_eq!(rt;
             written.as_slice(),
-            b"0 ERR 41 BadLine\n1 OK 0\n1 COMMIT 2\n0 ERR 41 BadLine\n".as_slice(),
+            b"0 ERR 42 LineTooLong\n1 OK 0\n1 COMMIT 2\n0 ERR 42 LineTooLong\n".as_slice(),
             "{length}"
         );
     }
@@ -266,5 +502,192 @@ fn the_view_as_evaluated_afresh(rt: HostRuntime) -> Result<(), Fail> {
     let (status, written) = script(rt.alloc(), input.as_bytes(), 0, 0)?;
     assert_eq!(rt; status, Status::Done);
     assert_eq!(rt; written.as_slice(), output.as_bytes());
+    Ok(())
+}
+
+// The lines of an input, each with a bar behind it, and `!` for one that is too long.
+fn read_lines(alloc: Global, input: &[u8]) -> Result<Vec<u8>, Fail> {
+    let bytes = Sequence::from_vec(input.to_vec(alloc)?);
+    let mut source = ListSource::new(bytes, calls(alloc, 0)?);
+    let mut lines = LineBuffer::new(alloc)?;
+    let mut read = Vec::new(alloc);
+    for _ in 0..9 {
+        match read_line(&mut source, &mut lines)? {
+            Line::Text => read.extend_from_slice(lines.text())?,
+            Line::TooLong => read.push(b'!')?,
+            Line::End => return Ok(read),
+        }
+        read.push(b'|')?;
+    }
+    Ok(read)
+}
+
+#[test]
+fn lines_of_a_source(rt: HostRuntime) -> Result<(), Fail> {
+    let cases: [(&[u8], &[u8]); 14] = [
+        (b"", b""),
+        (b"\n", b"|"),
+        (b"\r\n", b"|"),
+        (b"a", b"a|"),
+        (b"a\n", b"a|"),
+        (b"a\r\n", b"a|"),
+        (b"a\r\r\n", b"a\r|"),
+        (b"a\r", b"a\r|"),
+        (b"\r", b"\r|"),
+        (b"a\rb\n", b"a\rb|"),
+        (b"a\n\rb\r\nc\r", b"a|\rb|c\r|"),
+        (b"\n\n\r\n", b"|||"),
+        (b"a\n\r", b"a|\r|"),
+        (b"a\n\nb", b"a||b|"),
+    ];
+    for (input, output) in cases {
+        let read = read_lines(rt.alloc(), input)?;
+        assert_eq!(rt; read.as_slice(), output, "{input:?}");
+    }
+    Ok(())
+}
+
+#[test]
+fn long_lines_of_a_source(rt: HostRuntime) -> Result<(), Fail> {
+    // how many bytes stand before what follows, and how many are read of all lines with their bars
+    let cases: [(usize, &[u8], usize); 10] = [
+        (65_536, b"\n", 65_537),
+        (65_537, b"\n", 2),
+        (65_536, b"\r\n", 65_537),
+        (65_537, b"\r\n", 2),
+        (65_536, b"\r\r\n", 2),
+        (65_536, b"", 65_537),
+        (65_537, b"", 2),
+        (65_535, b"\r", 65_537),
+        (65_536, b"\r", 2),
+        (200_000, b"\nx", 4),
+    ];
+    for (length, end, size) in cases {
+        let read = read_lines(rt.alloc(), &long_script(rt.alloc(), b'x', length, end)?)?;
+        assert_eq!(rt; read.len(), size, "{length} {end:?}");
+    }
+    Ok(())
+}
+
+#[test]
+fn sessions_and_texts(rt: HostRuntime) -> Result<(), Fail> {
+    let cases: [(&[u8], u32, &str); 8] = [
+        (b"1:", 1, ""),
+        (b"1:   ", 1, ""),
+        (b"9:x", 9, "x"),
+        (b"10: x ", 10, "x "),
+        (b"64:   x:y", 64, "x:y"),
+        (b"1:\tx", 1, "\tx"),
+        (b"1: \t x", 1, "\t x"),
+        (b"1: \xc3\xa9", 1, "\u{e9}"),
+    ];
+    for (line, session, text) in cases {
+        let read = session_text(line).ok_or("no session's line")?;
+        assert_eq!(rt; read.0, session, "{line:?}");
+        assert_eq!(rt; read.1, text, "{line:?}");
+    }
+    let none: [&[u8]; 12] = [
+        b"", b"1", b"0:", b"01:", b"65:", b"100:", b" 1:", b"1 :", b"1/ x", b"1+", b"\xff",
+        b"1: \xff",
+    ];
+    for line in none {
+        assert!(rt; session_text(line).is_none(), "{line:?}");
+    }
+    Ok(())
+}
+
+fn name(alloc: Global, text: &[u8]) -> Result<Bytes, AllocError> {
+    Ok(Sequence::from_vec(text.to_vec(alloc)?))
+}
+
+fn column(alloc: Global, text: &[u8]) -> Result<Expr, AllocError> {
+    Ok(Expr::Named(Ref {
+        qualifier: None,
+        name: name(alloc, text)?,
+    }))
+}
+
+// INSERT of one row.
+fn insertion(alloc: Global, table: &[u8], numbers: &[i128]) -> Result<Statement, NoMemory> {
+    let mut tuple = Sequence::new(alloc);
+    for number in numbers {
+        tuple.push(Expr::Number(*number))?;
+    }
+    let mut tuples = Sequence::new(alloc);
+    tuples.push(tuple)?;
+    Ok(Statement::Insert {
+        table: name(alloc, table)?,
+        tuples,
+    })
+}
+
+// SELECT * with one comparison.
+fn selection(
+    alloc: Global,
+    relation: &[u8],
+    alias: Option<Bytes>,
+    op: Op,
+    number: i128,
+) -> Result<Statement, NoMemory> {
+    let mut items = Sequence::new(alloc);
+    items.push(Item::All)?;
+    let left = Box::new(alloc, column(alloc, b"shop")?)?;
+    let right = Box::new(alloc, Expr::Number(number))?;
+    Ok(Statement::Select {
+        query: Query {
+            items,
+            first: Relation {
+                name: name(alloc, relation)?,
+                alias,
+            },
+            joins: Sequence::new(alloc),
+            condition: Some(Expr::Pair(op, left, right)),
+            group: Sequence::new(alloc),
+        },
+        order: Sequence::new(alloc),
+    })
+}
+
+#[test]
+fn inserts_that_are_built(rt: HostRuntime) -> Result<(), Fail> {
+    let sale = Sale {
+        id: 1,
+        shop: -7,
+        amount: i64::MIN,
+    };
+    let least = i128::from(i64::MIN);
+    let cases: [(&[u8], &[i128], Option<Form>); 7] = [
+        (b"sale", &[1, -7, least], Some(Form::Insert(sale))),
+        (b"by_shop", &[1, -7, least], None),
+        (b"sales", &[1, -7, least], None),
+        (b"sale", &[1, -7], None),
+        (b"sale", &[1, -7, least, 0], None),
+        (b"sale", &[1, -7, -9_223_372_036_854_775_809], None),
+        (b"sale", &[9_223_372_036_854_775_808, -7, least], None),
+    ];
+    for (table, numbers, form) in cases {
+        let statement = insertion(rt.alloc(), table, numbers)?;
+        assert_eq!(rt; built(statement), form, "{numbers:?}");
+    }
+    Ok(())
+}
+
+#[test]
+fn selects_that_are_built(rt: HostRuntime) -> Result<(), Fail> {
+    let cases: [(&[u8], Op, i128, Option<Form>); 5] = [
+        (b"by_shop", Op::Equal, -7, Some(Form::Select(-7))),
+        (b"by_shop", Op::NotEqual, 7, None),
+        (b"by_shop", Op::AtLeast, 7, None),
+        (b"sale", Op::Equal, 7, None),
+        (b"by_shop", Op::Equal, 9_223_372_036_854_775_808, None),
+    ];
+    for (relation, op, number, form) in cases {
+        let statement = selection(rt.alloc(), relation, None, op, number)?;
+        assert_eq!(rt; built(statement), form, "{number}");
+    }
+    let alias = name(rt.alloc(), b"by_shop")?;
+    let statement = selection(rt.alloc(), b"by_shop", Some(alias), Op::Equal, 7)?;
+    assert_eq!(rt; built(statement), None);
+    assert_eq!(rt; built(Statement::Commit), None);
     Ok(())
 }

@@ -1,6 +1,6 @@
 use Rattle.std.proofs.Common.{◌∙◌, ap, sym, ℤ, pos, get_or}
-use Rattle.iv_types.specs.declared.sale.Sale.{Sale}
-use Rattle.iv_types.specs.declared.sale.ShopTotal.{ShopTotal}
+use Rattle.iv_meaning.specs.declared.sale.Sale.{Sale}
+use Rattle.iv_meaning.specs.declared.sale.ShopTotal.{ShopTotal}
 use Rattle.iv_meaning.specs.Groups.{with_sale}
 use Rattle.iv_meaning.proofs.GroupLemmas.{group_of-more}
 use Rattle.iv_meaning.proofs.plain.view_row.Goals as goal

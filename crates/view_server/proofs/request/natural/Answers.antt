@@ -2,7 +2,8 @@ use Rattle.std.proofs.Common.{◌≡◌, ◌≤◌, ◌<◌, ◌^◌, ◌∙◌,
 use Rattle.std.specs.Prelude.{decimal}
 use Rattle.std.proofs.lemmas.List.{take_rest}
 use Rattle.std.proofs.lemmas.Bool.{false≢true}
-use Rattle.iv_meaning.specs.Number.{digits_at_front, BeginsWithNoDigit, value_of}
+use Rattle.iv_types.specs.Tokens.{value_of}
+use Rattle.iv_meaning.specs.Number.{digits_at_front, BeginsWithNoDigit}
 use Rattle.iv_meaning.proofs.NumberLemmas.{ReadsAs, number_read, number_written}
 use Rattle.view_server.proofs.Digits.{some_value, none_value}
 use Rattle.view_server.proofs.request.natural.Goals as goal

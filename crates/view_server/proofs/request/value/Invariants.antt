@@ -1,5 +1,5 @@
 use Rattle.std.proofs.Common.{◌≡◌, ◌≤◌, drop}
-use Rattle.iv_meaning.specs.Number.{value_onto, value_of}
+use Rattle.iv_types.specs.Tokens.{value_onto, value_of}
 use Rattle.view_server.proofs.request.value.Given as goal
 
 abbrev pub invariant-loop-digit : goal.invariant-loop-digit

@@ -20,7 +20,7 @@ pub returns-in-Ok-End-clause-output : goal.returns-in-Ok-End-clause-output
 returns-in-Ok-End-clause-output g c = λ input before e w.
     let was = c.loop-lines.invariant.serving input before e w in
     let s = moved _ _ _ _ _ _ _ _ _ was (c.in_default-flush.ensures.ok (before ++ was.out) was.wrote) in
-    ended Done _ _ _ _ _ _ _ _ _ s (c.finish.ensures.written (before ++ s.out) s.wrote)
+    ended Done _ _ _ _ _ _ _ _ _ s (rw c.deref.ensures.value at (c.finish.ensures.written (before ++ s.out) s.wrote))
     (whole _ _ _ _ _ _ _ _ _ s (rw c.in-Ok-End.field-0-is at (c.in-Ok-End.ensures.found s.rest s.tells)))
 
 pub returns-in-Ok-End-clause-taken : goal.returns-in-Ok-End-clause-taken
@@ -34,7 +34,7 @@ returns-in-Err-answer_line-clause-output g c = λ input before e w.
     let was = c.loop-lines.invariant.serving input before e w in
     let s = moved _ _ _ _ _ _ _ _ _ was (c.in_default-flush.ensures.ok (before ++ was.out) was.wrote) in
     ended NoMemory _ _ _ _ _ _ _ _ _ s
-    (subst (λ (waits : List ℕ). Finishes NoMemory c.finish-in-Err-answer_line.result (before ++ s.out) waits (g.K.Sink.written c.finish-in-Err-answer_line.new.sink)) c.in-Err-answer_line.ensures.err (c.finish-in-Err-answer_line.ensures.written (before ++ s.out) s.wrote))
+    (subst (λ (waits : List ℕ). Finishes NoMemory c.finish-in-Err-answer_line.result (before ++ s.out) waits (g.K.Sink.written c.finish-in-Err-answer_line.new.sink)) c.in-Err-answer_line.ensures.err (rw c.deref-in-Err-answer_line.ensures.value at (c.finish-in-Err-answer_line.ensures.written (before ++ s.out) s.wrote)))
     (first_lines _ _ _ _ _ _ _ s)
 
 pub loop-lines-preserved-in_default-answer_line : goal.loop-lines-preserved-in_default-answer_line
@@ -56,7 +56,7 @@ returns-in-Err-refuse_line-clause-output g c = λ input before e w.
     let was = c.loop-lines.invariant.serving input before e w in
     let s = moved _ _ _ _ _ _ _ _ _ was (c.in_default-flush.ensures.ok (before ++ was.out) was.wrote) in
     ended NoMemory _ _ _ _ _ _ _ _ _ s
-    (subst (λ (waits : List ℕ). Finishes NoMemory c.finish-in-Err-refuse_line.result (before ++ s.out) waits (g.K.Sink.written c.finish-in-Err-refuse_line.new.sink)) c.in-Err-refuse_line.ensures.err (c.finish-in-Err-refuse_line.ensures.written (before ++ s.out) s.wrote))
+    (subst (λ (waits : List ℕ). Finishes NoMemory c.finish-in-Err-refuse_line.result (before ++ s.out) waits (g.K.Sink.written c.finish-in-Err-refuse_line.new.sink)) c.in-Err-refuse_line.ensures.err (rw c.deref-in-Err-refuse_line.ensures.value at (c.finish-in-Err-refuse_line.ensures.written (before ++ s.out) s.wrote)))
     (first_lines _ _ _ _ _ _ _ s)
 
 pub loop-lines-preserved : goal.loop-lines-preserved
@@ -77,10 +77,10 @@ pub returns-in-Err-ReadFault-clause-output : goal.returns-in-Err-ReadFault-claus
 returns-in-Err-ReadFault-clause-output g c = λ input before e w.
     let was = c.loop-lines.invariant.serving input before e w in
     let s = moved _ _ _ _ _ _ _ _ _ was (c.in_default-flush.ensures.ok (before ++ was.out) was.wrote) in
-    ended ReadFault _ _ _ _ _ _ _ _ _ s (c.finish-in-Err-ReadFault.ensures.written (before ++ s.out) s.wrote) (first_lines _ _ _ _ _ _ _ s)
+    ended ReadFault _ _ _ _ _ _ _ _ _ s (rw c.deref-in-Err-ReadFault.ensures.value at (c.finish-in-Err-ReadFault.ensures.written (before ++ s.out) s.wrote)) (first_lines _ _ _ _ _ _ _ s)
 
 pub returns-in-Err-TooMuch-clause-output : goal.returns-in-Err-TooMuch-clause-output
 returns-in-Err-TooMuch-clause-output g c = λ input before e w.
     let was = c.loop-lines.invariant.serving input before e w in
     let s = moved _ _ _ _ _ _ _ _ _ was (c.in_default-flush.ensures.ok (before ++ was.out) was.wrote) in
-    ended TooMuch _ _ _ _ _ _ _ _ _ s (c.finish-in-Err-TooMuch.ensures.written (before ++ s.out) s.wrote) (first_lines _ _ _ _ _ _ _ s)
+    ended TooMuch _ _ _ _ _ _ _ _ _ s (rw c.deref-in-Err-TooMuch.ensures.value at (c.finish-in-Err-TooMuch.ensures.written (before ++ s.out) s.wrote)) (first_lines _ _ _ _ _ _ _ s)

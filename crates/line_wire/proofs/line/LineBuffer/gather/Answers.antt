@@ -1,25 +1,25 @@
 use Rattle.std.proofs.Common.{◌≡◌, ◌∙◌, ◌<◌, ◌≤◌, ◌+◌, ℕ, List, ◌∷◌, ◌++◌, length, take, drop, ap, sym, subst}
 use Rattle.std.specs.Prelude.{◌⊎◌}
-use Rattle.iv_meaning.specs.Lines.{first_line, after_line, longest_line}
-use Rattle.line_wire.specs.Reading.{Reading}
+use Rattle.iv_meaning.specs.Lines.{after_line}
+use Rattle.line_wire.specs.Reading.{Reading, before_lf, most_kept}
 use Rattle.line_wire.proofs.Pieces.{slice_held, EndsAt, piece_is, rest_is, none_held}
 use Rattle.line_wire.proofs.line.LineBuffer.gather.Goals as goal
 
-ends : (place : ℕ) (slice held : List ℕ) → slice ≡ held → (slice ≡ first_line slice ++ 10 ∷ after_line slice) × (place ≡ length (first_line slice)) → EndsAt place held
+ends : (place : ℕ) (slice held : List ℕ) → slice ≡ held → (slice ≡ before_lf slice ++ 10 ∷ after_line slice) × (place ≡ length (before_lf slice)) → EndsAt place held
 ends place slice held e h = subst (EndsAt place) e h
 
-piece : (place : ℕ) (slice held : List ℕ) → slice ≡ held → EndsAt place held → take place slice ≡ first_line held
+piece : (place : ℕ) (slice held : List ℕ) → slice ≡ held → EndsAt place held → take place slice ≡ before_lf held
 piece place slice held e h = ap (take place) e ∙ piece_is place held h
 
-all : (slice held : List ℕ) → slice ≡ held → first_line slice ≡ slice → first_line held ≡ held
-all slice held e h = subst (λ (xs : List ℕ). first_line xs ≡ xs) e h
+all : (slice held : List ℕ) → slice ≡ held → before_lf slice ≡ slice → before_lf held ≡ held
+all slice held e h = subst (λ (xs : List ℕ). before_lf xs ≡ xs) e h
 
 -- the text, with a piece that is the line's front
 text_is : {L B : Type 0} (old old' new piece piece' : List ℕ) → old ≡ old' → piece ≡ piece' → (L → B × (new ≡ old ++ piece)) → L → B × (new ≡ old' ++ piece')
 text_is old old' new piece piece' e h f l = ((f l).0, (f l).1 ∙ ap (λ (xs : List ℕ). xs ++ piece) e ∙ ap (λ (xs : List ℕ). old' ++ xs) h)
 
-long_is : {L B : Type 0} (old old' piece piece' : List ℕ) → old ≡ old' → piece ≡ piece' → (L → B ⊎ (longest_line < length old + length piece)) → L → B ⊎ (longest_line < length old' + length piece')
-long_is {B = B} old old' piece piece' e h f l = subst (λ (xs : List ℕ). B ⊎ (longest_line < length xs + length piece')) e (subst (λ (xs : List ℕ). B ⊎ (longest_line < length old + length xs)) h (f l))
+long_is : {L B : Type 0} (old old' piece piece' : List ℕ) → old ≡ old' → piece ≡ piece' → (L → B ⊎ (most_kept < length old + length piece)) → L → B ⊎ (most_kept < length old' + length piece')
+long_is {B = B} old old' piece piece' e h f l = subst (λ (xs : List ℕ). B ⊎ (most_kept < length xs + length piece')) e (subst (λ (xs : List ℕ). B ⊎ (most_kept < length old + length xs)) h (f l))
 
 grows_by : (old old' new piece piece' : List ℕ) → old ≡ old' → piece ≡ piece' → length new ≤ length old + length piece → length new ≤ length old' + length piece'
 grows_by old old' new piece piece' e h f = subst (λ (xs : List ℕ). length new ≤ length xs + length piece') e (subst (λ (xs : List ℕ). length new ≤ length old + length xs) h f)
