@@ -10,3 +10,4 @@ pub mod Number
 pub mod Request
 pub mod Transcript
 pub mod Script
+pub mod Values
