@@ -7,7 +7,7 @@ use Rattle.std.proofs.lemmas.Grind.{take_at_read}
 use Rattle.iv_meaning.specs.declared.sale.Sale.{Sale}
 use Rattle.iv_meaning.specs.declared.sale.ShopTotal.{ShopTotal}
 use Rattle.iv_meaning.specs.Table.{Table}
-use Rattle.iv_meaning.specs.View.{sales_of, count_of, total_of, sum_of_amounts}
+use Rattle.iv_meaning.specs.SaleView.{sales_of, count_of, total_of, sum_of_amounts}
 use Rattle.iv_meaning.specs.Groups.{with_sale}
 use Rattle.iv_meaning.proofs.ViewLemmas.{in_group, sum-append}
 

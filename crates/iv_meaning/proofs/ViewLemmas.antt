@@ -5,7 +5,7 @@ use Rattle.std.proofs.lemmas.Int.{ints}
 use Rattle.std.proofs.lemmas.List.Elements.{filter-append}
 use Rattle.iv_meaning.specs.declared.sale.Sale.{Sale}
 use Rattle.iv_meaning.specs.Table.{Table, row_at, with_row}
-use Rattle.iv_meaning.specs.View.{sales_of, count_of, total_of, sum_of_amounts}
+use Rattle.iv_meaning.specs.SaleView.{sales_of, count_of, total_of, sum_of_amounts}
 use Rattle.std.specs.Prelude.{None}
 use Rattle.iv_meaning.proofs.TableLemmas.{with_row_puts}
 

@@ -5,10 +5,10 @@ use Rattle.iv_types.specs.declared.refusal.Refusal.TheVariants.{NoMemory, BadLin
 use Rattle.iv_types.specs.declared.reply.Reply.TheVariants.{Error}
 use Rattle.iv_meaning.specs.declared.form.Form.{Form}
 use Rattle.iv_meaning.specs.Lines.{longest_line}
-use Rattle.iv_meaning.specs.Database.{Database, opened}
+use Rattle.iv_meaning.specs.SaleDatabase.{Database, opened}
 use Rattle.iv_meaning.specs.Reply.{reply_lines}
 use Rattle.iv_meaning.specs.Request.{IsOfSession, Asked, nothing, too_long, bad, refused, statement, Asks}
-use Rattle.iv_meaning.specs.Statement.{alone}
+use Rattle.iv_meaning.specs.SaleStatement.{alone}
 use Rattle.iv_meaning.specs.Transcript.{IsOutput, AnswersFirst, IsOutputPart}
 
 -- the line prints nothing and changes nothing

@@ -1,59 +1,172 @@
--- What a statement means on a database, and what it is told when it runs alone as a transaction of its own.
-use Rattle.std.specs.Prelude.{ℕ, pos, ◌+◌, List, [], ◌∷◌, ◌++◌, map, length, if◌then◌else◌}
-use Rattle.std.specs.Option.{option_to_list}
+-- What a bound statement means on a database: it is refused, or it lists rows, counts rows and keeps changes.
+use Rattle.std.specs.Prelude.{ℕ, ℤ, pos, neg_ℤ, ◌+◌, ◌==◌, ◌^◌, ◌-◌, ◌&&◌, int_le, not, Bool, true, false, List, [], ◌∷◌, ◌++◌, map, filter, length, slice_get, is_some, Option, Some, None, if◌then◌else◌}
+use Rattle.std.specs.List.{list_all, filter_map}
+use Rattle.std.specs.Option.{option_to_list, option_map, option_and_then, option_zip}
+use Rattle.std.specs.FinMap.{get}
+use Rattle.std.specs.Ordering.{eq_by_cmp}
+use Rattle.iv_types.specs.declared.value.Kind.{Kind}
+use Rattle.iv_types.specs.declared.value.Kind.TheVariants.{Int, Huge, Text}
 use Rattle.iv_types.specs.declared.value.Value.{Value}
-use Rattle.iv_types.specs.declared.value.Value.TheVariants.{Number}
+use Rattle.iv_types.specs.declared.value.Value.TheVariants.{Number, Word}
+use Rattle.iv_types.specs.declared.catalog.TableDef.{TableDef}
 use Rattle.iv_types.specs.declared.refusal.Refusal.{Refusal}
-use Rattle.iv_types.specs.declared.refusal.Refusal.TheVariants.{DuplicateKey}
-use Rattle.iv_types.specs.declared.reply.Reply.{Reply}
-use Rattle.iv_types.specs.declared.reply.Reply.TheVariants.{Row, Done, Commit, Error}
-use Rattle.iv_meaning.specs.declared.sale.Sale.{Sale}
-use Rattle.iv_meaning.specs.declared.sale.ShopTotal.{ShopTotal}
-use Rattle.iv_meaning.specs.declared.form.Form.{Form}
-use Rattle.iv_meaning.specs.declared.form.Form.TheVariants.{Insert, Select}
-use Rattle.iv_meaning.specs.Table.{Table, has_key, with_row}
-use Rattle.iv_meaning.specs.Database.{Database}
-use Rattle.iv_meaning.specs.View.{view_row}
+use Rattle.iv_types.specs.declared.refusal.Refusal.TheVariants.{DuplicateKey, NumberRange}
+use Rattle.iv_types.specs.Syntax.{Tree}
+use Rattle.iv_types.specs.Encoding.{row_cmp}
+use Rattle.table_laws.specs.Place.{Place}
+use Rattle.table_laws.specs.Kept.{Change, redo}
+use Rattle.iv_types.specs.Definitions.{kinds_of}
+use Rattle.iv_meaning.specs.Schema.{Schema, Object, view, numbered, as_table}
+use Rattle.iv_meaning.specs.Database.{Row, Rows, Database, rows_of, key_of, set_row}
+use Rattle.iv_meaning.specs.Values.{Outcome, meaning, value_of, is_huge}
+use Rattle.iv_meaning.specs.Query.{BoundQuery, chosen, conjunction}
+use Rattle.iv_meaning.specs.Grouping.{all_of}
+use Rattle.iv_meaning.specs.View.{view_rows, select_answer}
 
--- a statement is refused, or it lists rows, counts them, and leaves rows to be kept
+pub record BoundSet : Type 0 where
+  pub column : ℕ
+  pub value : Tree
+
+pub data BoundTree : Type 0 where
+  -- a CREATE statement, and what it makes
+  create : Object → BoundTree
+  insert : (table : ℕ) (tuples : List (List Tree)) → BoundTree
+  update : (table : ℕ) (sets : List BoundSet) (condition : Option Tree) → BoundTree
+  delete : (table : ℕ) (condition : Option Tree) → BoundTree
+  select : BoundQuery → BoundTree
+  -- BEGIN, COMMIT, ROLLBACK, SAVEPOINT
+  control : BoundTree
+
+-- what a transaction keeps
+pub data Kept : Type 0 where
+  sets : Change Place Row → Kept
+  defines : Object → Kept
+
 pub data Meaning : Type 0 where
-  Refused : (refusal : Refusal) → Meaning
-  Accepted : (listed : List (List Value)) (count : ℕ) (kept : List Sale) → Meaning
+  Refused : Refusal → Meaning
+  -- the kept changes, of which the first was made first
+  Accepted : (listed : List Row) (count : ℕ) (kept : List Kept) → Meaning
 
--- a statement that lists rows counts them
-abbrev pub listing : List (List Value) → Meaning
-listing rows = Accepted rows (length rows) []
+-- ---- stored values
 
--- a row of the view: its shop, its count and its total
-abbrev pub row_of : ShopTotal → List Value
-row_of group = Number group.shop ∷ Number (pos group.count) ∷ Number group.total ∷ []
+-- the value lies inside the column's type
+abbrev pub fits : Kind → Value → Bool
+fits Int (Number n) = int_le (neg_ℤ (pos (2 ^ 63))) n && int_le n (pos (2 ^ 63 - 1))
+fits Huge (Number n) = is_huge n
+fits Text (Word bytes) = true
+fits _ _ = false
 
-abbrev pub means : Form → Table Sale → Meaning
-means (Insert sale) sales = if has_key sale.id sales then Refused DuplicateKey else Accepted [] 1 (sale ∷ [])
-means (Select shop) sales = listing (map row_of (option_to_list (view_row shop sales)))
+abbrev pub if_fitting : Kind → Value → Option Value
+if_fitting kind v = if fits kind v then Some v else None
 
--- the table with these rows inserted
-abbrev pub with_kept : List Sale → Table Sale → Table Sale
-with_kept [] sales = sales
-with_kept (sale ∷ kept) sales = with_kept kept (with_row sale.id sale sales)
+-- what an expression gives, to be stored in a column of this kind
+abbrev pub stored : Kind → Outcome → Option Value
+stored kind o = option_and_then (if_fitting kind) (value_of o)
 
--- a transaction that keeps a row takes the next number
-abbrev pub committed : List Sale → Database → Database
-committed [] db = db
-committed (sale ∷ kept) db = record { number = db.number + 1; sales = with_kept (sale ∷ kept) db.sales }
+-- ---- INSERT
 
--- the replies of a transaction, and the database that it leaves
-pub record Transaction : Type 0 where
-  pub replies : List Reply
-  pub leaves : Database
+abbrev pub tuple_values : List Kind → List Tree → List (Option Value)
+tuple_values [] es = []
+tuple_values kinds [] = []
+tuple_values (kind ∷ kinds) (e ∷ es) = stored kind (meaning e []) ∷ tuple_values kinds es
 
-abbrev pub ended_by : Meaning → Database → Transaction
-ended_by (Refused refusal) db = record { replies = Error refusal ∷ []; leaves = db }
-ended_by (Accepted listed count kept) db = record {
-  replies = map Row listed ++ (Done count ∷ Commit (committed kept db).number ∷ []);
-  leaves = committed kept db;
-}
+-- the rows of the tuples, unless one of them is refused
+abbrev pub tuple_rows : TableDef → List (List Tree) → Option (List Row)
+tuple_rows t tuples = all_of (map (λ tuple. all_of (tuple_values (kinds_of t) tuple)) tuples)
 
--- a statement that is a transaction of its own, and runs alone
-abbrev pub alone : Form → Database → Transaction
-alone form db = ended_by (means form db.sales) db
+-- the rows go in one after another, unless a key is there
+abbrev pub insertions : TableDef → List Row → Rows → Option (List (Change Place Row))
+insertions t [] rows = Some []
+insertions t (row ∷ more) rows =
+    if is_some (get rows (t.number, key_of t row)) then None
+    else option_map (λ changes. record { key = (t.number, key_of t row); before = None; after = Some row } ∷ changes) (insertions t more (set_row rows t.number (key_of t row) (Some row)))
+
+abbrev pub inserted : Option (List (Change Place Row)) → ℕ → Meaning
+inserted None count = Refused DuplicateKey
+inserted (Some changes) count = Accepted [] count (map sets changes)
+
+abbrev pub insert_meaning : TableDef → Option (List Row) → Rows → Meaning
+insert_meaning t None rows = Refused NumberRange
+insert_meaning t (Some more) rows = inserted (insertions t more rows) (length more)
+
+-- ---- UPDATE and DELETE
+
+-- the rows of a table for which the condition, if there is one, is true
+abbrev pub matching : TableDef → Option Tree → Rows → Option (List Row)
+matching t condition rows = chosen (λ row. conjunction (option_to_list condition) (row ∷ [])) (rows_of rows t.number)
+
+-- the value of a column after the assignments, by the row's old values
+abbrev pub column_after : List BoundSet → Row → Kind → ℕ → Value → Option Value
+column_after [] row kind column old = Some old
+column_after (s ∷ ss) row kind column old = if s.column == column then stored kind (meaning s.value (row ∷ [])) else column_after ss row kind column old
+
+abbrev pub columns_after : List BoundSet → Row → List Kind → ℕ → List Value → List (Option Value)
+columns_after ss row [] column values = []
+columns_after ss row kinds column [] = []
+columns_after ss row (kind ∷ kinds) column (old ∷ values) = column_after ss row kind column old ∷ columns_after ss row kinds (column + 1) values
+
+abbrev pub row_after : TableDef → List BoundSet → Row → Option Row
+row_after t ss row = all_of (columns_after ss row (kinds_of t) 0 row)
+
+abbrev pub change_to : TableDef → Row → Option Row → Change Place Row
+change_to t row after = record { key = (t.number, key_of t row); before = Some row; after = after }
+
+-- each of some with the other at its place
+abbrev pub pairs : List Row → List Row → List (Row × Row)
+pairs [] rows = []
+pairs rows [] = []
+pairs (a ∷ as_) (b ∷ bs) = (a, b) ∷ pairs as_ bs
+
+-- a row of which nothing changes is counted and not set
+abbrev pub is_changed : Row × Row → Bool
+is_changed p = not (eq_by_cmp row_cmp p.0 p.1)
+
+abbrev pub updated : TableDef → List Row → Option (List Row) → Meaning
+updated t rows None = Refused NumberRange
+updated t rows (Some after) = Accepted [] (length rows) (map (λ p. sets (change_to t p.0 (Some p.1))) (filter is_changed (pairs rows after)))
+
+abbrev pub update_meaning : TableDef → List BoundSet → Option (List Row) → Meaning
+update_meaning t ss None = Refused NumberRange
+update_meaning t ss (Some rows) = updated t rows (all_of (map (row_after t ss) rows))
+
+abbrev pub delete_meaning : TableDef → Option (List Row) → Meaning
+delete_meaning t None = Refused NumberRange
+delete_meaning t (Some rows) = Accepted [] (length rows) (map (λ row. sets (change_to t row None)) rows)
+
+-- ---- SELECT and CREATE
+
+abbrev pub select_meaning : Option (List Row) → Meaning
+select_meaning None = Refused NumberRange
+select_meaning (Some rows) = Accepted rows (length rows) []
+
+-- a view is refused where a sum of it leaves the HUGE range
+abbrev pub create_meaning : Object → Database → Meaning
+create_meaning (view v) db = if is_some (view_rows db.schema db.rows v) then Accepted [] 0 (defines (view v) ∷ []) else Refused NumberRange
+create_meaning object db = Accepted [] 0 (defines object ∷ [])
+
+-- ---- all statements
+
+-- of a statement on a table; a bound one names a table
+abbrev pub on_table : (TableDef → Meaning) → Option Object → Meaning
+on_table f object = elim (option_and_then as_table object) [
+  | None ↦ Accepted [] 0 []
+  | Some t ↦ f t
+]
+
+abbrev pub bound_meaning : BoundTree → Database → Meaning
+bound_meaning (create object) db = create_meaning object db
+bound_meaning (insert number tuples) db = on_table (λ t. insert_meaning t (tuple_rows t tuples) db.rows) (numbered db.schema number)
+bound_meaning (update number ss condition) db = on_table (λ t. update_meaning t ss (matching t condition db.rows)) (numbered db.schema number)
+bound_meaning (delete number condition) db = on_table (λ t. delete_meaning t (matching t condition db.rows)) (numbered db.schema number)
+bound_meaning (select query) db = select_meaning (select_answer query db)
+bound_meaning control db = Accepted [] 0 []
+
+-- ---- the database after kept changes
+
+abbrev pub keep : Kept → Database → Database
+keep (sets change) db = record db { rows = set_row db.rows change.key.0 change.key.1 change.after }
+keep (defines object) db = record db { schema = db.schema ++ object ∷ [] }
+
+abbrev pub keep_all : List Kept → Database → Database
+keep_all [] db = db
+keep_all (k ∷ ks) db = keep_all ks (keep k db)

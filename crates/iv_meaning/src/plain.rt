@@ -1,7 +1,7 @@
 //! Plain programs of the definitions.
 ghost use Rattle.std.specs.Prelude.{◌≡◌, ◌+◌, ◌<◌, ◌≤◌, ◌^◌, ◌*◌, ℕ, ℤ, pos, ◌+ℤ◌, length, unsigned_abs, if◌then◌else◌};
 ghost use Rattle.std.specs.Ordering.{int_eq};
-ghost use Rattle.iv_meaning.specs.View.{view_row};
+ghost use Rattle.iv_meaning.specs.SaleView.{view_row};
 ghost use Rattle.iv_meaning.specs.Groups.{with_sale, IsSmall};
 
 use crate::{Sale, ShopTotal};

@@ -1,5 +1,10 @@
 //! Why a statement or a line is refused.
+ghost use Rattle.std.specs.Prelude.{◌≡◌};
+ghost use Rattle.iv_types.specs.declared.refusal.Refusal.TheVariants as refusal;
+
+use crate::fault::NoMemory as OutOfMemory;
 use crate::{Bytes, Cycle, Row};
+use std::alloc::{AllocError, AllocFailed};
 use thiserror::Error;
 
 /// A refusal, with the values that its text names. Codes 1 to 15 depend on the statement, the session's mode and the
@@ -106,6 +111,30 @@ pub enum Refusal {
     /// Code 42: the line is too long to be read.
     #[error("the line is too long")]
     LineTooLong,
+}
+
+impl From<OutOfMemory> for Refusal {
+    ghost from_gives = { λ _ r. r ≡ refusal.NoMemory };
+
+    fn from(_: OutOfMemory) -> Self {
+        Refusal::NoMemory
+    }
+}
+
+impl From<AllocError> for Refusal {
+    ghost from_gives = { λ _ r. r ≡ refusal.NoMemory };
+
+    fn from(_: AllocError) -> Self {
+        Refusal::NoMemory
+    }
+}
+
+impl<T: Drop> From<AllocFailed<T>> for Refusal {
+    ghost from_gives = { λ _ r. r ≡ refusal.NoMemory };
+
+    fn from(_: AllocFailed<T>) -> Self {
+        Refusal::NoMemory
+    }
 }
 
 /// A refusal of the engine, without lists.

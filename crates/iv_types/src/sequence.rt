@@ -1,8 +1,10 @@
 //! Lists of values that contracts see as lists.
 ghost use Rattle.std.specs.Prelude.{◌≡◌, [], ◌∷◌, ◌++◌, length, OnOk, OnErr};
+ghost use Rattle.std.specs.Cmp.Lexicographic.{pointwise, slice_cmp, slice_partial_cmp, lists_per, lists_equiv, lists_po, lists_total, lists_agrees, lists_ties};
 
 use crate::NoMemory;
 use std::alloc::Global;
+use std::cmp::Ordering;
 use std::marker::Model;
 
 /// A list. It is made from a `Vec` and given back as one without taking memory.
@@ -75,5 +77,45 @@ impl<T> Sequence<T> {
     {
         self.items.push(item)?;
         Ok(())
+    }
+}
+
+/// Lists are equal where they are as long and their items are.
+impl<T: PartialEq> PartialEq for Sequence<T> {
+    ghost eq = { pointwise T.eq };
+
+    ghost laws = { lists_per T.laws };
+
+    fn eq(&self, other: &Self) -> bool {
+        self.as_slice() == other.as_slice()
+    }
+}
+
+impl<T: Eq> Eq for Sequence<T> {
+    ghost laws = { lists_equiv T.Eq.laws };
+}
+
+/// The first items that differ decide; of a list and a longer one that begins with it, the shorter comes first.
+impl<T: PartialOrd> PartialOrd for Sequence<T> {
+    ghost partial_cmp = { slice_partial_cmp T.partial_cmp };
+
+    ghost laws = { lists_po T.PartialOrd.laws };
+
+    fn partial_cmp(&self, other: &Self) -> Option<Ordering> {
+        self.as_slice().partial_cmp(&other.as_slice())
+    }
+}
+
+impl<T: Ord> Ord for Sequence<T> {
+    ghost cmp = { slice_cmp T.cmp };
+
+    ghost total = { lists_total T.total };
+
+    ghost matches_partial_cmp = { lists_agrees T.matches_partial_cmp };
+
+    ghost matches_eq = { lists_ties T.cmp T.matches_eq };
+
+    fn cmp(&self, other: &Self) -> Ordering {
+        self.as_slice().cmp(&other.as_slice())
     }
 }

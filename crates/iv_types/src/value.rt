@@ -15,8 +15,9 @@ pub enum Kind {
 /// A list of column types.
 pub type KindList = Sequence<Kind>;
 
-/// A value of a column: a number where it is INT or HUGE, a text's bytes where it is TEXT.
-#[derive(Debug, Drop)]
+/// A value of a column: a number where it is INT or HUGE, a text's bytes where it is TEXT. Texts are in the order of their
+/// bytes.
+#[derive(Debug, Drop, PartialEq, Eq, PartialOrd, Ord)]
 pub enum Value {
     Number(i128),
     Word(Bytes),

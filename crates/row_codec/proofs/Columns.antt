@@ -10,7 +10,8 @@ use Rattle.iv_types.specs.declared.catalog.TableDef.{TableDef}
 use Rattle.iv_types.specs.declared.statement.ColumnDef.{ColumnDef}
 use Rattle.row_codec.specs.declared.fault.RowFault.{RowFault}
 use Rattle.row_codec.specs.declared.fault.RowFault.TheVariants.{BadRow, NoMemory}
-use Rattle.row_codec.specs.Columns.{kinds_of, Blames, IsBroken}
+use Rattle.iv_types.specs.Definitions.{kinds_of}
+use Rattle.row_codec.specs.Columns.{Blames, IsBroken}
 
 pub fit_lengths : (ks : List Kind) (vs : List Value) → FitAll ks vs → length ks ≡ length vs
 fit_lengths [] [] h = refl

@@ -1,15 +1,10 @@
 -- What decoding columns answers.
-use Rattle.std.specs.Prelude.{◌≡◌, ◌≢◌, ℕ, ◌<◌, List, [], ◌∷◌, map, Result, Ok, Err}
-use Rattle.iv_types.specs.declared.catalog.TableDef.{TableDef}
+use Rattle.std.specs.Prelude.{◌≡◌, ◌≢◌, ℕ, ◌<◌, List, [], ◌∷◌, Result, Ok, Err}
 use Rattle.iv_types.specs.declared.value.Kind.{Kind}
 use Rattle.iv_types.specs.declared.value.Value.{Value}
 use Rattle.iv_types.specs.BadRow.{Rule, rule_number}
 use Rattle.row_codec.specs.declared.fault.RowFault.{RowFault}
 use Rattle.row_codec.specs.declared.fault.RowFault.TheVariants.{BadRow, NoMemory}
-
--- the kinds of a table's columns
-abbrev pub kinds_of : TableDef → List Kind
-kinds_of table = map (λ column. column.kind) table.columns
 
 -- the fault tells of a rule and a place for which this holds, unless memory ran out
 abbrev pub Blames : (ℕ → ℕ → Type 0) → RowFault → Type 0

@@ -5,7 +5,8 @@ ghost use Rattle.iv_types.specs.declared.value.Kind.TheVariants as kinds;
 ghost use Rattle.iv_types.specs.declared.value.Value.TheVariants as values;
 ghost use Rattle.iv_types.specs.Encoding.{Fits, FitAll, value_bytes, row_bytes, longest_text};
 ghost use Rattle.iv_types.specs.BadRow.{RowBreaks, IsBadRow};
-ghost use Rattle.row_codec.specs.Columns.{kinds_of, Blames, Gives, IsBroken};
+ghost use Rattle.iv_types.specs.Definitions.{kinds_of};
+ghost use Rattle.row_codec.specs.Columns.{Blames, Gives, IsBroken};
 
 use crate::RowFault;
 use crate::text::{LONGEST_TEXT, is_utf8};

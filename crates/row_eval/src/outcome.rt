@@ -1,8 +1,9 @@
 //! What an expression gives, and the operations on that.
-ghost use Rattle.std.specs.Prelude.{◌≡◌, neg_ℤ, ◌+ℤ◌, ◌-ℤ◌, ◌*ℤ◌, ℤ, Bool, Option, Some, None, MatchResult};
+ghost use Rattle.std.specs.Prelude.{◌≡◌, neg_ℤ, ◌+ℤ◌, ◌-ℤ◌, ◌*ℤ◌, ℤ, Bool, Option, Some, None, IfSome, IfNone};
+ghost use Rattle.std.specs.Ordering.{is_eq, is_lt, is_gt};
 ghost use Rattle.std.specs.declared.cmp.Ordering.{Ordering};
-ghost use Rattle.row_eval.specs.declared.outcome.Seen.TheVariants.{OutOfRange};
-ghost use Rattle.iv_meaning.specs.Values.{ranged, arithmetic, opposite, compared, both, either, negated, combined, holds, is_equal, is_less, is_greater, truth};
+ghost use Rattle.row_eval.specs.declared.outcome.Seen.TheVariants.{Refused};
+ghost use Rattle.iv_meaning.specs.Values.{ranged, arithmetic, opposite, compared, both, either, negated, combined, holds, is_true, is_false, truth, refused};
 ghost use Rattle.row_eval.specs.Seen.{outcome_of};
 
 use iv_types::Op;
@@ -14,20 +15,32 @@ pub enum Seen<'a> {
     Number(i128),
     Word(&'a [u8]),
     Truth(bool),
-    /// Arithmetic leaves the HUGE range.
-    OutOfRange,
-    /// The expression is none of a bound statement.
-    Untyped,
+    /// Arithmetic leaves the HUGE range, or the expression is none of a bound statement.
+    Refused,
+}
+
+impl Seen<'_> {
+    fn is_true(self) -> bool
+        ensures { result ≡ is_true (outcome_of self.entry) }
+    {
+        matches!(self, Seen::Truth(true))
+    }
+
+    fn is_false(self) -> bool
+        ensures { result ≡ is_false (outcome_of self.entry) }
+    {
+        matches!(self, Seen::Truth(false))
+    }
 }
 
 // A number, if it lies in the HUGE range.
 fn ranged<'a>(number: Option<i128>) -> Seen<'a>
     ensures some { (n : ℤ) → number ≡ Some n → outcome_of result ≡ ranged n }
-    ensures none { number ≡ None → result ≡ OutOfRange }
+    ensures none { number ≡ None → result ≡ Refused }
 {
     match number {
         Some(number) if number != i128::MIN => Seen::Number(number),
-        _ => Seen::OutOfRange,
+        _ => Seen::Refused,
     }
 }
 
@@ -50,14 +63,13 @@ fn product<'a>(a: i128, b: i128) -> Seen<'a>
 }
 
 // Two numbers, if both sides are such.
-fn numbers<'a>(a: Seen<'a>, b: Seen<'a>) -> Result<(i128, i128), Seen<'a>>
-    ensures { (f : ℤ → ℤ → ℤ) → MatchResult result (λ x. arithmetic f (outcome_of a.entry) (outcome_of b.entry) ≡ ranged (f x.0 x.1)) (λ e. arithmetic f (outcome_of a.entry) (outcome_of b.entry) ≡ outcome_of e) }
+fn numbers(a: Seen<'_>, b: Seen<'_>) -> Option<(i128, i128)>
+    ensures some { (f : ℤ → ℤ → ℤ) → IfSome result (λ x. arithmetic f (outcome_of a.entry) (outcome_of b.entry) ≡ ranged (f x.0 x.1)) }
+    ensures none { (f : ℤ → ℤ → ℤ) → IfNone result (arithmetic f (outcome_of a.entry) (outcome_of b.entry) ≡ refused) }
 {
     match (a, b) {
-        (Seen::Number(a), Seen::Number(b)) => Ok((a, b)),
-        (Seen::OutOfRange, Seen::Number(_) | Seen::OutOfRange)
-        | (Seen::Number(_), Seen::OutOfRange) => Err(Seen::OutOfRange),
-        _ => Err(Seen::Untyped),
+        (Seen::Number(a), Seen::Number(b)) => Some((a, b)),
+        _ => None,
     }
 }
 
@@ -65,8 +77,8 @@ fn add<'a>(a: Seen<'a>, b: Seen<'a>) -> Seen<'a>
     ensures { outcome_of result ≡ arithmetic (λ x y. x +ℤ y) (outcome_of a.entry) (outcome_of b.entry) }
 {
     match numbers(a, b) {
-        Ok((a, b)) => sum(a, b),
-        Err(other) => other,
+        Some((a, b)) => sum(a, b),
+        None => Seen::Refused,
     }
 }
 
@@ -74,8 +86,8 @@ fn subtract<'a>(a: Seen<'a>, b: Seen<'a>) -> Seen<'a>
     ensures { outcome_of result ≡ arithmetic (λ x y. x -ℤ y) (outcome_of a.entry) (outcome_of b.entry) }
 {
     match numbers(a, b) {
-        Ok((a, b)) => difference(a, b),
-        Err(other) => other,
+        Some((a, b)) => difference(a, b),
+        None => Seen::Refused,
     }
 }
 
@@ -83,8 +95,8 @@ fn multiply<'a>(a: Seen<'a>, b: Seen<'a>) -> Seen<'a>
     ensures { outcome_of result ≡ arithmetic (λ x y. x *ℤ y) (outcome_of a.entry) (outcome_of b.entry) }
 {
     match numbers(a, b) {
-        Ok((a, b)) => product(a, b),
-        Err(other) => other,
+        Some((a, b)) => product(a, b),
+        None => Seen::Refused,
     }
 }
 
@@ -94,40 +106,20 @@ pub fn opposite(a: Seen<'_>) -> Seen<'_>
 {
     match a {
         Seen::Number(number) => ranged(number.checked_neg()),
-        Seen::OutOfRange => Seen::OutOfRange,
-        _ => Seen::Untyped,
+        _ => Seen::Refused,
     }
 }
 
 // How two numbers or two texts compare, if both sides are such.
-fn order<'a>(a: Seen<'a>, b: Seen<'a>) -> Result<Ordering, Seen<'a>>
-    ensures { (test : Ordering → Bool) → MatchResult result (λ o. compared test (outcome_of a.entry) (outcome_of b.entry) ≡ truth (test o)) (λ e. compared test (outcome_of a.entry) (outcome_of b.entry) ≡ outcome_of e) }
+fn order(a: Seen<'_>, b: Seen<'_>) -> Option<Ordering>
+    ensures some { (test : Ordering → Bool) → IfSome result (λ o. compared test (outcome_of a.entry) (outcome_of b.entry) ≡ truth (test o)) }
+    ensures none { (test : Ordering → Bool) → IfNone result (compared test (outcome_of a.entry) (outcome_of b.entry) ≡ refused) }
 {
     match (a, b) {
-        (Seen::Number(a), Seen::Number(b)) => Ok(a.cmp(&b)),
-        (Seen::Word(a), Seen::Word(b)) => Ok(a.cmp(b)),
-        (Seen::OutOfRange, Seen::Number(_) | Seen::OutOfRange)
-        | (Seen::Number(_), Seen::OutOfRange) => Err(Seen::OutOfRange),
-        _ => Err(Seen::Untyped),
+        (Seen::Number(a), Seen::Number(b)) => Some(a.cmp(&b)),
+        (Seen::Word(a), Seen::Word(b)) => Some(a.cmp(b)),
+        _ => None,
     }
-}
-
-fn is_equal(order: Ordering) -> bool
-    ensures { result ≡ is_equal order }
-{
-    order == Ordering::Equal
-}
-
-fn is_less(order: Ordering) -> bool
-    ensures { result ≡ is_less order }
-{
-    order == Ordering::Less
-}
-
-fn is_greater(order: Ordering) -> bool
-    ensures { result ≡ is_greater order }
-{
-    order == Ordering::Greater
 }
 
 // What a comparison makes of an order.
@@ -135,12 +127,12 @@ fn holds(op: Op, order: Ordering) -> bool
     ensures { result ≡ holds op order }
 {
     match op {
-        Op::Equal => is_equal(order),
-        Op::NotEqual => !is_equal(order),
-        Op::Less => is_less(order),
-        Op::AtMost => !is_greater(order),
-        Op::Greater => is_greater(order),
-        Op::AtLeast => !is_less(order),
+        Op::Equal => order.is_eq(),
+        Op::NotEqual => order.is_ne(),
+        Op::Less => order.is_lt(),
+        Op::AtMost => order.is_le(),
+        Op::Greater => order.is_gt(),
+        Op::AtLeast => order.is_ge(),
         _ => false,
     }
 }
@@ -150,8 +142,8 @@ fn comparison<'a>(op: Op, a: Seen<'a>, b: Seen<'a>) -> Seen<'a>
     ensures { outcome_of result ≡ compared (holds op) (outcome_of a.entry) (outcome_of b.entry) }
 {
     match order(a, b) {
-        Ok(order) => Seen::Truth(holds(op, order)),
-        Err(other) => other,
+        Some(order) => Seen::Truth(holds(op, order)),
+        None => Seen::Refused,
     }
 }
 
@@ -169,38 +161,30 @@ pub fn combined<'a>(op: Op, a: Seen<'a>, b: Seen<'a>) -> Seen<'a>
     }
 }
 
-/// AND.
+/// AND: false where one side is, whatever the other gives, and true where both are.
 pub fn both<'a>(a: Seen<'a>, b: Seen<'a>) -> Seen<'a>
     ensures { outcome_of result ≡ both (outcome_of a.entry) (outcome_of b.entry) }
 {
-    match (a, b) {
-        (Seen::Truth(a), Seen::Truth(b)) => Seen::Truth(a && b),
-        (Seen::Truth(a), Seen::OutOfRange) | (Seen::OutOfRange, Seen::Truth(a)) => {
-            if a {
-                return Seen::OutOfRange;
-            }
-            Seen::Truth(false)
-        }
-        (Seen::OutOfRange, Seen::OutOfRange) => Seen::OutOfRange,
-        _ => Seen::Untyped,
+    if a.is_false() || b.is_false() {
+        return Seen::Truth(false);
     }
+    if a.is_true() && b.is_true() {
+        return Seen::Truth(true);
+    }
+    Seen::Refused
 }
 
-/// OR.
+/// OR: true where one side is, whatever the other gives, and false where both are.
 pub fn either<'a>(a: Seen<'a>, b: Seen<'a>) -> Seen<'a>
     ensures { outcome_of result ≡ either (outcome_of a.entry) (outcome_of b.entry) }
 {
-    match (a, b) {
-        (Seen::Truth(a), Seen::Truth(b)) => Seen::Truth(a || b),
-        (Seen::Truth(a), Seen::OutOfRange) | (Seen::OutOfRange, Seen::Truth(a)) => {
-            if a {
-                return Seen::Truth(true);
-            }
-            Seen::OutOfRange
-        }
-        (Seen::OutOfRange, Seen::OutOfRange) => Seen::OutOfRange,
-        _ => Seen::Untyped,
+    if a.is_true() || b.is_true() {
+        return Seen::Truth(true);
     }
+    if a.is_false() && b.is_false() {
+        return Seen::Truth(false);
+    }
+    Seen::Refused
 }
 
 /// NOT.
@@ -209,7 +193,6 @@ pub fn negated(a: Seen<'_>) -> Seen<'_>
 {
     match a {
         Seen::Truth(a) => Seen::Truth(!a),
-        Seen::OutOfRange => Seen::OutOfRange,
-        _ => Seen::Untyped,
+        _ => Seen::Refused,
     }
 }

@@ -9,7 +9,7 @@ use Rattle.std.proofs.lemmas.Bool.Decides.{Decides-int_eq}
 use Rattle.iv_meaning.specs.declared.sale.Sale.{Sale}
 use Rattle.iv_meaning.specs.declared.sale.ShopTotal.{ShopTotal}
 use Rattle.iv_meaning.specs.Table.{Table, row_at, with_row}
-use Rattle.iv_meaning.specs.View.{count_of, total_of, view_row}
+use Rattle.iv_meaning.specs.SaleView.{count_of, total_of, view_row}
 use Rattle.iv_meaning.proofs.TableLemmas.{length-with_row}
 use Rattle.iv_meaning.proofs.ViewLemmas.{one_if, amount_if, count_of-with_row, total_of-with_row, total_of_none}
 use Rattle.iv_meaning.specs.Groups.{IsSmall}

@@ -5,7 +5,7 @@ use Rattle.std.proofs.Math.Bool.{and-false}
 use Rattle.std.proofs.lemmas.Bool.{and_parts, false≢true}
 use Rattle.std.proofs.lemmas.List.{take-append-drop}
 use Rattle.iv_meaning.specs.Lines.{is_return, first_line, after_line, lines_of, onto_first}
-use Rattle.iv_meaning.specs.Database.{Database, opened}
+use Rattle.iv_meaning.specs.SaleDatabase.{Database, opened}
 use Rattle.iv_meaning.specs.Transcript.{IsTranscript}
 use Rattle.iv_meaning.specs.Script.{Answers, IsScriptOutput, AnswersFirstLines}
 use Rattle.line_wire.specs.Wire.{WroteFront}

@@ -5,8 +5,8 @@ use Rattle.iv_types.specs.declared.refusal.Refusal.TheVariants.{NoMemory}
 use Rattle.iv_types.specs.declared.reply.Reply.{Reply}
 use Rattle.iv_types.specs.declared.reply.Reply.TheVariants.{Row, Done, Commit, Error}
 use Rattle.iv_meaning.specs.declared.form.Form.{Form}
-use Rattle.iv_meaning.specs.Database.{Database}
-use Rattle.iv_meaning.specs.Statement.{row_of, alone}
+use Rattle.iv_meaning.specs.SaleDatabase.{Database}
+use Rattle.iv_meaning.specs.SaleStatement.{row_of, alone}
 use Rattle.view_server.specs.declared.engine.Answer.{Answer}
 use Rattle.view_server.specs.declared.engine.Answer.TheVariants.{Nothing, Refused, Inserted, Listed}
 

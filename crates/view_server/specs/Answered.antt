@@ -1,7 +1,7 @@
 -- How a line that was read is answered.
 use Rattle.std.specs.Prelude.{◌≡◌, ◌<◌, ◌≤◌, ℕ, List, ◌++◌, length, Option, Some}
 use Rattle.iv_meaning.specs.Lines.{longest_line}
-use Rattle.iv_meaning.specs.Database.{Database}
+use Rattle.iv_meaning.specs.SaleDatabase.{Database}
 use Rattle.iv_meaning.specs.Script.{Answers}
 use Rattle.line_wire.specs.declared.line.Line.{Line}
 use Rattle.line_wire.specs.declared.line.Line.TheVariants.{Text, TooLong, End}

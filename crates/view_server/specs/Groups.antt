@@ -5,7 +5,7 @@ use Rattle.std.specs.BTreeMap.{BTreeMap, get}
 use Rattle.iv_meaning.specs.declared.sale.Sale.{Sale}
 use Rattle.iv_meaning.specs.declared.sale.ShopTotal.{ShopTotal}
 use Rattle.iv_meaning.specs.Table.{Table}
-use Rattle.iv_meaning.specs.View.{view_row}
+use Rattle.iv_meaning.specs.SaleView.{view_row}
 use Rattle.iv_meaning.specs.Groups.{IsSmall}
 
 -- a group with one row more

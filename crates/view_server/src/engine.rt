@@ -3,9 +3,9 @@ ghost use Rattle.std.specs.Prelude.{◌≡◌, ◌≤◌, ◌<◌, ◌+◌, ◌^
 ghost use Rattle.std.specs.Ordering.{int_cmp, int_eq};
 ghost use Rattle.std.specs.BTreeMap.{get, insert_entry};
 ghost use Rattle.iv_meaning.specs.Table.{has_key, with_row};
-ghost use Rattle.iv_meaning.specs.Database.{opened};
-ghost use Rattle.iv_meaning.specs.View.{view_row};
-ghost use Rattle.iv_meaning.specs.Statement.{committed};
+ghost use Rattle.iv_meaning.specs.SaleDatabase.{opened};
+ghost use Rattle.iv_meaning.specs.SaleView.{view_row};
+ghost use Rattle.iv_meaning.specs.SaleStatement.{committed};
 ghost use Rattle.iv_meaning.specs.Groups.{IsSmall};
 ghost use Rattle.view_server.specs.Groups.{grown};
 ghost use Rattle.view_server.specs.Answer.{IsAnswer};
@@ -40,7 +40,7 @@ pub struct Engine {
 
 impl Model for Engine {
     ghost use Rattle.std.specs.Prelude.{◌+◌, length};
-    ghost use Rattle.iv_meaning.specs.Database.{Database};
+    ghost use Rattle.iv_meaning.specs.SaleDatabase.{Database};
 
     ghost Value = { Database };
 

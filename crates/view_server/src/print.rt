@@ -2,7 +2,7 @@
 ghost use Rattle.std.specs.Prelude.{◌≡◌, ◌∷◌, ◌++◌, [], IfOk, OnOk};
 ghost use Rattle.iv_types.specs.declared.reply.Reply.TheVariants.{Row, Done, Commit, Error};
 ghost use Rattle.iv_meaning.specs.Reply.{reply_line, reply_lines};
-ghost use Rattle.iv_meaning.specs.Statement.{row_of};
+ghost use Rattle.iv_meaning.specs.SaleStatement.{row_of};
 ghost use Rattle.view_server.specs.Answer.{replies_of};
 
 use crate::engine::Answer;

@@ -3,7 +3,7 @@ ghost use Rattle.std.specs.Prelude.{◌≡◌, ◌≢◌, ◌↔◌, ◌⊎◌, 
 ghost use Rattle.iv_types.specs.Faults.{Rose, CountsFault};
 ghost use Rattle.iv_meaning.specs.Reply.{reply_lines};
 ghost use Rattle.iv_meaning.specs.Lines.{longest_line};
-ghost use Rattle.iv_meaning.specs.Database.{Database};
+ghost use Rattle.iv_meaning.specs.SaleDatabase.{Database};
 ghost use Rattle.iv_meaning.specs.Script.{Answers};
 ghost use Rattle.line_wire.specs.declared.line.Line.TheVariants.{Text, TooLong};
 ghost use Rattle.line_wire.specs.Wire.{WroteFront};

@@ -5,7 +5,7 @@ use Rattle.iv_types.specs.declared.refusal.Refusal.TheVariants.{NoMemory}
 use Rattle.iv_types.specs.declared.reply.Reply.TheVariants.{Error}
 use Rattle.iv_meaning.specs.declared.form.Form.{Form}
 use Rattle.iv_meaning.specs.Lines.{longest_line}
-use Rattle.iv_meaning.specs.Database.{Database}
+use Rattle.iv_meaning.specs.SaleDatabase.{Database}
 use Rattle.iv_meaning.specs.Reply.{reply_lines}
 use Rattle.iv_meaning.specs.Request.{bad, refused, statement, IsRefusedText, IsStatement}
 use Rattle.iv_meaning.specs.Script.{Answers}

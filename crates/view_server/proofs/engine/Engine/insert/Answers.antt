@@ -3,8 +3,8 @@ use Rattle.std.specs.Prelude.{if◌then◌else◌}
 use Rattle.std.specs.Option.{is_some}
 use Rattle.iv_meaning.specs.declared.sale.Sale.{Sale}
 use Rattle.iv_meaning.specs.Table.{Table, row_at, with_row, has_key}
-use Rattle.iv_meaning.specs.Database.{Database}
-use Rattle.iv_meaning.specs.Statement.{committed}
+use Rattle.iv_meaning.specs.SaleDatabase.{Database}
+use Rattle.iv_meaning.specs.SaleStatement.{committed}
 use Rattle.iv_meaning.proofs.TableLemmas.{with_row-insert_entry, length-with_row}
 use Rattle.view_server.proofs.GroupLemmas.{view_step}
 use Rattle.view_server.proofs.engine.Engine.insert.Goals as goal

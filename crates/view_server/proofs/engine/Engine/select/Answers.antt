@@ -3,8 +3,8 @@ use Rattle.std.specs.Ordering.{int_cmp}
 use Rattle.std.specs.BTreeMap.{get}
 use Rattle.std.proofs.lemmas.Int.{to_z-of_z}
 use mir.Syntax.{w64}
-use Rattle.iv_meaning.specs.Database.{Database}
-use Rattle.iv_meaning.specs.View.{view_row}
+use Rattle.iv_meaning.specs.SaleDatabase.{Database}
+use Rattle.iv_meaning.specs.SaleView.{view_row}
 use Rattle.view_server.proofs.engine.Engine.select.Goals as goal
 
 pub returns : goal.returns

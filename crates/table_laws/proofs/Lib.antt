@@ -1,0 +1,5 @@
+pub mod Place
+pub mod Tables
+pub mod Sums
+pub mod Kept
+pub mod Stored

@@ -1,0 +1,6 @@
+pub mod Members
+pub mod Walking
+pub mod Firsts
+pub mod Cycles
+pub mod Levels
+pub mod Places
