@@ -24,6 +24,9 @@ pub mod Types
 pub mod Shape
 pub mod Binding
 pub mod Plan
+pub mod Reading
+pub mod Sound
 pub mod Transaction
+pub mod Autocommit
 pub mod History
 pub mod Serial

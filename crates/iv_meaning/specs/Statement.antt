@@ -1,5 +1,5 @@
 -- What a bound statement means on a database: it is refused, or it lists rows, counts rows and keeps changes.
-use Rattle.std.specs.Prelude.{ℕ, ℤ, pos, neg_ℤ, ◌+◌, ◌==◌, ◌^◌, ◌-◌, ◌&&◌, int_le, not, Bool, true, false, List, [], ◌∷◌, ◌++◌, map, filter, length, slice_get, is_some, Option, Some, None, if◌then◌else◌}
+use Rattle.std.specs.Prelude.{ℕ, ℤ, pos, neg_ℤ, ◌+◌, ◌==◌, ◌^◌, ◌-◌, ◌&&◌, int_le, nat_le, not, Bool, true, false, List, [], ◌∷◌, ◌++◌, map, filter, length, slice_get, is_some, Option, Some, None, if◌then◌else◌}
 use Rattle.std.specs.List.{list_all, filter_map}
 use Rattle.std.specs.Option.{option_to_list, option_map, option_and_then, option_zip}
 use Rattle.std.specs.FinMap.{get}
@@ -12,7 +12,8 @@ use Rattle.iv_types.specs.declared.catalog.TableDef.{TableDef}
 use Rattle.iv_types.specs.declared.refusal.Refusal.{Refusal}
 use Rattle.iv_types.specs.declared.refusal.Refusal.TheVariants.{DuplicateKey, NumberRange}
 use Rattle.iv_types.specs.Syntax.{Tree}
-use Rattle.iv_types.specs.Encoding.{row_cmp}
+use Rattle.std.specs.Str.{is_utf8}
+use Rattle.iv_types.specs.Encoding.{row_cmp, longest_text}
 use Rattle.table_laws.specs.Place.{Place}
 use Rattle.table_laws.specs.Kept.{Change, redo}
 use Rattle.iv_types.specs.Definitions.{kinds_of}
@@ -53,7 +54,7 @@ pub data Meaning : Type 0 where
 abbrev pub fits : Kind → Value → Bool
 fits Int (Number n) = int_le (neg_ℤ (pos (2 ^ 63))) n && int_le n (pos (2 ^ 63 - 1))
 fits Huge (Number n) = is_huge n
-fits Text (Word bytes) = true
+fits Text (Word bytes) = nat_le (length bytes) longest_text && is_utf8 bytes
 fits _ _ = false
 
 abbrev pub if_fitting : Kind → Value → Option Value

@@ -13,3 +13,4 @@ pub mod BadRow
 pub mod Intervals
 pub mod Sinks
 pub mod Definitions
+pub mod Maps

@@ -2,13 +2,14 @@
 //!
 //! `specs/` has the language's definitions: statements without where they lie in memory (`Syntax`), the tokens of a text
 //! (`Tokens`), the grammar (`Limits`, `Expressions`, `Grammar`), the one text of a statement (`Printing`), the texts of
-//! replies (`Replies`), and rows and keys in bytes (`Encoding`, `BadRow`, `Intervals`).
+//! replies (`Replies`), rows and keys in bytes (`Encoding`, `BadRow`, `Intervals`), and sorted maps (`Maps`).
 #![tactic(auto)]
 
 mod catalog;
 mod expression;
 mod fault;
 mod lock;
+mod maps;
 mod refusal;
 mod reply;
 mod sequence;
@@ -25,6 +26,7 @@ pub use lock::{
     Change, ChangeList, DeltaList, GroupDelta, IndexEntry, IndexEntryList, Kept, KeptList,
     KeptStep, LockMode, Prefix, PrefixList, ViewRow, ViewRowList, Want, WantList,
 };
+pub use maps::SortedMaps;
 pub use refusal::{EngineRefusal, Refusal};
 pub use reply::{Reply, ReplyList};
 pub use sequence::{Bytes, CallList, NameList, NumberList, Places, Sequence};
@@ -34,7 +36,7 @@ pub use statement::{
     Relation, Set, SetList, Statement, TupleList,
 };
 pub use terminal::{KEYWORDS, Terminal};
-pub use value::{Interval, Kind, KindList, Row, RowList, Value};
+pub use value::{Interval, Kind, KindList, Row, RowList, RowsOf, TableRows, Value, copied_row};
 pub use writing::{PieceSink, leaves_tight, stands_close, statement_bytes, write_statement};
 
 /// The number in a disk's header by which its format is known.

@@ -1,5 +1,8 @@
 //! Values and rows.
-use crate::{Bytes, Sequence};
+ghost use Rattle.std.specs.Prelude.{◌≡◌, IfOk};
+
+use crate::{Bytes, NoMemory, Sequence};
+use std::alloc::Global;
 
 /// The type of a column.
 #[derive(Clone, Copy, Debug, PartialEq, Eq)]
@@ -23,11 +26,45 @@ pub enum Value {
     Word(Bytes),
 }
 
+impl Value {
+    /// The same value again.
+    pub fn copied(&self, alloc: Global) -> Result<Value, NoMemory>
+        ensures { IfOk result (λ copy. copy ≡ self.now) }
+    {
+        match self {
+            Value::Number(number) => Ok(Value::Number(*number)),
+            Value::Word(word) => Ok(Value::Word(Bytes::from_vec(word.as_slice().to_vec(alloc)?))),
+        }
+    }
+}
+
+/// The same row again.
+pub fn copied_row(alloc: Global, row: &Row) -> Result<Row, NoMemory>
+    ensures { IfOk result (λ copy. copy ≡ row.now) }
+{
+    let values = row.as_slice();
+    let mut copy = Vec::with_capacity(alloc, values.len())?;
+    for value in values {
+        copy.push(value.copied(alloc)?)?;
+    }
+    Ok(Row::from_vec(copy))
+}
+
 /// A row: one value for each column, in the columns' order.
 pub type Row = Sequence<Value>;
 
 /// A list of rows.
 pub type RowList = Sequence<Row>;
+
+/// The rows of a table, by its object number.
+#[derive(Debug, Drop)]
+pub struct RowsOf {
+    pub table: u32,
+    pub rows: RowList,
+}
+
+/// The rows of some tables, in the order of their numbers.
+pub type TableRows = Sequence<RowsOf>;
 
 /// A range of encoded keys: those at or after `low` and, where there is a high end, before `high`, in lexicographic
 /// order of their bytes.

@@ -1,3 +1,4 @@
 pub mod Seen
 pub mod Wide
 pub mod Grouped
+pub mod Fresh

@@ -1,13 +1,21 @@
 //! Expressions evaluated on rows, and rows grouped.
 #![tactic(auto)]
 
+mod combination;
 mod expression;
+mod fresh;
 mod grouping;
+mod kept_view;
 mod outcome;
+mod readable;
 mod wide;
 
 pub use expression::{passes, value};
-pub use grouping::group;
+pub use fresh::{fresh_rows, rows_of_table};
+pub use grouping::{group, values_at};
+pub use kept_view::recompute;
+pub use readable::is_readable;
+pub use wide::Wide;
 
 #[cfg(test)]
 mod tests;

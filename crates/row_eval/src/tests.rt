@@ -1,5 +1,6 @@
 //! Expressions in postfix form, with what they give on two rows: `a` and `b` are the columns of the first, the number 7 and
 //! the text 'north', and `c` is that of the second, the greatest number.
+mod fresh;
 mod grouping;
 
 use crate::{passes, value};
@@ -52,6 +53,8 @@ fn leaf(alloc: Global, token: &str) -> Result<Expr, Fail> {
         "a" => Ok(at(0, 0)),
         "b" => Ok(at(0, 1)),
         "c" => Ok(at(1, 0)),
+        "d" => Ok(at(0, 2)),
+        "e" => Ok(at(1, 2)),
         "missing" => Ok(at(1, 1)),
         "max" => Ok(Expr::Number(GREATEST)),
         _ => match token.parse::<i128>() {

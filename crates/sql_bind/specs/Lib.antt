@@ -1,2 +1,5 @@
 pub mod Bound
+pub mod Changing
+pub mod Passes
+pub mod Viewing
 pub mod Planning

@@ -1,18 +1,31 @@
 //! Names of a statement bound to what a database defines, and the plan by which its relations are read.
 #![tactic(auto)]
 
+mod binding;
 mod bound;
+mod changing;
+mod copies;
+mod creating;
+mod keeping;
 mod plan_intervals;
 mod plan_kinds;
 mod plan_terms;
 mod planning;
+mod selecting;
+mod viewing;
 
+pub use bind_shape::counting::kinds_at;
+pub use binding::bind;
 pub use bound::{
     Bound, BoundItem, BoundItemList, BoundOrder, BoundOrderList, BoundSet, BoundSetList, Equal,
     EqualList, Plan, PlanPart, PlanPartList, RangeTerm, RangeTermList,
 };
 pub use plan_intervals::{fits_columns, interval};
+pub use plan_kinds::{group_kinds, kinds_of};
+pub use plan_terms::fits;
 pub use planning::plan;
 
+#[cfg(test)]
+mod bind_tests;
 #[cfg(test)]
 mod plan_tests;

@@ -20,7 +20,12 @@ pub fn numbered(catalog: &Catalog, number: u32) -> Option<&Definition>
     catalog.get(number)
 }
 
-fn kinds_of(alloc: Global, table: &TableDef) -> Result<KindList, NoMemory>
+/// The kinds of a table's columns.
+///
+/// # Errors
+///
+/// Where there is no memory for them.
+pub fn kinds_of(alloc: Global, table: &TableDef) -> Result<KindList, NoMemory>
     ensures { IfOk result (λ kinds. kinds ≡ kinds_of table.now) }
 {
     let mut kinds = KindList::new(alloc);
@@ -52,8 +57,12 @@ fn source_kinds(alloc: Global, catalog: &Catalog, view: &ViewDef) -> Result<Rela
     Ok(kinds)
 }
 
-// The kinds of a view's group columns.
-fn group_kinds(alloc: Global, catalog: &Catalog, view: &ViewDef) -> Result<KindList, NoMemory>
+/// The kinds of a view's group columns.
+///
+/// # Errors
+///
+/// Where there is no memory for them.
+pub fn group_kinds(alloc: Global, catalog: &Catalog, view: &ViewDef) -> Result<KindList, NoMemory>
     ensures { IfOk result (λ kinds. kinds ≡ group_kinds (schema_of catalog.now) (view_tree view.now)) }
 {
     let sources = source_kinds(alloc, catalog, view)?;

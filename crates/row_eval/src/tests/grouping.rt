@@ -25,7 +25,7 @@ fn row(alloc: Global, text: &str) -> Result<Row, Fail> {
     Ok(row)
 }
 
-fn list(alloc: Global, text: &str) -> Result<RowList, Fail> {
+pub fn list(alloc: Global, text: &str) -> Result<RowList, Fail> {
     let mut rows = RowList::new(alloc);
     if text.is_empty() {
         return Ok(rows);

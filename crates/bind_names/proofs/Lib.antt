@@ -1,0 +1,7 @@
+pub mod Checking
+pub mod FoundLemmas
+pub mod NameLemmas
+pub mod Objects
+pub mod SortedLemmas
+pub mod TypeLemmas
+pub mod Walks

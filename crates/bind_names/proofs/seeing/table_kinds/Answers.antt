@@ -1,0 +1,11 @@
+use Rattle.std.proofs.Common.{◌∷◌, [], map, refl}
+use Rattle.bind_names.proofs.Walks.{gathered, all_gathered}
+use Rattle.bind_names.proofs.seeing.table_kinds.Goals as goal
+
+pub loop-column-preserved : goal.loop-column-preserved
+loop-column-preserved c =
+    gathered (map (λ d. d.kind)) (c.column-item.result.kind ∷ []) _ _ _ _ _ c.column-item.result c.loop-column-test.true c.column-item.is refl
+    c.in_ok-push.ensures.ok c.loop-column.invariant
+
+pub returns : goal.returns
+returns c = all_gathered (map (λ d. d.kind)) _ _ _ _ c.loop-column-test.false refl c.loop-column.invariant

@@ -1,0 +1,5 @@
+pub mod Checks
+pub mod Families
+pub mod Found
+pub mod Seeing
+pub mod Typing

@@ -1,0 +1,18 @@
+use Rattle.std.proofs.Common.{◌∙◌, ◌||◌, ◌+◌, ap, drop, sym}
+use Rattle.std.specs.List.{list_any}
+use Rattle.iv_meaning.specs.Shape.{is_index}
+use Rattle.bind_names.proofs.Walks.{ended}
+use Rattle.bind_names.specs.Seeing.{scope_seen}
+use Rattle.bind_names.proofs.Walks.{moved_on, left_at}
+use Rattle.bind_shape.proofs.shape.has_index.Goals as goal
+
+pub loop-relation-preserved : goal.loop-relation-preserved
+loop-relation-preserved c =
+    moved_on (λ i zs. list_any is_index (scope_seen zs)) _ _ _ c.relation-item.result c.loop-relation-test.true c.relation-item.is
+    (ap (λ t. t || (list_any is_index (scope_seen (drop (c.loop-relation.relation-index + 1) c.args.scope.now)))) (sym (c.if-is_index.ensures))) c.loop-relation.invariant
+
+pub returns-then-is_index : goal.returns-then-is_index
+returns-then-is_index c = (ap (λ t. t || (list_any is_index (scope_seen (drop (c.loop-relation.relation-index + 1) c.args.scope.now)))) (c.if-is_index.ensures)) ∙ left_at (λ zs. list_any is_index (scope_seen zs)) _ _ _ c.relation-item.result c.loop-relation-test.true c.relation-item.is c.loop-relation.invariant
+
+pub returns : goal.returns
+returns c = ended (λ zs. list_any is_index (scope_seen zs)) _ _ _ c.loop-relation-test.false c.loop-relation.invariant

@@ -1,0 +1,27 @@
+use Rattle.std.proofs.Common.{◌≡◌, ◌∙◌, ◌&&◌, ◌+◌, ap, drop, get_or, length, sym}
+use Rattle.iv_meaning.specs.Shape.{is_count_and_sums, is_view_list}
+use Rattle.bind_shape.proofs.JoinLemmas.{one_view_column}
+use Rattle.bind_names.proofs.Walks.{ended}
+use Rattle.bind_shape.specs.Items.{items_seen, named_item}
+use Rattle.bind_names.specs.Seeing.{scope_seen}
+use Rattle.bind_names.proofs.Walks.{moved_at, left_read}
+use Rattle.std.proofs.lemmas.List.{take_rest, drop-map}
+use Rattle.std.proofs.Common.{arith}
+use Rattle.bind_shape.proofs.shape.is_view_list.Goals as goal
+
+pub loop-index-preserved : goal.loop-index-preserved
+loop-index-preserved c =
+    moved_at (λ i gs. is_view_list gs (drop i (items_seen (scope_seen c.args.scope.now) c.args.items.now))) _ _ _ (record { source = 0; column = 0 }) c.loop-index-test.true
+    (one_view_column (get_or c.args.group.now c.loop-index.index (record { source = 0; column = 0 })) (drop (c.loop-index.index + 1) c.args.group.now) (items_seen (scope_seen c.args.scope.now) c.args.items.now) c.loop-index.index ∙ ap (λ t. t && (is_view_list (drop (c.loop-index.index + 1) c.args.group.now) (drop (c.loop-index.index + 1) (items_seen (scope_seen c.args.scope.now) c.args.items.now)))) (sym c.if-not-is_group_item.ensures)) c.loop-index.invariant
+
+pub returns-then-not-is_group_item : goal.returns-then-not-is_group_item
+returns-then-not-is_group_item c =
+    ap (λ t. t && (is_view_list (drop (c.loop-index.index + 1) c.args.group.now) (drop (c.loop-index.index + 1) (items_seen (scope_seen c.args.scope.now) c.args.items.now)))) c.if-not-is_group_item.ensures ∙ (sym (one_view_column (get_or c.args.group.now c.loop-index.index (record { source = 0; column = 0 })) (drop (c.loop-index.index + 1) c.args.group.now) (items_seen (scope_seen c.args.scope.now) c.args.items.now) c.loop-index.index)
+    ∙ left_read (λ gs. is_view_list gs (drop c.loop-index.index (items_seen (scope_seen c.args.scope.now) c.args.items.now))) _ _ _ (record { source = 0; column = 0 }) c.loop-index-test.true c.loop-index.invariant)
+
+pub returns : goal.returns
+returns c =
+    let e : c.loop-index.index ≡ length c.args.group.now = omega arith in
+    c.is_count_and_sums.ensures ∙ (ap is_count_and_sums (ap (items_seen (scope_seen c.args.scope.now)) (take_rest c.args.items.now (length c.args.group.now))
+    ∙ (sym (drop-map (named_item (scope_seen c.args.scope.now)) (length c.args.group.now) c.args.items.now) ∙ ap (λ n. drop n (items_seen (scope_seen c.args.scope.now) c.args.items.now)) (sym e)))
+    ∙ ended (λ gs. is_view_list gs (drop c.loop-index.index (items_seen (scope_seen c.args.scope.now) c.args.items.now))) _ _ _ c.loop-index-test.false c.loop-index.invariant)

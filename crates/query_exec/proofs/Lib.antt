@@ -1,0 +1,6 @@
+pub mod Conditions
+pub mod Groups
+pub mod InOrder
+pub mod Orders
+pub mod Programs
+pub mod Sorting

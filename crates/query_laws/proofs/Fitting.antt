@@ -1,0 +1,94 @@
+-- Values that fit the kinds of columns, and what the test of fitting tells.
+use Rattle.std.specs.Prelude.{◌≡◌, ℕ, zero, suc, ◌-◌, ◌^◌, ◌<◌, ◌≤◌, ◌&&◌, nat_le, ℤ, pos, negsuc, Bool, true, false, List, [], ◌∷◌, ◌++◌, length, slice_get, Option, Some}
+use Rattle.std.specs.List.{AllByRecursion, cons_option}
+use mathlib.Core.Path.{refl, sym, ap, subst}
+use Rattle.std.proofs.Common.{arith, leb-true}
+use Rattle.std.proofs.lemmas.Str.{IsUtf8-from_is_utf8}
+use Rattle.std.proofs.lemmas.List.Elements.{filter_map-append}
+use Rattle.std.specs.Int.{w64}
+use Rattle.std.specs.Int.RustNames.{FitsSigned}
+use Rattle.iv_types.specs.declared.value.Kind.{Kind}
+use Rattle.iv_types.specs.declared.value.Kind.TheVariants.{Int, Huge, Text}
+use Rattle.iv_types.specs.declared.value.Value.{Value}
+use Rattle.iv_types.specs.declared.value.Value.TheVariants.{Number, Word}
+use Rattle.iv_types.specs.Encoding.{IsHuge, Fits, FitAll, longest_text}
+use Rattle.iv_meaning.specs.Schema.{items_at}
+use Rattle.iv_meaning.specs.Statement.{fits}
+use Rattle.iv_meaning.specs.Values.{is_huge}
+
+pub first : (a b : Bool) → a && b ≡ true → a ≡ true
+first true b h = refl
+first false b h = absurd (cc)
+
+pub second : (a b : Bool) → a && b ≡ true → b ≡ true
+second true b h = h
+second false b h = absurd (cc)
+
+-- ---- the test
+
+huge_pos : (n : ℕ) → nat_le n (2 ^ 127 - 1) ≡ true → IsHuge (pos n)
+huge_pos n e = let le : n ≤ 2 ^ 127 - 1 = leb-true n (2 ^ 127 - 1) e in (record { sfits = omega arith }, λ f. absurd (cc))
+
+huge_neg : (n : ℕ) → nat_le n (2 ^ 127 - 2) ≡ true → IsHuge (negsuc n)
+huge_neg n e =
+    let le : n ≤ 2 ^ 127 - 2 = leb-true n (2 ^ 127 - 2) e in
+    (record { sfits = omega arith }, λ f. let g : n ≡ 2 ^ 127 - 1 = cc in omega (arith, g))
+
+pub huge_fits : (n : ℤ) → is_huge n ≡ true → IsHuge n
+huge_fits (pos n) e = huge_pos n e
+huge_fits (negsuc n) e = huge_neg n (first (nat_le n (2 ^ 127 - 2)) true e)
+
+int_fits : (n : ℤ) → fits Int (Number n) ≡ true → FitsSigned w64 n
+int_fits (pos n) e = let le : n ≤ 2 ^ 63 - 1 = leb-true n (2 ^ 63 - 1) e in record { sfits = omega arith }
+int_fits (negsuc n) e = let le : n ≤ 2 ^ 63 - 1 = leb-true n (2 ^ 63 - 1) (first (nat_le n (2 ^ 63 - 1)) true e) in record { sfits = omega arith }
+
+pub fitting : (k : Kind) (v : Value) → fits k v ≡ true → Fits k v
+fitting Int (Number n) e = int_fits n e
+fitting Huge (Number n) e = huge_fits n e
+fitting Text (Word w) e =
+    (leb-true (length w) longest_text (first (nat_le (length w) longest_text) _ e), IsUtf8-from_is_utf8 w (second (nat_le (length w) longest_text) _ e))
+fitting Int (Word w) e = absurd (cc)
+fitting Huge (Word w) e = absurd (cc)
+fitting Text (Number n) e = absurd (cc)
+
+-- ---- columns of rows that fit
+
+-- the value of a column, which fits its kind
+pub record Column (ks : List Kind) (vs : List Value) (place : ℕ) : Type 0 where
+  pub kind : Kind
+  pub value : Value
+  pub kind_is : slice_get ks place ≡ Some kind
+  pub value_is : slice_get vs place ≡ Some value
+  pub fits : Fits kind value
+
+later : {k : Kind} {v : Value} {ks : List Kind} {vs : List Value} {place : ℕ} → Column ks vs place → Column (k ∷ ks) (v ∷ vs) (suc place)
+later c = record { kind = c.kind; value = c.value; kind_is = c.kind_is; value_is = c.value_is; fits = c.fits }
+
+pub column_at : (ks : List Kind) (vs : List Value) (place : ℕ) → FitAll ks vs → place < length ks → Column ks vs place
+column_at [] vs place f lt = absurd (omega arith)
+column_at (k ∷ ks) [] place f lt = absurd f
+column_at (k ∷ ks) (v ∷ vs) zero f lt = record { kind = k; value = v; kind_is = refl; value_is = refl; fits = f.0 }
+column_at (k ∷ ks) (v ∷ vs) (suc place) f lt = later (column_at ks vs place f.1 (omega arith))
+
+pub inside : {X : Type 0} (xs : List X) (place : ℕ) (x : X) → slice_get xs place ≡ Some x → place < length xs
+inside [] place x e = absurd (cc)
+inside (y ∷ xs) zero x e = omega arith
+inside (y ∷ xs) (suc place) x e = let rest : place < length xs = inside xs place x e in omega arith
+
+-- places of columns
+abbrev pub ArePlaces : List Kind → List ℕ → Type 0
+ArePlaces ks places = AllByRecursion (λ p. p < length ks) places
+
+pub items_fit : (ks : List Kind) (vs : List Value) (places : List ℕ) → FitAll ks vs → ArePlaces ks places → FitAll (items_at ks places) (items_at vs places)
+items_fit ks vs [] f h = tt
+items_fit ks vs (p ∷ places) f h =
+    let c : Column ks vs p = column_at ks vs p f h.0 in
+    let rest : FitAll (items_at ks places) (items_at vs places) = items_fit ks vs places f h.1 in
+    subst (λ (k : Option Kind). FitAll (cons_option k (items_at ks places)) (cons_option (slice_get vs p) (items_at vs places))) (sym c.kind_is)
+    (subst (λ (v : Option Value). FitAll (c.kind ∷ items_at ks places) (cons_option v (items_at vs places))) (sym c.value_is) (c.fits, rest))
+
+pub items_next : {X : Type 0} (xs : List X) (place : ℕ) (places : List ℕ) (x : X) → slice_get xs place ≡ Some x → items_at xs (place ∷ places) ≡ x ∷ items_at xs places
+items_next xs place places x e = ap (λ o. cons_option o (items_at xs places)) e
+
+pub items_append : {X : Type 0} (xs : List X) (ps qs : List ℕ) → items_at xs (ps ++ qs) ≡ items_at xs ps ++ items_at xs qs
+items_append xs ps qs = filter_map-append (slice_get xs) ps qs

@@ -1,0 +1,14 @@
+pub mod Each
+pub mod Rising
+pub mod TableRows
+pub mod Keys
+pub mod Fitting
+pub mod TermLemmas
+pub mod PartLemmas
+pub mod Choosing
+pub mod IndexRows
+pub mod GroupRows
+pub mod Relations
+pub mod ReadingLemmas
+pub mod SoundLemmas
+pub mod CreatingLemmas

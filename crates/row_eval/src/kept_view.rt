@@ -1,0 +1,147 @@
+//! Views evaluated afresh, as the rows that are kept of them.
+ghost use Rattle.std.specs.Prelude.{◌≡◌, ◌≤◌, ◌<◌, ◌+◌, ◌++◌, [], ◌∷◌, length, map, take, drop, slice_get, IfOk, Some};
+ghost use Rattle.std.specs.List.{filter_map};
+ghost use Rattle.std.specs.Option.{option_map};
+ghost use Rattle.iv_types.specs.Encoding.{FitAll, key_bytes};
+ghost use Rattle.iv_meaning.specs.Schema.{schema_of, view_tree, numbered, kinds_of_table, sources_of, kind_at, group_kinds};
+ghost use Rattle.iv_meaning.specs.Grouping.{number_in};
+ghost use Rattle.row_eval.specs.Grouped.{Gives};
+ghost use Rattle.row_eval.specs.Fresh.{fresh, IsReadable, IsReadableView, kept_row, view_row, recomputed};
+
+use crate::fresh::fresh_rows;
+use iv_types::{
+    Catalog, ColumnAt, Definition, Kind, NoMemory, NumberList, Refusal, Row, TableRows, Value,
+    ViewDef, ViewRow, ViewRowList,
+};
+use row_codec::encode_key;
+use std::alloc::Global;
+
+// The table that a view reads at this place.
+fn source_of(view: &ViewDef, source: u32) -> Option<u32>
+    ensures { result ≡ slice_get (sources_of (view_tree view.now)) source }
+{
+    match source {
+        0 => Some(view.first),
+        1 => match &view.second {
+            Some(second) => Some(second.table),
+            None => None,
+        },
+        _ => None,
+    }
+}
+
+/// The kind of a table's column.
+pub fn kind_in(catalog: &Catalog, table: u32, column: u32) -> Option<Kind>
+    ensures { result ≡ slice_get (kinds_of_table (numbered (schema_of catalog.now) table)) column }
+{
+    match catalog.get(table) {
+        Some(Definition::Table(table)) => match table.columns.as_slice().get(column as usize) {
+            Some(column) => Some(column.kind),
+            None => None,
+        },
+        _ => None,
+    }
+}
+
+// The kind of a column of a view's tables.
+fn kind_of(catalog: &Catalog, view: &ViewDef, place: ColumnAt) -> Option<Kind>
+    ensures { result ≡ kind_at (map (λ n. kinds_of_table (numbered (schema_of catalog.now) n)) (sources_of (view_tree view.now))) place }
+{
+    match source_of(view, place.source) {
+        Some(table) => kind_in(catalog, table, place.column),
+        None => None,
+    }
+}
+
+// The kinds of a view's group columns.
+fn kinds_of_group(alloc: Global, catalog: &Catalog, view: &ViewDef) -> Result<Vec<Kind>, NoMemory>
+    ensures { IfOk result (λ kinds. kinds.items ≡ group_kinds (schema_of catalog.now) (view_tree view.now)) }
+{
+    let group = view.group.as_slice();
+    let mut kinds = Vec::new(alloc);
+    for index in 0..group.len() {
+        if let Some(kind) = kind_of(catalog, view, group[index]) {
+            kinds.push(kind)?;
+        }
+    }
+    Ok(kinds)
+}
+
+// A value as a number.
+fn number_of(value: &Value) -> i128
+    ensures { result ≡ number_in (Some value.now) }
+{
+    match value {
+        Value::Number(number) => *number,
+        Value::Word(_) => 0,
+    }
+}
+
+// The values as numbers.
+fn numbers_of(alloc: Global, values: &[Value]) -> Result<NumberList, NoMemory>
+    ensures { IfOk result (λ numbers. numbers ≡ map (λ value. number_in (Some value)) values.now) }
+{
+    let mut numbers = NumberList::new(alloc);
+    for index in 0..values.len() {
+        numbers.push(number_of(&values[index]))?;
+    }
+    Ok(numbers)
+}
+
+// A listed row of a view as it is kept. Its group has so many columns, of these kinds.
+fn kept_row(alloc: Global, kinds: &[Kind], width: usize, row: &[Value]) -> Result<ViewRow, NoMemory>
+    requires width { width < length row.now }
+    requires fits { FitAll kinds.now (take width row.now) }
+    ensures { IfOk result (λ kept. kept ≡ kept_row (key_bytes kinds.now (take width row.now)) width row.now) }
+{
+    let group = encode_key(alloc, kinds, &row[..width])?;
+    let sums = numbers_of(alloc, &row[width + 1..])?;
+    Ok(ViewRow {
+        group,
+        count: number_of(&row[width]),
+        sums,
+    })
+}
+
+// The rows of a view as they are kept.
+fn kept_rows(
+    alloc: Global,
+    catalog: &Catalog,
+    view: &ViewDef,
+    tables: &TableRows,
+) -> Result<ViewRowList, Refusal>
+    requires { IsReadable (schema_of catalog.now) tables.now (view_tree view.now) }
+    ensures { Gives (option_map (map (view_row (schema_of catalog.now) (view_tree view.now))) (fresh (schema_of catalog.now) tables.now (view_tree view.now))) result }
+{
+    let rows = fresh_rows(alloc, catalog, view, tables)?;
+    let rows = rows.as_slice();
+    let kinds = kinds_of_group(alloc, catalog, view)?;
+    let width = view.group.as_slice().len();
+    let mut found = ViewRowList::new(alloc);
+    for index in 0..rows.len() {
+        found.push(kept_row(alloc, kinds.as_slice(), width, rows[index].as_slice())?)?;
+    }
+    Ok(found)
+}
+
+/// The rows of a view as they are kept, evaluated afresh on the rows of its tables: for each group its encoded values, how
+/// many combinations of rows it has, and its sums, in the order of the groups.
+///
+/// # Errors
+///
+/// `NumberRange` where a condition is refused, or where a whole sum lies outside the HUGE range, whatever its parts are;
+/// `NoMemory`.
+pub fn recompute(
+    alloc: Global,
+    catalog: &Catalog,
+    view: u32,
+    tables: &TableRows,
+) -> Result<ViewRowList, Refusal>
+    requires { IsReadableView (schema_of catalog.now) tables.now (numbered (schema_of catalog.now) view) }
+    ensures { Gives (recomputed (schema_of catalog.now) tables.now (numbered (schema_of catalog.now) view)) result }
+{
+    match catalog.get(view) {
+        Some(Definition::View(view)) => kept_rows(alloc, catalog, view, tables),
+        _ => unreachable!(),
+    }
+}

@@ -1,0 +1,13 @@
+use Rattle.std.proofs.Common.{◌∷◌, ◌∙◌, [], ap, map, refl}
+use Rattle.std.proofs.lemmas.List.{map_push}
+use Rattle.bind_names.proofs.Walks.{all_gathered, gathered}
+use Rattle.bind_names.specs.Seeing.{names_in}
+use Rattle.sql_bind.proofs.creating.column_names.Goals as goal
+
+pub loop-column-preserved : goal.loop-column-preserved
+loop-column-preserved c =
+    gathered (map (λ d. d.name)) (c.column-item.result.name ∷ []) _ _ _ _ _ c.column-item.result c.loop-column-test.true c.column-item.is refl
+    (ap names_in c.in_ok-push.ensures.items ∙ map_push (λ b. b.now) c.loop-column.found.items _) c.loop-column.invariant
+
+pub returns : goal.returns
+returns c = all_gathered (map (λ d. d.name)) _ _ _ _ c.loop-column-test.false refl c.loop-column.invariant

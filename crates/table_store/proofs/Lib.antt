@@ -1,0 +1,6 @@
+pub mod Places
+pub mod Maps
+pub mod Walks
+pub mod Sizes
+pub mod Rows
+pub mod Fresh

@@ -1,0 +1,14 @@
+use Rattle.std.proofs.Common.{List, sym, ap, ◌∙◌, subst, slice_get, is_lt}
+use Rattle.iv_types.specs.Maps.{Entry, entry_at}
+use Rattle.table_store.specs.Lists.{IsPlace, Listed}
+use Rattle.table_store.proofs.Maps.{by_bytes, entry_at_place}
+use Rattle.table_store.proofs.entry_list.EntryList.first_at.Goals as goal
+
+pub returns : goal.returns
+returns c =
+    let es = c.self.inside.entries.items in
+    let key = c.args.key.now in
+    let at = c.place_at.result in
+    let place = subst (λ (l : List Entry). IsPlace (λ k. is_lt (by_bytes k key)) l at) c.deref-2.ensures.value c.place_at.ensures in
+    c.entry.ensures ∙ (ap (λ (l : List Entry). slice_get l at) c.deref.ensures.value
+    ∙ (sym (entry_at_place es c.self.invariant key at place) ∙ ap (λ (l : Listed). entry_at l.map key) c.self.view_is))

@@ -1,0 +1,133 @@
+-- What sorted maps hold of the rows of a database's tables.
+use Rattle.std.specs.Prelude.{◌≡◌, ◌≢◌, ℕ, ◌+◌, ◌≤◌, Bool, true, List, [], ◌∷◌, Option, Some, None, IsSome, IfSome, is_some, filter, if◌then◌else◌}
+use Rattle.std.specs.Option.{option_map, option_map_or}
+use Rattle.std.specs.Ordering.{nat_cmp, is_lt}
+use Rattle.std.specs.Cmp.Lexicographic.{slice_cmp}
+use Rattle.std.specs.FinMap.{FinMap, get, insert, entries}
+use Rattle.iv_types.specs.declared.value.Value.{Value}
+use Rattle.iv_types.specs.declared.value.Interval.{Interval}
+use Rattle.iv_types.specs.declared.lock.Change.{Change}
+use Rattle.iv_types.specs.declared.lock.IndexEntry.{IndexEntry}
+use Rattle.iv_types.specs.declared.lock.Kept.{Kept}
+use Rattle.iv_types.specs.declared.catalog.TableDef.{TableDef}
+use Rattle.iv_types.specs.declared.catalog.Definition.{Definition}
+use Rattle.iv_types.specs.declared.catalog.Definition.TheVariants.{Table}
+use Rattle.iv_types.specs.Definitions.{Definitions, numbered, kinds_of}
+use Rattle.iv_types.specs.Encoding.{FitAll, row_bytes}
+use Rattle.iv_types.specs.Maps.{Map, Entry, CanHold, IsWithin, used, with_map}
+use Rattle.iv_meaning.specs.Database.{Rows, key_of, set_row}
+use Rattle.iv_meaning.specs.View.{lies_in}
+use Rattle.table_laws.specs.Table.{write}
+
+-- ---- the table of an object number
+
+abbrev pub as_table : Option Definition → Option TableDef
+as_table (Some (Table t)) = Some t
+as_table _ = None
+
+abbrev pub table_of : Definitions → ℕ → Option TableDef
+table_of definitions number = as_table (numbered definitions number)
+
+-- ---- rows as they are stored
+
+-- the bytes of a row, or none
+abbrev pub stored : TableDef → Option (List Value) → Option (List ℕ)
+stored t row = option_map (row_bytes (kinds_of t)) row
+
+-- the row fits the table, and its encoded primary key is this one
+abbrev pub StandsUnder : TableDef → List ℕ → List Value → Type 0
+StandsUnder t key row = FitAll (kinds_of t) row × (key ≡ key_of t row)
+
+-- The map holds the table's rows: the bytes of each under its key, and nothing else.
+pub record HoldsTable (rows : Rows) (t : TableDef) (m : Map) : Type 0 where
+  pub same : (key : List ℕ) → get m key ≡ stored t (get rows (t.number, key))
+  pub fitting : (key : List ℕ) (row : List Value) → get rows (t.number, key) ≡ Some row → StandsUnder t key row
+
+-- the maps hold the rows of all tables
+abbrev pub Holds : Definitions → Rows → (ℕ → Map) → Type 0
+Holds definitions rows maps = (t : TableDef) → table_of definitions t.number ≡ Some t → HoldsTable rows t (maps t.number)
+
+-- each entry is a row of the table under its key
+abbrev pub AreRows : TableDef → Map → Type 0
+AreRows t m = (key value : List ℕ) → get m key ≡ Some value → (row : List Value) × StandsUnder t key row × (value ≡ row_bytes (kinds_of t) row)
+
+-- before the high end, if there is one
+abbrev pub before : Option (List ℕ) → List ℕ → Bool
+before high key = option_map_or (λ end. is_lt (slice_cmp nat_cmp key end)) high true
+
+-- the entries whose keys lie in the interval
+abbrev pub between : Interval → List Entry → List Entry
+between interval es = filter (λ e. lies_in e.0 interval) es
+
+-- the rows that the entries are, in their order
+abbrev pub Decode : TableDef → List Entry → List (List Value) → Type 0
+Decode t [] [] = Unit {0}
+Decode t (e ∷ es) (row ∷ rows) = FitAll (kinds_of t) row × (e.1 ≡ row_bytes (kinds_of t) row) × Decode t es rows
+Decode t _ _ = ⊥
+
+-- ---- one key
+
+-- an entry of an index, or none
+abbrev pub entries_of : ℕ → List ℕ → Option (List ℕ) → List IndexEntry
+entries_of index key None = []
+entries_of index key (Some value) = record { index = index; key = key; value = value } ∷ []
+
+-- how many entries there are under a key
+abbrev pub how_many : Option (List ℕ) → ℕ
+how_many value = if is_some value then 1 else 0
+
+-- a value can be put under the key: its size, and what all entries count then
+pub record CanPut (maps : ℕ → Map) (limit : Option ℕ) (index : ℕ) (key bytes : List ℕ) : Type 0 where
+  pub held : CanHold index key bytes
+  pub within : IsWithin limit (used (with_map maps index (insert (maps index) key bytes)))
+
+-- there is room where an entry is new
+abbrev pub HasRoom : (ℕ → Map) → (ℕ → ℕ) → ℕ → List ℕ → Option (List ℕ) → Type 0
+HasRoom maps spare index key value = IsSome value → get (maps index) key ≡ None → 1 ≤ spare index
+
+-- This value or none is put under the key, and all else stays. An entry that is new takes the room of one at most, and
+-- one that goes gives it back.
+pub record Sets (index : ℕ) (key : List ℕ) (value : Option (List ℕ)) (old new : ℕ → Map) (spare_old spare_new : ℕ → ℕ) : Type 0 where
+  pub entry : new index ≡ write (old index) key value
+  pub others : (i : ℕ) → i ≢ index → new i ≡ old i
+  pub spare : spare_old index + how_many (get (old index) key) ≤ spare_new index + how_many value
+  pub other_spares : (i : ℕ) → i ≢ index → spare_old i ≤ spare_new i
+
+-- ---- a change of a row
+
+-- The change is one of the table: its rows stand under its key and differ, and the row before is the one that is there.
+pub record IsChange (change : Change) (maps : ℕ → Map) (limit : Option ℕ) (t : TableDef) : Type 0 where
+  pub is_there : get (maps change.table) change.key ≡ stored t change.before
+  pub row_before : IfSome change.before (StandsUnder t change.key)
+  pub row_after : IfSome change.after (StandsUnder t change.key)
+  pub differ : change.before ≢ change.after
+  pub can : IfSome (stored t change.after) (CanPut maps limit change.table change.key)
+
+-- the change, with the entries that it removed and made
+pub record IsKept (change : Change) (kept : Kept) (t : TableDef) : Type 0 where
+  pub change_is : kept.change ≡ change
+  pub removed : kept.gone ≡ entries_of change.table change.key (stored t change.before)
+  pub made : kept.made ≡ entries_of change.table change.key (stored t change.after)
+
+-- The change can be taken back: it was kept so, its row after is the one that is there, and where it took an entry away
+-- there is room for it.
+pub record CanTakeBack (kept : Kept) (maps : ℕ → Map) (spare : ℕ → ℕ) (limit : Option ℕ) (t : TableDef) : Type 0 where
+  pub is_kept : IsKept kept.change kept t
+  pub is_there : get (maps kept.change.table) kept.change.key ≡ stored t kept.change.after
+  pub row_before : IfSome kept.change.before (StandsUnder t kept.change.key)
+  pub can : IfSome (stored t kept.change.before) (CanPut maps limit kept.change.table kept.change.key)
+  pub room : HasRoom maps spare kept.change.table kept.change.key (stored t kept.change.before)
+
+-- ---- by the number of a table
+
+-- the number is that of a table, and this holds of it
+abbrev pub IsTableAnd : Definitions → ℕ → (TableDef → Type 0) → Type 0
+IsTableAnd definitions number P = (t : TableDef) × (table_of definitions number ≡ Some t) × P t
+
+-- this holds of the table of that number
+abbrev pub OfTable : Definitions → ℕ → (TableDef → Type 0) → Type 0
+OfTable definitions number P = (t : TableDef) → table_of definitions number ≡ Some t → P t
+
+-- what holds the rows before holds them after with this row or none under a key of a table
+abbrev pub SetsRow : Definitions → ℕ → List ℕ → Option (List Value) → (ℕ → Map) → (ℕ → Map) → Type 0
+SetsRow definitions table key row old new = (rows : Rows) → Holds definitions rows old → Holds definitions (set_row rows table key row) new

@@ -1,0 +1,13 @@
+//! Tables over sorted maps, and sorted maps as lists in memory.
+#![tactic(auto)]
+
+mod entry_list;
+mod list_maps;
+mod stored;
+mod tables;
+
+pub use list_maps::ListMaps;
+pub use tables::Tables;
+
+#[cfg(test)]
+mod tests;

@@ -1,0 +1,8 @@
+//! The steps of transactions: what a session asks of an engine, and what it is answered.
+#![tactic(auto)]
+
+mod step;
+mod stepper;
+
+pub use step::{Act, Answer, LastRefusal, Step, Turn};
+pub use stepper::Stepper;

@@ -1,0 +1,72 @@
+//! Steps, answers and turns.
+use iv_types::{
+    Catalog, EngineRefusal, Interval, LockMode, Mode, Refusal, ReplyList, RowList, Sessions,
+    Statement,
+};
+
+/// What a session asks of an engine: the atomic step.
+#[derive(Debug, Drop)]
+pub struct Step {
+    /// From 1 to 64, or 0 for the engine's own steps.
+    pub session: u32,
+    pub act: Act,
+}
+
+/// What a step is to do.
+#[derive(Debug, Drop)]
+pub enum Act {
+    /// Opens a transaction.
+    Begin(Mode),
+    /// Gives a copy of the catalog.
+    Defs,
+    /// Locks an interval of an index and gives its rows, in the order of the index's keys.
+    Fetch {
+        index: u32,
+        interval: Interval,
+        mode: LockMode,
+    },
+    /// Commits the session's transaction.
+    Commit,
+    /// Ends the session's transaction, which kept no change, without a commit.
+    End,
+    /// Runs one CREATE statement as a transaction of its own.
+    Schema(Statement),
+}
+
+/// What a step is answered.
+#[derive(Debug, Drop)]
+pub enum Answer {
+    /// A transaction is open, with the greatest commit number and the number of definitions.
+    Begun { number: u64, defs: u32 },
+    Defs(Catalog),
+    Rows(RowList),
+    /// The transaction has ended without a commit.
+    Ended,
+    /// The transaction is committed, and this is its number; where it kept no change, the greatest number, or of a
+    /// snapshot its own.
+    Committed(u64),
+    /// The step waits for these sessions, and did nothing.
+    Blocked(Sessions),
+    /// The engine refuses the step.
+    Refused(EngineRefusal),
+    /// The statement's meaning is a refusal.
+    Denied(Refusal),
+}
+
+/// The last refusal of a session's steps, and the number of that step, counted from 1.
+#[derive(Clone, Copy, Debug)]
+pub struct LastRefusal {
+    pub step: u64,
+    pub refusal: EngineRefusal,
+}
+
+/// What a statement that runs step by step does next.
+#[derive(Debug, Drop)]
+pub enum Turn {
+    /// It wants this step, and its answer.
+    Want(Step),
+    /// It has ended, with these replies.
+    Done(ReplyList),
+    /// There is no memory for its next step. It stands as before.
+    NoMemory,
+}

@@ -1,0 +1,26 @@
+//! Engines that do steps.
+ghost use Rattle.std.specs.Prelude.{◌≡◌, ℕ, Option};
+ghost use Rattle.std.specs.Option.{option_map};
+ghost use Rattle.txn_book.specs.State.{State};
+ghost use Rattle.txn_book.specs.Steps.{May, Moves};
+
+use crate::{Answer, LastRefusal, Step};
+
+/// An engine that does steps, one at a time.
+pub trait Stepper {
+    /// Which state the engine is in.
+    ghost stands: { Self → State → Type 0 };
+
+    /// Does a step. Steps are counted from 1; a step that is answered `Stopped` is not counted.
+    fn step(&mut self, step: &Step) -> Answer
+        requires { (s : State) → stands self.old s → May s step.now }
+        ensures { (s : State) → stands self.old s → Moves (stands self.new) s step.now result };
+
+    /// How many steps were done.
+    fn steps_done(&self) -> u64
+        ensures { (s : State) → stands self.now s → result ≡ s.steps };
+
+    /// The session's last step that the engine refused, if there is one.
+    fn refused(&self, session: u32) -> Option<LastRefusal>
+        ensures { (s : State) → stands self.now s → result ≡ s.refused session };
+}
