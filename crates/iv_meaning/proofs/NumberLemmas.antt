@@ -1,13 +1,10 @@
 -- A number at the front of a text: its digits end where no digit follows.
-use Rattle.std.proofs.Common.{◌≡◌, ◌≢◌, ◌<◌, ◌+◌, ◌^◌, ℕ, suc, ℤ, pos, negsuc, Bool, true, false, List, [], ◌∷◌, ◌++◌, length, take, drop, get_or, inl, inr, lit<, refl, ap, sym, subst, ◌∙◌, arith, rules}
+use Rattle.std.proofs.Common.{◌≡◌, ◌<◌, ◌+◌, ◌^◌, ℕ, suc, Bool, true, false, List, [], ◌∷◌, ◌++◌, length, take, drop, get_or, inl, inr, lit<, refl, ap, sym, subst, ◌∙◌, arith, rules}
 use Rattle.std.specs.Prelude.{cond, decimal}
 use Rattle.std.specs.Char.{is_ascii_digit}
 use Rattle.std.specs.Str.{all_ascii_digits}
-use Rattle.std.specs.Fmt.{signed_decimal}
 use Rattle.iv_types.specs.Tokens.{value_onto, value_of}
 use Rattle.iv_meaning.specs.Number.{digits_at_front, BeginsWithNoDigit}
-use mir.Val.{SFits}
-use mir.Syntax.{w64}
 use Rattle.std.proofs.lemmas.List.{take_at, get_or-take, get_or_append_left, take-append-drop}
 use Rattle.std.proofs.lemmas.List.Prefix.{front_rest}
 use Rattle.std.proofs.lemmas.List.Folds.{prefix_len-append, length-prefix_len}
@@ -45,27 +42,6 @@ one_decimal m n r s hm hn nr ns e =
       decimal_injective m n hm hn same,
       sym (front_rest (decimal m ++ r) (decimal m) r refl) ∙ ap (drop (length (decimal m))) e ∙ ap (λ (k : ℕ). drop k (decimal n ++ s)) size ∙ front_rest (decimal n ++ s) (decimal n) s refl,
     )
-
-pub digit_before : (n : ℕ) (r xs : List ℕ) → n < 2 ^ 64 → digits_at_front r ≡ 0 → decimal n ++ r ≢ 45 ∷ xs
-digit_before n r xs small none e =
-    let some = decimal_nonempty n small in
-    let size = front-decimal n r small none in
-    let zero : digits_at_front (decimal n ++ r) ≡ 0 = ap digits_at_front e in
-    omega arith
-
-tail_same : (x : ℕ) (xs ys : List ℕ) → x ∷ xs ≡ x ∷ ys → xs ≡ ys
-tail_same x xs ys e = ap (drop 1) e
-
-suc_same : (m n : ℕ) → suc m ≡ suc n → m ≡ n
-suc_same m n e = omega arith
-
-pub one_signed : (y z : ℤ) (r s : List ℕ) → SFits w64 y → SFits w64 z → digits_at_front r ≡ 0 → digits_at_front s ≡ 0 → signed_decimal y ++ r ≡ signed_decimal z ++ s → (y ≡ z) × (r ≡ s)
-one_signed (pos m) (pos n) r s hy hz nr ns e = let both = one_decimal m n r s (omega (arith, hy.sfits)) (omega (arith, hz.sfits)) nr ns e in (ap pos both.0, both.1)
-one_signed (pos m) (negsuc n) r s hy hz nr ns e = absurd (digit_before m r (decimal (suc n) ++ s) (omega (arith, hy.sfits)) nr e)
-one_signed (negsuc m) (pos n) r s hy hz nr ns e = absurd (digit_before n s (decimal (suc m) ++ r) (omega (arith, hz.sfits)) ns (sym e))
-one_signed (negsuc m) (negsuc n) r s hy hz nr ns e =
-    let both = one_decimal (suc m) (suc n) r s (omega (arith, hy.sfits)) (omega (arith, hz.sfits)) nr ns (tail_same 45 (decimal (suc m) ++ r) (decimal (suc n) ++ s) e) in
-    (ap negsuc (suc_same m n both.0), both.1)
 
 one_more : (k : ℕ) → 1 + k ≡ suc k
 one_more k = omega arith

@@ -1,7 +1,6 @@
 -- Statements that are transactions of their own: which of them are built, and what one is told.
-use Rattle.std.specs.Prelude.{◌≡◌, ◌⊎◌, ◌^◌, Bool, true, false, List, [], ◌∷◌}
-use Rattle.iv_types.specs.declared.refusal.Refusal.{Refusal}
-use Rattle.iv_types.specs.declared.refusal.Refusal.TheVariants.{NoMemory, Stopped}
+use Rattle.std.specs.Prelude.{◌≡◌, ◌⊎◌, Bool, true, false, List, [], ◌∷◌}
+use Rattle.iv_types.specs.declared.refusal.Refusal.TheVariants.{NoMemory}
 use Rattle.iv_types.specs.declared.reply.Reply.{Reply}
 use Rattle.iv_types.specs.declared.reply.Reply.TheVariants.{Error}
 use Rattle.iv_types.specs.Syntax.{JoinTree, StatementTree, create_table, create_view, insert, select}
@@ -20,15 +19,9 @@ is_built (insert into tuples) = true
 is_built (select query order) = true
 is_built _ = false
 
--- The engine passes a statement over for want of memory, or since it has stopped: after 2^62 steps.
-abbrev pub PassesOver : Refusal → Type 0
-PassesOver why = (why ≡ NoMemory) ⊎ (why ≡ Stopped (2 ^ 62))
-
--- a statement that is passed over changes nothing
+-- for want of memory a statement is passed over, and changes nothing
 pub record IsPassedOver (before : Database) (replies : List Reply) (after : Database) : Type 0 where
-  pub why : Refusal
-  pub passes : PassesOver why
-  pub told : replies ≡ Error why ∷ []
+  pub told : replies ≡ Error NoMemory ∷ []
   pub left : after ≡ before
 
 -- the statement ran alone, as a transaction of its own

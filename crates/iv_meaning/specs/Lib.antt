@@ -1,10 +1,4 @@
 pub mod Lines
-pub mod Table
-pub mod SaleDatabase
-pub mod SaleView
-pub mod Groups
-pub mod Form
-pub mod SaleStatement
 pub mod Reply
 pub mod Number
 pub mod Request

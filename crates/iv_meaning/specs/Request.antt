@@ -1,13 +1,12 @@
 -- What a line asks for.
-use Rattle.std.specs.Prelude.{◌≡◌, ◌≢◌, ◌⊎◌, ◌≤◌, ◌<◌, ℕ, List, [], ◌++◌, length, codes, decimal, IsUtf8}
+use Rattle.std.specs.Prelude.{◌≡◌, ◌≢◌, ◌⊎◌, ◌≤◌, ◌<◌, ℕ, true, false, List, [], ◌++◌, length, codes, decimal, IsUtf8}
 use Rattle.std.specs.List.{All}
 use Rattle.iv_types.specs.declared.refusal.Refusal.{Refusal}
 use Rattle.iv_types.specs.Syntax.{StatementTree}
 use Rattle.iv_types.specs.Grammar.{Spells}
 use Rattle.iv_types.specs.Refusing.{Refuses}
-use Rattle.iv_meaning.specs.declared.form.Form.{Form}
-use Rattle.iv_meaning.specs.Form.{form_tree, InRange}
 use Rattle.iv_meaning.specs.Lines.{longest_line}
+use Rattle.iv_meaning.specs.Autocommit.{is_built}
 
 -- an empty line, or one that begins with `#`
 abbrev pub IsRemark : List ℕ → Type 0
@@ -35,7 +34,7 @@ pub record IsFormLeft (line : List ℕ) : Type 0 where
   pub tree : StatementTree
   pub of_session : IsOfSession session text line
   pub spelled : Spells text tree
-  pub left : (form : Form) → InRange form → tree ≢ form_tree form
+  pub left : is_built tree ≡ false
 
 -- a session's line with a text that the grammar refuses
 pub record IsRefusedText (session : ℕ) (refusal : Refusal) (line : List ℕ) : Type 0 where
@@ -44,11 +43,11 @@ pub record IsRefusedText (session : ℕ) (refusal : Refusal) (line : List ℕ) :
   pub refused : Refuses text refusal
 
 -- a session's line with the text of a statement that is built
-pub record IsStatement (session : ℕ) (form : Form) (line : List ℕ) : Type 0 where
+pub record IsStatement (session : ℕ) (tree : StatementTree) (line : List ℕ) : Type 0 where
   pub text : List ℕ
   pub of_session : IsOfSession session text line
-  pub spelled : Spells text (form_tree form)
-  pub range : InRange form
+  pub spelled : Spells text tree
+  pub built : is_built tree ≡ true
 
 -- what a line can ask for
 pub data Asked : Type 0 where
@@ -59,14 +58,14 @@ pub data Asked : Type 0 where
   bad : Asked
   -- the grammar refuses its text
   refused : (session : ℕ) (refusal : Refusal) → Asked
-  statement : (session : ℕ) (form : Form) → Asked
+  statement : (session : ℕ) (tree : StatementTree) → Asked
 
 abbrev pub AsksRead : List ℕ → Asked → Type 0
 AsksRead line nothing = IsRemark line
 AsksRead line too_long = ⊥
 AsksRead line bad = ¬ (IsRemark line) × (HasNoForm line ⊎ IsFormLeft line)
 AsksRead line (refused session refusal) = IsRefusedText session refusal line
-AsksRead line (statement session form) = IsStatement session form line
+AsksRead line (statement session tree) = IsStatement session tree line
 
 -- a line of more bytes than are read is too long, whatever it is; any other asks for what stands in it
 abbrev pub Asks : List ℕ → Asked → Type 0

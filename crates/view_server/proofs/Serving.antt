@@ -5,7 +5,7 @@ use Rattle.std.proofs.Math.Bool.{and-false}
 use Rattle.std.proofs.lemmas.Bool.{and_parts, false≢true}
 use Rattle.std.proofs.lemmas.List.{take-append-drop}
 use Rattle.iv_meaning.specs.Lines.{is_return, first_line, after_line, lines_of, onto_first}
-use Rattle.iv_meaning.specs.SaleDatabase.{Database, opened}
+use Rattle.iv_meaning.specs.Database.{Database, created}
 use Rattle.iv_meaning.specs.Transcript.{IsTranscript}
 use Rattle.iv_meaning.specs.Script.{Answers, IsScriptOutput, AnswersFirstLines}
 use Rattle.line_wire.specs.Wire.{WroteFront}
@@ -22,7 +22,7 @@ use Rattle.view_server.specs.declared.status.Status.TheVariants.{WriteFault}
 pub record AnsweredUpTo (input : List ℕ) (others : List (List ℕ)) (out : List ℕ) : Type 0 where
   pub first : List (List ℕ)
   pub split : lines_of input ≡ first ++ others
-  pub transcript : IsTranscript Answers first opened out
+  pub transcript : IsTranscript Answers first created out
 
 -- What was written and what waits answers the lines so far: whatever answers the first lines of what is ahead, both
 -- together answer so many lines more.
@@ -58,21 +58,21 @@ lines_more (b ∷ c ∷ bytes) ne =
     (λ here. lf_next c bytes (c == 10) refl (and_parts (b == 13) (c == 10) here).1)
     (lines_more (c ∷ bytes) (λ e. cc))
 
-nothing : {A : Type 0} (p : List A) → p ++ [] ≡ p
-nothing [] = refl
-nothing (x ∷ p) = ap (λ (q : List _). x ∷ q) (nothing p)
+pub append_none : {A : Type 0} (p : List A) → p ++ [] ≡ p
+append_none [] = refl
+append_none (x ∷ p) = ap (λ (q : List _). x ∷ q) (append_none p)
 
 no_front : {A : Type 0} (p : List A) → [] ++ p ≡ p
 no_front p = refl
 
 -- a run begins
-pub begun : (input before : List ℕ) (now : Reading) (left written : Option (List ℕ)) → now.held ≡ [] → now.taken ≡ 0 → left ≡ Some input → written ≡ Some before → Serving input before now left written [] opened
+pub begun : (input before : List ℕ) (now : Reading) (left written : Option (List ℕ)) → now.held ≡ [] → now.taken ≡ 0 → left ≡ Some input → written ≡ Some before → Serving input before now left written [] created
 begun input before now left written held taken l w = record {
   rest = input;
   tells = l;
   count = omega (arith, taken);
   out = [];
-  wrote = w ∙ ap Some (sym (nothing before));
+  wrote = w ∙ ap Some (sym (append_none before));
   goes_on = λ first others more split t. record { first = first; split = ap (λ (h : List ℕ). lines_of (h ++ input)) (sym held) ∙ split; transcript = t };
 }
 
@@ -116,7 +116,7 @@ served input before line now next left left' written waiting waiting' db after n
 
 -- the lines so far
 so_far : (input before : List ℕ) (now : Reading) (left written : Option (List ℕ)) (waiting : List ℕ) (db : Database) → (s : Serving input before now left written waiting db) → AnsweredUpTo input (lines_of (now.held ++ s.rest)) (s.out ++ waiting)
-so_far input before now left written waiting db s = subst (λ (xs : List ℕ). AnsweredUpTo input (lines_of (now.held ++ s.rest)) xs) (nothing (s.out ++ waiting)) (s.goes_on [] (lines_of (now.held ++ s.rest)) [] refl refl)
+so_far input before now left written waiting db s = subst (λ (xs : List ℕ). AnsweredUpTo input (lines_of (now.held ++ s.rest)) xs) (append_none (s.out ++ waiting)) (s.goes_on [] (lines_of (now.held ++ s.rest)) [] refl refl)
 
 pub first_lines : (input before : List ℕ) (now : Reading) (left written : Option (List ℕ)) (waiting : List ℕ) (db : Database) → (s : Serving input before now left written waiting db) → AnswersFirstLines input (s.out ++ waiting)
 unfolding so_far
@@ -127,8 +127,8 @@ pub whole : (input before : List ℕ) (now next : Reading) (left left' written :
 whole input before now next left left' written waiting db s f =
     let a = so_far input before now left written waiting db s in
     let none : lines_of (now.held ++ s.rest) ≡ [] = ap lines_of f.reads.0 in
-    let all : lines_of input ≡ a.first = a.split ∙ ap (λ (ls : List (List ℕ)). a.first ++ ls) none ∙ nothing a.first in
-    subst (λ (ls : List (List ℕ)). IsTranscript Answers ls opened (s.out ++ waiting)) (sym all) a.transcript
+    let all : lines_of input ≡ a.first = a.split ∙ ap (λ (ls : List (List ℕ)). a.first ++ ls) none ∙ append_none a.first in
+    subst (λ (ls : List (List ℕ)). IsTranscript Answers ls created (s.out ++ waiting)) (sym all) a.transcript
 
 -- with the front of what waits written
 pub front : (input before : List ℕ) (now : Reading) (left written written' : Option (List ℕ)) (waiting : List ℕ) (db : Database) → (s : Serving input before now left written waiting db) → WroteFront (before ++ s.out) waiting written' → Output WriteFault input before written'

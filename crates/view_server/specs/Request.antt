@@ -1,6 +1,7 @@
 -- What a line asks for, as it is read.
 use Rattle.std.specs.Prelude.{◌≡◌, ◌⊎◌, ℕ, List}
 use Rattle.iv_types.specs.declared.refusal.Refusal.TheVariants.{NoMemory}
+use Rattle.iv_types.specs.Syntax.{statement_tree}
 use Rattle.iv_meaning.specs.Request.{IsRemark, IsOfSession, HasNoForm, IsFormLeft, IsRefusedText, IsStatement}
 use Rattle.view_server.specs.declared.asked.Request.{Request}
 use Rattle.view_server.specs.declared.asked.Request.TheVariants.{Nothing, Bad, Refused, Statement}
@@ -14,4 +15,4 @@ abbrev pub AsksFor : List ℕ → Request → Type 0
 AsksFor line Nothing = IsRemark line
 AsksFor line Bad = ¬ (IsRemark line) × (HasNoForm line ⊎ IsFormLeft line)
 AsksFor line (Refused session refusal) = IsRefusedText session refusal line ⊎ ((refusal ≡ NoMemory) × IsUnread session line)
-AsksFor line (Statement session form) = IsStatement session form line
+AsksFor line (Statement session statement) = IsStatement session (statement_tree statement) line

@@ -1,6 +1,5 @@
 //! What a line can ask for.
-use iv_meaning::Form;
-use iv_types::Refusal;
+use iv_types::{Refusal, Statement};
 
 /// What a line asks for, with the session's number where it is a session's line.
 #[derive(Debug, Drop)]
@@ -11,6 +10,6 @@ pub enum Request {
     Bad,
     /// The grammar refuses the text, or there was no memory to parse it.
     Refused(u32, Refusal),
-    /// A statement.
-    Statement(u32, Form),
+    /// A statement that is built.
+    Statement(u32, Statement),
 }

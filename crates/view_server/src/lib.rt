@@ -2,8 +2,7 @@
 #![tactic(auto)]
 
 mod asked;
-mod engine;
-mod form;
+mod built;
 mod print;
 mod request;
 mod script;

@@ -10,7 +10,7 @@ ghost use Rattle.view_server.specs.Spaces.{IsBehindSpaces};
 ghost use Rattle.view_server.specs.Request.{AsksFor};
 
 use crate::asked::Request;
-use crate::form::built;
+use crate::built::built;
 use sql_parse::parse;
 use std::alloc::Global;
 use std::str;
@@ -124,7 +124,7 @@ fn asked(alloc: Global, session: u32, text: &str) -> Request
 {
     match parse(alloc, text) {
         Ok(statement) => match built(statement) {
-            Some(form) => Request::Statement(session, form),
+            Some(statement) => Request::Statement(session, statement),
             None => Request::Bad,
         },
         Err(refusal) => Request::Refused(session, refusal),

@@ -1,23 +1,22 @@
 //! A run of a script.
-ghost use Rattle.std.specs.Prelude.{◌≡◌, ◌≢◌, ◌↔◌, ◌⊎◌, ◌++◌, ◌∷◌, ◌≤◌, ℕ, List, [], length, OnOk, OnErr, IsTrue, IsErr, Some, string_bytes};
+ghost use Rattle.std.specs.Prelude.{◌≡◌, ◌≢◌, ◌↔◌, ◌⊎◌, ◌++◌, ◌∷◌, ◌≤◌, ℕ, List, true, OnOk, OnErr, IsTrue, IsErr, Some, string_bytes};
 ghost use Rattle.iv_types.specs.Faults.{Rose, CountsFault};
-ghost use Rattle.iv_meaning.specs.Reply.{reply_lines};
-ghost use Rattle.iv_meaning.specs.Lines.{longest_line};
-ghost use Rattle.iv_meaning.specs.SaleDatabase.{Database};
-ghost use Rattle.iv_meaning.specs.Script.{Answers};
+ghost use Rattle.iv_types.specs.Syntax.{statement_tree};
+ghost use Rattle.iv_meaning.specs.Database.{Database};
+ghost use Rattle.iv_meaning.specs.Autocommit.{is_built};
 ghost use Rattle.line_wire.specs.declared.line.Line.TheVariants.{Text, TooLong};
 ghost use Rattle.line_wire.specs.Wire.{WroteFront};
-ghost use Rattle.view_server.specs.Answer.{replies_of};
-ghost use Rattle.view_server.specs.Answered.{AddsAnswer, MovesOn};
+ghost use Rattle.list_engine.specs.Engine.{IsIn};
+ghost use Rattle.view_server.specs.Answered.{AddsAnswer, IsAnswered, IsRun, MovesOn};
 ghost use Rattle.view_server.specs.Run.{IsScript, Output, Taken, SourceFaults, SinkFaults, ToldUsage, Finishes, FinishFaults};
 
 use crate::asked::Request;
-use crate::engine::{Answer, Engine};
-use crate::print::push_answer;
+use crate::print::{push_refusal, push_replies};
 use crate::request::request;
 use crate::status::Status;
-use iv_types::{NoMemory, Refusal};
+use iv_types::{NoMemory, Refusal, Statement};
 use line_wire::{Line, LineBuffer, LineFault, Sink, Source, WriteFault, read_line, write_all};
+use list_engine::ListEngine;
 use std::alloc::Global;
 
 const USAGE: &[u8] = b"usage: iv init FILE, script FILE, serve FILE, make NUMBER\n";
@@ -43,48 +42,57 @@ fn is_script(words: &[String]) -> bool
     is_word(&words[1], b"-")
 }
 
-// Runs what a line asks for, and says whom to answer.
-fn answer(alloc: Global, engine: &mut Engine, line: &[u8]) -> (u32, Answer)
-    ensures { length line.now ≤ longest_line → Answers line.now engine.old (reply_lines result.0 (replies_of result.1)) engine.new }
+// Runs a statement of a session, and writes the lines of its replies behind a text.
+fn run_statement(
+    alloc: Global,
+    engine: &mut ListEngine,
+    session: u32,
+    statement: Statement,
+    text: &mut Vec<u8>,
+) -> Result<(), NoMemory>
+    requires session { (1 ≤ session) × (session ≤ 64) }
+    requires built { is_built (statement_tree statement) ≡ true }
+    ensures { (db : Database) → IsIn engine.old db → OnOk result (IsRun session (statement_tree statement) db text.old.items text.new.items engine.new) }
+{
+    let replies = engine.run(session, statement)?;
+    push_replies(alloc, text, session, &replies)
+}
+
+// Runs what a line that was read asks for, and writes the answer behind a text. Where memory is wanting, a part of it
+// may stand there.
+fn answer(
+    alloc: Global,
+    engine: &mut ListEngine,
+    line: &[u8],
+    text: &mut Vec<u8>,
+) -> Result<(), NoMemory>
+    ensures { (db : Database) → IsIn engine.old db → OnOk result (IsAnswered Text line.now db text.old.items text.new.items engine.new) }
 {
     match request(alloc, line) {
-        Request::Nothing => (0, Answer::Nothing),
-        Request::Bad => (0, Answer::Refused(Refusal::BadLine)),
-        Request::Refused(session, refusal) => (session, Answer::Refused(refusal)),
-        Request::Statement(session, form) => (session, engine.run(form)),
+        Request::Nothing => Ok(()),
+        Request::Bad => push_refusal(alloc, text, 0, Refusal::BadLine),
+        Request::Refused(session, refusal) => push_refusal(alloc, text, session, refusal),
+        Request::Statement(session, statement) => {
+            run_statement(alloc, engine, session, statement, text)
+        }
     }
 }
 
-// Puts an answer behind the replies that wait; the text is room for it.
-fn push_waiting(
-    alloc: Global,
-    waiting: &mut Vec<u8>,
-    text: &mut Vec<u8>,
-    session: u32,
-    answer: Answer,
-) -> Result<(), NoMemory>
-    ensures ok { OnOk result (waiting.new.items ≡ waiting.old.items ++ reply_lines session (replies_of answer)) }
-    ensures err { OnErr result (waiting.new.items ≡ waiting.old.items) }
-{
-    text.clear();
-    push_answer(alloc, text, session, answer)?;
-    waiting.extend_from_slice(text)?;
-    Ok(())
-}
-
-// Answers a line that was read.
+// Answers a line that was read, behind the replies that wait; the text is room for the answer.
 fn answer_line(
     alloc: Global,
-    engine: &mut Engine,
+    engine: &mut ListEngine,
     line: &[u8],
     waiting: &mut Vec<u8>,
     text: &mut Vec<u8>,
 ) -> Result<(), NoMemory>
-    ensures ok { OnOk result (AddsAnswer Text line.now engine.old waiting.old.items waiting.new.items engine.new) }
+    ensures ok { (db : Database) → IsIn engine.old db → OnOk result (IsAnswered Text line.now db waiting.old.items waiting.new.items engine.new) }
     ensures err { OnErr result (waiting.new.items ≡ waiting.old.items) }
 {
-    let (session, answer) = answer(alloc, engine, line);
-    push_waiting(alloc, waiting, text, session, answer)
+    text.clear();
+    answer(alloc, engine, line, text)?;
+    waiting.extend_from_slice(text)?;
+    Ok(())
 }
 
 // Answers a line that was too long to be read.
@@ -92,8 +100,10 @@ fn refuse_line(alloc: Global, waiting: &mut Vec<u8>, text: &mut Vec<u8>) -> Resu
     ensures ok { (bytes : List ℕ) (db : Database) → OnOk result (AddsAnswer TooLong bytes db waiting.old.items waiting.new.items db) }
     ensures err { OnErr result (waiting.new.items ≡ waiting.old.items) }
 {
-    let answer = Answer::Refused(Refusal::LineTooLong);
-    push_waiting(alloc, waiting, text, 0, answer)
+    text.clear();
+    push_refusal(alloc, text, 0, Refusal::LineTooLong)?;
+    waiting.extend_from_slice(text)?;
+    Ok(())
 }
 
 // Writes the replies that wait, where it is due.
@@ -132,7 +142,9 @@ fn answer_lines<S: Source, K: Sink>(alloc: Global, source: &mut S, sink: &mut K)
     let Ok(mut lines) = LineBuffer::new(alloc) else {
         return Status::NoMemory;
     };
-    let mut engine = Engine::new(alloc);
+    let Ok(mut engine) = ListEngine::new(alloc) else {
+        return Status::NoMemory;
+    };
     let mut waiting = Vec::new(alloc);
     let mut text = Vec::new(alloc);
     loop {

@@ -1,14 +1,11 @@
 //! Scripts from end to end, over a source and a sink in memory, and the parts that read a line.
-use crate::form::built;
+mod statements;
+
 use crate::request::session_text;
 use crate::{Status, run};
-use iv_meaning::{Form, Sale, plain};
-use iv_types::{
-    Bytes, CallList, Expr, Failed, Item, NoMemory, Op, Query, Ref, Relation, Sequence, Statement,
-};
+use iv_types::{CallList, Failed, Sequence};
 use line_wire::{Line, LineBuffer, ListSink, ListSource, Source, read_line};
 use std::alloc::{AllocError, Global};
-use std::fmt::Write;
 use std::process::Abort;
 use std::test::Fail;
 
@@ -16,8 +13,11 @@ const BAD_LINE: &[u8] = b"0 ERR 41 BadLine\n";
 
 const TOO_LONG: &[u8] = b"0 ERR 42 LineTooLong\n";
 
-// What a SELECT of a shop without rows prints on the opened database.
-const NO_ROW: &[u8] = b"1 OK 0\n1 COMMIT 2\n";
+// A table of sales and a view of it.
+const SALE: &str = "1: CREATE TABLE sale (id INT, shop INT, amount HUGE, PRIMARY KEY (id))\n";
+
+const BY_SHOP: &str =
+    "1: CREATE INDEXED VIEW by_shop AS SELECT shop, COUNT(*) AS n, SUM(amount) AS total FROM sale GROUP BY shop\n";
 
 fn calls(alloc: Global, number: u64) -> Result<CallList, AllocError> {
     let mut numbers = Vec::new(alloc);
@@ -45,16 +45,6 @@ fn script(alloc: Global, input: &[u8], read: u64, write: u64) -> Result<(Status,
     Ok((status, sink.written().to_vec(alloc)?))
 }
 
-// Runs one line after another, each as a script of its own, and compares what each writes.
-fn check_lines(rt: &impl Abort, alloc: Global, lines: &[&[u8]], output: &[u8]) -> Result<(), Fail> {
-    for line in lines {
-        let mut input = line.to_vec(alloc)?;
-        input.push(b'\n')?;
-        check_script(rt, alloc, &input, output)?;
-    }
-    Ok(())
-}
-
 // Runs a script and compares what it writes.
 fn check_script(rt: &impl Abort, alloc: Global, input: &[u8], output: &[u8]) -> Result<(), Fail> {
     let (status, written) = script(alloc, input, 0, 0)?;
@@ -63,113 +53,57 @@ fn check_script(rt: &impl Abort, alloc: Global, input: &[u8], output: &[u8]) -> 
     Ok(())
 }
 
-#[test]
-fn the_worked_lines(rt: HostRuntime) -> Result<(), Fail> {
-    check_script(
-        &rt,
-        rt.alloc(),
-        b"1: INSERT INTO sale VALUES (1, 7, 10)\n1: SELECT * FROM by_shop WHERE shop = 7\n2: INSERT INTO sale VALUES (1, 9, 4)\n1: SELECT * FROM by_shop WHERE shop = 9\n1: HELLO\n",
-        b"1 OK 1\n1 COMMIT 3\n1 ROW 7 1 10\n1 OK 1\n1 COMMIT 3\n2 ERR 10 DuplicateKey\n1 OK 0\n1 COMMIT 3\n1 ERR 1 Syntax 0\n",
-    )?;
-    check_script(
-        &rt,
-        rt.alloc(),
-        b"1: SELEC * FROM sale\n1: SELECT\n1: insert into SALE values (1,7,10);\n1: COMMIT\n",
-        b"1 ERR 1 Syntax 0\n1 ERR 1 Syntax 6\n1 OK 1\n1 COMMIT 3\n0 ERR 41 BadLine\n",
-    )
+// Runs one line after another, each as a script of its own, and compares what each writes.
+fn check_alone(rt: &impl Abort, alloc: Global, lines: &[&[u8]], output: &[u8]) -> Result<(), Fail> {
+    for line in lines {
+        let mut input = line.to_vec(alloc)?;
+        input.push(b'\n')?;
+        check_script(rt, alloc, &input, output)?;
+    }
+    Ok(())
+}
+
+// The two lines that make the table and the view.
+fn made(alloc: Global) -> Result<Vec<u8>, AllocError> {
+    let mut input = SALE.as_bytes().to_vec(alloc)?;
+    input.extend_from_slice(BY_SHOP.as_bytes())?;
+    Ok(input)
+}
+
+// What they print.
+fn told(alloc: Global) -> Result<Vec<u8>, AllocError> {
+    b"1 OK 0\n1 COMMIT 1\n1 OK 0\n1 COMMIT 2\n".to_vec(alloc)
+}
+
+// Runs lines, each beside what it prints, as one script behind these lines.
+fn check_behind(
+    rt: &impl Abort,
+    alloc: Global,
+    before: (Vec<u8>, Vec<u8>),
+    lines: &[(&str, &str)],
+) -> Result<(), Fail> {
+    let (mut input, mut output) = before;
+    for (line, printed) in lines {
+        input.extend_from_slice(line.as_bytes())?;
+        input.push(b'\n')?;
+        output.extend_from_slice(printed.as_bytes())?;
+    }
+    check_script(rt, alloc, &input, &output)
+}
+
+// Runs lines, each beside what it prints, as one script on an empty database.
+fn check_lines(rt: &impl Abort, alloc: Global, lines: &[(&str, &str)]) -> Result<(), Fail> {
+    check_behind(rt, alloc, (Vec::new(alloc), Vec::new(alloc)), lines)
+}
+
+// The same where the table and the view are made first.
+fn check_sales(rt: &impl Abort, alloc: Global, lines: &[(&str, &str)]) -> Result<(), Fail> {
+    check_behind(rt, alloc, (made(alloc)?, told(alloc)?), lines)
 }
 
 #[test]
-fn spellings_of_a_select(rt: HostRuntime) -> Result<(), Fail> {
-    let lines: [&[u8]; 22] = [
-        b"1: SELECT * FROM by_shop WHERE shop = 7",
-        b"1:SELECT * FROM by_shop WHERE shop = 7",
-        b"1:    SELECT * FROM by_shop WHERE shop = 7",
-        b"1:\tSELECT * FROM by_shop WHERE shop = 7",
-        b"1: select * from by_shop where shop = 7",
-        b"1: Select * From BY_SHOP Where SHOP = 7",
-        b"1: SELECT * FROM by_shop WHERE shop = 7;",
-        b"1: SELECT * FROM by_shop WHERE shop = 7 ; ",
-        b"1: SELECT\t*\tFROM\tby_shop\tWHERE\tshop\t=\t7",
-        b"1: SELECT*FROM by_shop WHERE shop=7",
-        b"1: SELECT * FROM by_shop WHERE shop = 07",
-        b"1: SELECT * FROM by_shop WHERE shop = (7)",
-        b"1: SELECT * FROM by_shop WHERE (shop) = ((7))",
-        b"1: SELECT * FROM by_shop WHERE (shop = 7)",
-        b"1: SELECT * FROM by_shop WHERE shop = - 5",
-        b"1: SELECT * FROM by_shop WHERE shop = (-5)",
-        b"1: SELECT * FROM by_shop WHERE shop = -0",
-        b"1: SELECT * FROM by_shop WHERE shop = 9223372036854775807",
-        b"1: SELECT * FROM by_shop WHERE shop = -9223372036854775808",
-        b"1: SELECT * FROM by_shop WHERE shop = 7 -- a comment",
-        b"1: SELECT * FROM by_shop WHERE shop = 7; -- a comment; \xc3\xa9",
-        b"1: SELECT * FROM by_shop WHERE shop = 7\r",
-    ];
-    check_lines(&rt, rt.alloc(), &lines, NO_ROW)
-}
-
-#[test]
-fn spellings_of_an_insert(rt: HostRuntime) -> Result<(), Fail> {
-    let lines: [&[u8]; 8] = [
-        b"1: INSERT INTO sale VALUES (1, 7, 10)",
-        b"1: insert into SALE values (1,7,10);",
-        b"1:insert\tinto sale values(1,7,10)",
-        b"1:  INSERT INTO Sale VALUES ( 1 , 7 , 10 ) ;",
-        b"1: INSERT INTO sale VALUES ((1), (7), (10))",
-        b"1: INSERT INTO sale VALUES (- 5, (- 5), -5)",
-        b"1: INSERT INTO sale VALUES (01, 007, -0)",
-        b"1: INSERT INTO sale VALUES (1, 7, 10) -- a comment",
-    ];
-    check_lines(&rt, rt.alloc(), &lines, b"1 OK 1\n1 COMMIT 3\n")
-}
-
-#[test]
-fn forms_left(rt: HostRuntime) -> Result<(), Fail> {
-    let lines: [&[u8]; 42] = [
-        b"1: SELECT * FROM by_shop WHERE 7 = shop",
-        b"1: SELECT * FROM by_shop AS b WHERE shop = 7",
-        b"1: SELECT * FROM by_shop AS by_shop WHERE shop = 7",
-        b"1: SELECT * FROM by_shop WHERE by_shop.shop = 7",
-        b"1: SELECT * FROM by_shop WHERE shop = 3 + 4",
-        b"1: SELECT * FROM by_shop WHERE shop = -(7)",
-        b"1: SELECT * FROM by_shop WHERE shop = - -7",
-        b"1: SELECT * FROM by_shop WHERE shop = 9223372036854775808",
-        b"1: SELECT * FROM by_shop WHERE shop = -9223372036854775809",
-        b"1: SELECT * FROM by_shop WHERE shop = 170141183460469231731687303715884105727",
-        b"1: SELECT * FROM by_shop WHERE shop = '7'",
-        b"1: SELECT * FROM by_shop WHERE shop = shop",
-        b"1: SELECT * FROM by_shop WHERE shop <> 7",
-        b"1: SELECT * FROM by_shop WHERE shop >= 7",
-        b"1: SELECT * FROM by_shop WHERE NOT shop = 7",
-        b"1: SELECT * FROM by_shop WHERE shop = 7 AND shop = 7",
-        b"1: SELECT * FROM by_shop WHERE total = 7",
-        b"1: SELECT * FROM by_shop WHERE shop",
-        b"1: SELECT * FROM by_shop",
-        b"1: SELECT * FROM sale WHERE shop = 7",
-        b"1: SELECT shop FROM by_shop WHERE shop = 7",
-        b"1: SELECT *, * FROM by_shop WHERE shop = 7",
-        b"1: SELECT COUNT(*) FROM by_shop WHERE shop = 7",
-        b"1: SELECT * FROM by_shop WHERE shop = 7 GROUP BY shop",
-        b"1: SELECT * FROM by_shop WHERE shop = 7 ORDER BY 1",
-        b"1: SELECT * FROM by_shop JOIN sale ON id = shop WHERE shop = 7",
-        b"1: INSERT INTO sale VALUES (1, 7, 5 + 5)",
-        b"1: INSERT INTO sale VALUES (1, 7, -(5))",
-        b"1: INSERT INTO sale VALUES (1, 7, 9223372036854775808)",
-        b"1: INSERT INTO sale VALUES (-9223372036854775809, 7, 10)",
-        b"1: INSERT INTO sale VALUES (1, 7, 'ten')",
-        b"1: INSERT INTO sale VALUES (1, 7, amount)",
-        b"1: INSERT INTO sale VALUES (1, 7)",
-        b"1: INSERT INTO sale VALUES (1, 7, 10, 11)",
-        b"1: INSERT INTO sale VALUES (1, 7, 10), (2, 7, 10)",
-        b"1: INSERT INTO by_shop VALUES (1, 7, 10)",
-        b"1: CREATE TABLE t (id INT, PRIMARY KEY (id))",
-        b"1: UPDATE sale SET amount = 1",
-        b"1: DELETE FROM sale",
-        b"1: BEGIN",
-        b"1: ROLLBACK",
-        b"1: COMMIT;",
-    ];
-    check_lines(&rt, rt.alloc(), &lines, BAD_LINE)
+fn an_empty_script(rt: HostRuntime) -> Result<(), Fail> {
+    check_script(&rt, rt.alloc(), b"", b"")
 }
 
 #[test]
@@ -202,7 +136,7 @@ fn lines_of_no_form(rt: HostRuntime) -> Result<(), Fail> {
         b"1: SELECT * FROM by_shop WHERE shop = 7 -- \xc3",
         b"1\xef\xbc\x9a SELECT * FROM by_shop WHERE shop = 7",
     ];
-    check_lines(&rt, rt.alloc(), &lines, BAD_LINE)
+    check_alone(&rt, rt.alloc(), &lines, BAD_LINE)
 }
 
 #[test]
@@ -247,7 +181,7 @@ fn texts_that_the_grammar_refuses(rt: HostRuntime) -> Result<(), Fail> {
         ),
     ];
     for (line, output) in cases {
-        check_lines(&rt, rt.alloc(), &[line], output)?;
+        check_alone(&rt, rt.alloc(), &[line], output)?;
     }
     Ok(())
 }
@@ -275,40 +209,59 @@ fn lines_that_print_nothing(rt: HostRuntime) -> Result<(), Fail> {
 
 #[test]
 fn lines_at_the_edges(rt: HostRuntime) -> Result<(), Fail> {
-    let cases: [(&[u8], &[u8]); 11] = [
+    let lines: [(&str, &str); 12] = [
         (
-            b"64: SELECT * FROM by_shop WHERE shop = 0",
-            b"64 OK 0\n64 COMMIT 2\n",
+            "64: SELECT * FROM by_shop WHERE shop = 0",
+            "64 OK 0\n64 COMMIT 2\n",
         ),
-        (b"1: SELECT * FROM by_shop WHERE shop = 7\r\n", NO_ROW),
-        // a CR that no LF follows stays in its line
+        (
+            "1: SELECT * FROM by_shop WHERE shop = 7\r",
+            "1 OK 0\n1 COMMIT 2\n",
+        ),
+        (
+            "1: SELECT * FROM\r by_shop WHERE shop = 7",
+            "1 ERR 1 Syntax 13\n",
+        ),
+        ("\r\r", "0 ERR 41 BadLine\n"),
+        ("\rx", "0 ERR 41 BadLine\n"),
+        ("", ""),
+        ("# shops\r", ""),
+        (
+            "9: INSERT INTO sale VALUES (-9223372036854775808, 9223372036854775807, -1)",
+            "9 OK 1\n9 COMMIT 3\n",
+        ),
+        (
+            "9: SELECT * FROM by_shop WHERE shop = 9223372036854775807",
+            "9 ROW 9223372036854775807 1 -1\n9 OK 1\n9 COMMIT 3\n",
+        ),
+        (
+            "1: INSERT INTO sale VALUES (1, -5, -170141183460469231731687303715884105727), (2, -5, 0)",
+            "1 OK 2\n1 COMMIT 4\n",
+        ),
+        (
+            "1: SELECT * FROM by_shop",
+            "1 ROW -5 2 -170141183460469231731687303715884105727\n1 ROW 9223372036854775807 1 -1\n1 OK 2\n1 COMMIT 4\n",
+        ),
+        ("2:", "2 ERR 1 Syntax 0\n"),
+    ];
+    check_sales(&rt, rt.alloc(), &lines)
+}
+
+#[test]
+fn the_end_of_an_input(rt: HostRuntime) -> Result<(), Fail> {
+    // the last line may lack its LF, and a CR that no LF follows stays in its line
+    let cases: [(&[u8], &[u8]); 5] = [
+        (b"1:", b"1 ERR 1 Syntax 0\n"),
         (
             b"1: SELECT * FROM by_shop WHERE shop = 7\r",
             b"1 ERR 1 Syntax 36\n",
         ),
         (
-            b"1: SELECT * FROM\r by_shop WHERE shop = 7\n",
-            b"1 ERR 1 Syntax 13\n",
+            b"1: CREATE TABLE sale (id INT, PRIMARY KEY (id))",
+            b"1 OK 0\n1 COMMIT 1\n",
         ),
         (b"\r", BAD_LINE),
-        (b"\r\r\n", BAD_LINE),
         (b"\n\rx\n#\n1:", b"0 ERR 41 BadLine\n1 ERR 1 Syntax 0\n"),
-        (
-            b"# shops\r\n\r\n1: SELECT * FROM by_shop WHERE shop = 7\r\n2:",
-            b"1 OK 0\n1 COMMIT 2\n2 ERR 1 Syntax 0\n",
-        ),
-        (
-            b"9: INSERT INTO sale VALUES (-9223372036854775808, 9223372036854775807, -1)\n9: SELECT * FROM by_shop WHERE shop = 9223372036854775807",
-            b"9 OK 1\n9 COMMIT 3\n9 ROW 9223372036854775807 1 -1\n9 OK 1\n9 COMMIT 3\n",
-        ),
-        (
-            b"1: INSERT INTO sale VALUES (1, -5, 9223372036854775807)\n1: INSERT INTO sale VALUES (2, -5, 9223372036854775807)\n1: SELECT * FROM by_shop WHERE shop = -5\n",
-            b"1 OK 1\n1 COMMIT 3\n1 OK 1\n1 COMMIT 4\n1 ROW -5 2 18446744073709551614\n1 OK 1\n1 COMMIT 4\n",
-        ),
-        (
-            b"1: INSERT INTO sale VALUES (3, 0, -9223372036854775808)\n1: INSERT INTO sale VALUES (1, 0, -9223372036854775808)\n1: SELECT * FROM by_shop WHERE shop = 0\n",
-            b"1 OK 1\n1 COMMIT 3\n1 OK 1\n1 COMMIT 4\n1 ROW 0 2 -18446744073709551616\n1 OK 1\n1 COMMIT 4\n",
-        ),
     ];
     for (input, output) in cases {
         check_script(&rt, rt.alloc(), input, output)?;
@@ -364,14 +317,14 @@ fn long_lines(rt: HostRuntime) -> Result<(), Fail> {
 #[test]
 fn a_long_line_is_skipped_to_its_end(rt: HostRuntime) -> Result<(), Fail> {
     for length in [65_537usize, 131_072, 200_000] {
-        let end = b"\n1: SELECT * FROM by_shop WHERE shop = 7\n";
+        let end = b"\n1: CREATE TABLE sale (id INT, PRIMARY KEY (id))\n";
         let mut input = long_script(rt.alloc(), b'x', length, end)?;
         input.extend_from_slice(&vec![in rt.alloc(); b'y'; length]?)?;
         let (status, written) = script(rt.alloc(), &input, 0, 0)?;
         assert_eq!(rt; status, Status::Done);
         assert_eq!(rt;
             written.as_slice(),
-            b"0 ERR 42 LineTooLong\n1 OK 0\n1 COMMIT 2\n0 ERR 42 LineTooLong\n".as_slice(),
+            b"0 ERR 42 LineTooLong\n1 OK 0\n1 COMMIT 1\n0 ERR 42 LineTooLong\n".as_slice(),
             "{length}"
         );
     }
@@ -465,46 +418,6 @@ fn other_words(rt: HostRuntime) -> Result<(), Fail> {
     Ok(())
 }
 
-#[test]
-fn the_view_as_evaluated_afresh(rt: HostRuntime) -> Result<(), Fail> {
-    let mut input = String::new(rt.alloc());
-    let mut sales = Vec::new(rt.alloc());
-    for place in 0..97u32 {
-        let sale = Sale {
-            id: i64::from(place * 31 % 97),
-            shop: i64::from(place * 7 % 5) - 2,
-            amount: i64::from(place * 1_000_003 % 2001) - 1000,
-        };
-        let Sale { id, shop, amount } = sale;
-        write!(
-            input,
-            "1: INSERT INTO sale VALUES ({id}, {shop}, {amount})\n"
-        )?;
-        sales.push((id, sale))?;
-    }
-    let mut output = String::new(rt.alloc());
-    for number in 3..100u64 {
-        write!(output, "1 OK 1\n1 COMMIT {number}\n")?;
-    }
-    for shop in -4..4i64 {
-        write!(input, "2: SELECT * FROM by_shop WHERE shop = {shop}\n")?;
-        assert!(rt; sales.len() < 100);
-        if let Some(row) = plain::view_row(&sales, shop) {
-            let (count, total) = (row.count, row.total);
-            write!(
-                output,
-                "2 ROW {shop} {count} {total}\n2 OK 1\n2 COMMIT 99\n"
-            )?;
-        } else {
-            write!(output, "2 OK 0\n2 COMMIT 99\n")?;
-        }
-    }
-    let (status, written) = script(rt.alloc(), input.as_bytes(), 0, 0)?;
-    assert_eq!(rt; status, Status::Done);
-    assert_eq!(rt; written.as_slice(), output.as_bytes());
-    Ok(())
-}
-
 // The lines of an input, each with a bar behind it, and `!` for one that is too long.
 fn read_lines(alloc: Global, input: &[u8]) -> Result<Vec<u8>, Fail> {
     let bytes = Sequence::from_vec(input.to_vec(alloc)?);
@@ -593,101 +506,5 @@ fn sessions_and_texts(rt: HostRuntime) -> Result<(), Fail> {
     for line in none {
         assert!(rt; session_text(line).is_none(), "{line:?}");
     }
-    Ok(())
-}
-
-fn name(alloc: Global, text: &[u8]) -> Result<Bytes, AllocError> {
-    Ok(Sequence::from_vec(text.to_vec(alloc)?))
-}
-
-fn column(alloc: Global, text: &[u8]) -> Result<Expr, AllocError> {
-    Ok(Expr::Named(Ref {
-        qualifier: None,
-        name: name(alloc, text)?,
-    }))
-}
-
-// INSERT of one row.
-fn insertion(alloc: Global, table: &[u8], numbers: &[i128]) -> Result<Statement, NoMemory> {
-    let mut tuple = Sequence::new(alloc);
-    for number in numbers {
-        tuple.push(Expr::Number(*number))?;
-    }
-    let mut tuples = Sequence::new(alloc);
-    tuples.push(tuple)?;
-    Ok(Statement::Insert {
-        table: name(alloc, table)?,
-        tuples,
-    })
-}
-
-// SELECT * with one comparison.
-fn selection(
-    alloc: Global,
-    relation: &[u8],
-    alias: Option<Bytes>,
-    op: Op,
-    number: i128,
-) -> Result<Statement, NoMemory> {
-    let mut items = Sequence::new(alloc);
-    items.push(Item::All)?;
-    let left = Box::new(alloc, column(alloc, b"shop")?)?;
-    let right = Box::new(alloc, Expr::Number(number))?;
-    Ok(Statement::Select {
-        query: Query {
-            items,
-            first: Relation {
-                name: name(alloc, relation)?,
-                alias,
-            },
-            joins: Sequence::new(alloc),
-            condition: Some(Expr::Pair(op, left, right)),
-            group: Sequence::new(alloc),
-        },
-        order: Sequence::new(alloc),
-    })
-}
-
-#[test]
-fn inserts_that_are_built(rt: HostRuntime) -> Result<(), Fail> {
-    let sale = Sale {
-        id: 1,
-        shop: -7,
-        amount: i64::MIN,
-    };
-    let least = i128::from(i64::MIN);
-    let cases: [(&[u8], &[i128], Option<Form>); 7] = [
-        (b"sale", &[1, -7, least], Some(Form::Insert(sale))),
-        (b"by_shop", &[1, -7, least], None),
-        (b"sales", &[1, -7, least], None),
-        (b"sale", &[1, -7], None),
-        (b"sale", &[1, -7, least, 0], None),
-        (b"sale", &[1, -7, -9_223_372_036_854_775_809], None),
-        (b"sale", &[9_223_372_036_854_775_808, -7, least], None),
-    ];
-    for (table, numbers, form) in cases {
-        let statement = insertion(rt.alloc(), table, numbers)?;
-        assert_eq!(rt; built(statement), form, "{numbers:?}");
-    }
-    Ok(())
-}
-
-#[test]
-fn selects_that_are_built(rt: HostRuntime) -> Result<(), Fail> {
-    let cases: [(&[u8], Op, i128, Option<Form>); 5] = [
-        (b"by_shop", Op::Equal, -7, Some(Form::Select(-7))),
-        (b"by_shop", Op::NotEqual, 7, None),
-        (b"by_shop", Op::AtLeast, 7, None),
-        (b"sale", Op::Equal, 7, None),
-        (b"by_shop", Op::Equal, 9_223_372_036_854_775_808, None),
-    ];
-    for (relation, op, number, form) in cases {
-        let statement = selection(rt.alloc(), relation, None, op, number)?;
-        assert_eq!(rt; built(statement), form, "{number}");
-    }
-    let alias = name(rt.alloc(), b"by_shop")?;
-    let statement = selection(rt.alloc(), b"by_shop", Some(alias), Op::Equal, 7)?;
-    assert_eq!(rt; built(statement), None);
-    assert_eq!(rt; built(Statement::Commit), None);
     Ok(())
 }

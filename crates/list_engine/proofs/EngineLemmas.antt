@@ -1,0 +1,145 @@
+-- Lemmas on how a transaction ends.
+use Rattle.std.specs.Prelude.{◌≡◌, ◌==◌, ◌≢◌, ◌⊎◌, ◌<◌, ◌+◌, ◌-◌, ℕ, zero, suc, Bool, true, IsTrue, List, [], ◌∷◌, ◌++◌, map, length, slice_get, Option, Some, None, Result, Ok, Err, if◌then◌else◌}
+use Rattle.std.specs.FinMap.{entries, empty, entries_sorted, get-entries, get-empty}
+use Rattle.std.specs.FinMap.Entries.{same_entries}
+use Rattle.table_laws.specs.Place.{place_cmp}
+use Rattle.table_laws.proofs.Place.{place_cmp_total, place_cmp-IsAntisymmetric}
+use Rattle.table_laws.specs.Table.{rows_where}
+use Rattle.iv_meaning.specs.Database.{created, rows_of}
+use Rattle.query_laws.proofs.SoundLemmas.{created_sound}
+use Rattle.std.proofs.Common.{arith, append_assoc}
+use mathlib.Core.Path.{refl, sym, ap, subst, ◌∙◌}
+use mathlib.Core.Logic.{inl, inr}
+use Rattle.iv_types.specs.declared.catalog.Definition.{Definition}
+use Rattle.iv_types.specs.declared.value.RowsOf.{RowsOf}
+use Rattle.iv_types.specs.declared.refusal.Refusal.{Refusal}
+use Rattle.iv_types.specs.declared.refusal.Refusal.TheVariants.{NoMemory, NumberRange}
+use Rattle.iv_types.specs.declared.reply.Reply.{Reply}
+use Rattle.iv_types.specs.declared.reply.Reply.TheVariants as reply
+use Rattle.iv_types.specs.Syntax.{StatementTree, create_table, create_index, create_view, insert, update, delete, select, begin, commit, rollback, savepoint}
+use Rattle.iv_meaning.specs.Database.{Row, Database}
+use Rattle.iv_meaning.specs.Statement.{Kept, sets, defines, Meaning, Refused, Accepted, keep, keep_all, select_meaning}
+use Rattle.iv_meaning.specs.Transaction.{ended_by, next_number, committed, means, outside}
+use Rattle.iv_meaning.specs.Reading.{replies_of}
+use Rattle.iv_meaning.specs.Autocommit.{is_built, IsPassedOver, RunsAlone}
+use Rattle.list_engine.specs.declared.engine.ListEngine.{ListEngine}
+use Rattle.list_engine.specs.Held.{Holds}
+use Rattle.list_engine.specs.Engine.{IsIn, Answers, Ends, EndsAs, is_done, with_commit}
+
+-- ---- databases
+
+pub held_number : (definitions : List Definition) (tables : List RowsOf) (db : Database) (n : ℕ) → Holds definitions tables db → Holds definitions tables (record db { number = n })
+held_number definitions tables db n h = record { schema = h.schema; rows = h.rows; sound = record { objects = h.sound.objects; rows = h.sound.rows } }
+
+keep_number : (k : Kept) (db : Database) → (keep k db).number ≡ db.number
+keep_number (sets change) db = refl
+keep_number (defines object) db = refl
+
+same_number : (ks : List Kept) (db : Database) → (keep_all ks db).number ≡ db.number
+same_number [] db = refl
+same_number (k ∷ ks) db = same_number ks (keep k db) ∙ keep_number k db
+
+-- ---- how a transaction ends
+
+module _ (m : Meaning) (db : Database) (replies : List Reply) (engine : ListEngine) where
+  pub passed_over : IsIn engine db → replies ≡ reply.Error NoMemory ∷ [] → EndsAs m db replies engine
+  passed_over i e = record { after = db; told = inr (record { told = e; left = refl }); holds = i }
+
+  pub refused_ends : (why : Refusal) → IsIn engine db → m ≡ Refused why → replies ≡ reply.Error why ∷ [] → EndsAs m db replies engine
+  refused_ends why i is e = record {
+    after = db;
+    told = inl (record { told = e ∙ ap (λ x. (ended_by x db).replies) (sym is); left = ap (λ x. (ended_by x db).leaves) (sym is) });
+    holds = i;
+  }
+
+  -- it is refused, or there is no memory
+  pub not_ended : (why : Refusal) → IsIn engine db → (why ≡ NoMemory) ⊎ (m ≡ Refused why) → replies ≡ reply.Error why ∷ [] → EndsAs m db replies engine
+  not_ended why i (inl memory) e = passed_over i (e ∙ ap (λ r. reply.Error r ∷ []) memory)
+  not_ended why i (inr is) e = refused_ends why i is e
+
+  pub accepted_ends : (count : ℕ) (kept : List Kept) → m ≡ Accepted [] count kept → engine.number ≡ next_number kept db.number → Holds engine.catalog engine.tables (keep_all kept db)
+      → replies ≡ reply.Done count ∷ reply.Commit engine.number ∷ [] → EndsAs m db replies engine
+  accepted_ends count kept is number h e =
+      let after : Database = committed (record { db = keep_all kept db; kept = kept; saved = [] }) in
+      let same : engine.number ≡ after.number = number ∙ ap (next_number kept) (sym (same_number kept db)) in
+      record {
+        after = after;
+        told = inl (record {
+          told = e ∙ (ap (λ n. reply.Done count ∷ reply.Commit n ∷ []) same ∙ ap (λ x. (ended_by x db).replies) (sym is));
+          left = ap (λ x. (ended_by x db).leaves) (sym is);
+        });
+        holds = record { number = same; holds = held_number engine.catalog engine.tables (keep_all kept db) (next_number kept (keep_all kept db).number) h };
+      }
+
+-- ---- SELECT
+
+last_of : {X : Type 0} (xs : List X) (x : X) → slice_get (xs ++ x ∷ []) (length (xs ++ x ∷ []) - 1) ≡ Some x
+last_of [] x = refl
+last_of (y ∷ []) x = refl
+last_of (y ∷ z ∷ xs) x = ap (slice_get (y ∷ z ∷ (xs ++ x ∷ []))) (one_less (length (xs ++ x ∷ []))) ∙ last_of (z ∷ xs) x
+  where
+    one_less : (n : ℕ) → suc (suc n) - 1 ≡ suc (suc n - 1)
+    one_less n = omega arith
+
+ends_with : (n count : ℕ) (rows : List Reply) → with_commit n (rows ++ reply.Done count ∷ []) ≡ rows ++ (reply.Done count ∷ reply.Commit n ∷ [])
+ends_with n count rows =
+    ap (λ o. if is_done o then (rows ++ reply.Done count ∷ []) ++ reply.Commit n ∷ [] else rows ++ reply.Done count ∷ []) (last_of rows (reply.Done count))
+    ∙ append_assoc rows (reply.Done count ∷ []) (reply.Commit n ∷ [])
+
+pub select_ends : (db : Database) (o : Option (List Row)) (replies : List Reply) (engine : ListEngine) → IsIn engine db
+    → replies ≡ with_commit engine.number (replies_of (select_meaning o)) → EndsAs (select_meaning o) db replies engine
+select_ends db None replies engine i e = refused_ends (select_meaning None) db replies engine NumberRange i refl e
+select_ends db (Some rows) replies engine i e = record {
+  after = record db { number = db.number };
+  told = inl (record {
+    told = e ∙ (ends_with engine.number (length rows) (map reply.Row rows) ∙ ap (λ n. map reply.Row rows ++ (reply.Done (length rows) ∷ reply.Commit n ∷ [])) i.number);
+    left = refl;
+  });
+  holds = record { number = i.number; holds = held_number engine.catalog engine.tables db db.number i.holds };
+}
+
+-- ---- statements
+
+of_its_own : (s : StatementTree) (db : Database) → is_built s ≡ true → ended_by (means s db) db ≡ outside s db
+of_its_own (create_table name columns primary) db e = refl
+of_its_own (create_index name of columns) db e = absurd (cc)
+of_its_own (create_view name query) db e = refl
+of_its_own (insert into tuples) db e = refl
+of_its_own (update in_ ss condition) db e = absurd (cc)
+of_its_own (delete in_ condition) db e = absurd (cc)
+of_its_own (select query order) db e = refl
+of_its_own (begin mode) db e = absurd (cc)
+of_its_own commit db e = absurd (cc)
+of_its_own (rollback to) db e = absurd (cc)
+of_its_own (savepoint name) db e = absurd (cc)
+
+pub answers : (s : StatementTree) (db : Database) (replies : List Reply) (engine : ListEngine) → is_built s ≡ true → EndsAs (means s db) db replies engine → Answers s db replies engine
+answers s db replies engine built e = record {
+  after = e.after;
+  told = elim e.told [
+    | inl ends ↦ inl (record { told = ends.told ∙ ap (λ t. t.replies) (of_its_own s db built); left = ends.left ∙ ap (λ t. t.leaves) (of_its_own s db built) })
+    | inr over ↦ inr over
+  ];
+  holds = e.holds;
+}
+
+-- the number after so many kept changes
+pub none_kept : (kept : List Kept) (n : ℕ) → length kept ≡ 0 → next_number kept n ≡ n
+none_kept [] n e = refl
+none_kept (k ∷ ks) n e = absurd (omega (arith, e))
+
+pub some_kept : (kept : List Kept) (n : ℕ) → length kept ≢ 0 → next_number kept n ≡ n + 1
+some_kept [] n e = absurd (e refl)
+some_kept (k ∷ ks) n e = refl
+
+-- ---- the first database
+
+no_entries : entries (empty {X = Row} {R = place_cmp}) ≡ []
+no_entries = same_entries place_cmp place_cmp_total place_cmp-IsAntisymmetric (entries empty) [] (entries_sorted empty) tt (λ q. sym (get-entries empty q) ∙ get-empty place_cmp q)
+
+pub holds_created : Holds [] [] created
+holds_created = record {
+  schema = refl;
+  rows = λ n. sym (ap (λ es. map (λ e. e.1) (rows_where (λ place row. place.0 == n) es)) no_entries);
+  sound = created_sound;
+}

@@ -1,0 +1,10 @@
+use Rattle.std.proofs.Common.{◌≡◌, drop, map}
+use Rattle.iv_types.specs.Syntax.{trees}
+use Rattle.iv_types.specs.Definitions.{kinds_of}
+use Rattle.iv_meaning.specs.Grouping.{all_of}
+use Rattle.iv_meaning.specs.Statement.{tuple_values, tuple_rows}
+use Rattle.list_engine.proofs.Collecting.{behind}
+use Rattle.list_engine.proofs.tuples.tuple_rows.Given as goal
+
+abbrev pub invariant-loop-index : goal.invariant-loop-index
+invariant-loop-index l = behind l.rows (map (λ tuple. all_of (tuple_values (kinds_of l.table) tuple)) (map trees (drop l.index l.tuples))) ≡ tuple_rows l.table (map trees l.tuples)

@@ -1,0 +1,72 @@
+//! CREATE.
+ghost use Rattle.std.specs.Prelude.{◌≡◌, ◌⊎◌, ◌++◌, ◌∷◌, [], IfOk, OnOk, OnErr, IfErr, Ok};
+ghost use Rattle.iv_types.specs.Syntax.{StatementTree};
+ghost use Rattle.iv_types.specs.declared.refusal.Refusal.TheVariants as refusal;
+ghost use Rattle.iv_types.specs.declared.catalog.Definition.{Definition};
+ghost use Rattle.iv_meaning.specs.Schema.{object_of, Object};
+ghost use Rattle.iv_meaning.specs.Database.{Database};
+ghost use Rattle.iv_meaning.specs.Binding as binding;
+ghost use Rattle.iv_meaning.specs.Statement as statement;
+ghost use Rattle.iv_meaning.specs.Statement.{create_meaning, Refused};
+ghost use Rattle.sql_bind.specs.Bound.{bound_tree};
+ghost use Rattle.list_engine.specs.Held.{Holds};
+ghost use Rattle.list_engine.specs.Creating.{IsMade, Makes};
+
+use crate::entering::enter;
+use crate::evaluating::view_afresh;
+use iv_types::{Catalog, Definition, NoMemory, Refusal, TableRows};
+use std::alloc::Global;
+
+// Adds a definition that has the next number and a name of its own.
+fn add(catalog: &mut Catalog, definition: Definition) -> Result<(), NoMemory>
+    ensures ok { OnOk result (catalog.new ≡ catalog.old ++ definition ∷ []) }
+    ensures err { OnErr result (catalog.new ≡ catalog.old) }
+{
+    // Binding makes sure of both.
+    let next = catalog.len().checked_add(1);
+    if next != Some(definition.number() as usize) {
+        return Err(NoMemory);
+    }
+    if catalog.find(definition.name().as_slice()).is_some() {
+        return Err(NoMemory);
+    }
+    catalog.add(definition)
+}
+
+// Whether what is defined can be made: a view can be evaluated, and a table gets a list.
+fn make(
+    alloc: Global,
+    catalog: &Catalog,
+    tables: &mut TableRows,
+    definition: &Definition,
+) -> Result<(), Refusal>
+    ensures { (db : Database) → Holds catalog.now tables.old db → IsMade (object_of definition.now) db result × Holds catalog.now tables.new db }
+{
+    match definition {
+        Definition::Table(table) => Ok(enter(alloc, tables, table.number)?),
+        Definition::Index(_) => Ok(()),
+        Definition::View(view) => {
+            view_afresh(alloc, catalog, tables, view)?;
+            Ok(())
+        }
+    }
+}
+
+/// Adds what a CREATE statement makes. It is made of a statement that was bound on these definitions.
+///
+/// # Errors
+///
+/// `NumberRange` where a sum of a view leaves the HUGE range; `NoMemory`. Then nothing is defined.
+pub fn create(
+    alloc: Global,
+    catalog: &mut Catalog,
+    tables: &mut TableRows,
+    definition: Definition,
+) -> Result<(), Refusal>
+    ensures ok { (db : Database) (s : StatementTree) → Holds catalog.old tables.old db → binding.bind db.schema s ≡ Ok (statement.create (object_of definition)) → OnOk result (Makes catalog.new tables.new (object_of definition) db) }
+    ensures err { (db : Database) → Holds catalog.old tables.old db → IfErr result (λ why. ((why ≡ refusal.NoMemory) ⊎ (create_meaning (object_of definition) db ≡ Refused why)) × Holds catalog.new tables.new db) }
+{
+    make(alloc, catalog, tables, &definition)?;
+    add(catalog, definition)?;
+    Ok(())
+}

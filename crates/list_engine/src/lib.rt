@@ -1,0 +1,20 @@
+//! An engine that keeps each table as a list of rows in the order of their keys, and evaluates a view each time it is read.
+//! It does one step at a time, and has no locks: transactions that read stand beside each other, and rows change only
+//! where none is open.
+#![tactic(auto)]
+
+mod creating;
+mod engine;
+mod entering;
+mod evaluating;
+mod fetching;
+mod inserting;
+mod insertion;
+mod keys;
+mod places;
+mod reading;
+mod replying;
+mod selecting;
+mod tuples;
+
+pub use engine::ListEngine;
