@@ -4,4 +4,3 @@ pub mod NameLemmas
 pub mod Objects
 pub mod SortedLemmas
 pub mod TypeLemmas
-pub mod Walks

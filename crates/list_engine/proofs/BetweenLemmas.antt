@@ -1,15 +1,14 @@
 -- Lemmas on the rows of an interval among rows in the order of their keys.
-use Rattle.std.specs.Prelude.{◌≡◌, ◌≤◌, ◌<◌, ◌+◌, ◌&&◌, ℕ, zero, suc, List, [], ◌∷◌, length, slice_get, Some, None, Option, Bool, true, false, filter, take, drop, cond}
+use Rattle.std.specs.Prelude.{◌≡◌, ◌≤◌, ◌<◌, ◌&&◌, ℕ, zero, suc, List, [], ◌∷◌, length, slice_get, Some, None, Option, Bool, true, false, filter, take, drop, cond}
 use Rattle.std.specs.Option.{option_map_or}
 use Rattle.std.specs.Ordering.{is_gt, is_lt, ordering_reverse}
 use Rattle.std.specs.declared.cmp.Ordering.{Ordering}
 use Rattle.std.specs.declared.cmp.Ordering.TheVariants.{Less, Equal, Greater}
 use Rattle.std.proofs.Common.{arith}
-use mathlib.Core.Path.{refl, sym, ap, subst, ◌∙◌}
+use mathlib.Core.Path.{refl, sym, ap, ◌∙◌}
 use Rattle.iv_types.specs.declared.value.Interval.{Interval}
 use Rattle.iv_meaning.specs.Database.{Row}
 use Rattle.iv_meaning.specs.View.{lies_in}
-use Rattle.query_laws.specs.Laws.{IsBefore}
 use Rattle.query_laws.proofs.Rising.{key_cmp, key_total}
 use Rattle.list_engine.specs.Keys.{IsPlace}
 

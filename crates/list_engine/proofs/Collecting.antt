@@ -1,11 +1,10 @@
 -- Lemmas on results that are collected one after another, until one is refused.
-use Rattle.std.specs.Prelude.{◌≡◌, ◌<◌, ◌≤◌, ◌+◌, ℕ, List, [], ◌∷◌, ◌++◌, map, length, drop, get_or, Option, Some, None}
+use Rattle.std.specs.Prelude.{◌≡◌, ◌<◌, ◌≤◌, ◌+◌, ℕ, List, [], ◌∷◌, ◌++◌, length, drop, get_or, Option, Some, None}
 use Rattle.std.specs.Option.{option_map, option_zip}
 use Rattle.std.proofs.Common.{append_assoc, append-nil}
 use Rattle.std.proofs.lemmas.List.{at_drop_more, at_drop_all}
 use mathlib.Core.Path.{refl, sym, ap, ◌∙◌}
 use Rattle.iv_types.specs.declared.value.Kind.{Kind}
-use Rattle.iv_types.specs.declared.value.Value.{Value}
 use Rattle.iv_types.specs.declared.expression.Expr.{Expr}
 use Rattle.iv_types.specs.Syntax.{tree, trees}
 use Rattle.iv_meaning.specs.Grouping.{all_of}

@@ -1,11 +1,11 @@
 -- Lemmas on how a transaction ends.
-use Rattle.std.specs.Prelude.{◌≡◌, ◌==◌, ◌≢◌, ◌⊎◌, ◌<◌, ◌+◌, ◌-◌, ℕ, zero, suc, Bool, true, IsTrue, List, [], ◌∷◌, ◌++◌, map, length, slice_get, Option, Some, None, Result, Ok, Err, if◌then◌else◌}
+use Rattle.std.specs.Prelude.{◌≡◌, ◌==◌, ◌≢◌, ◌⊎◌, ◌+◌, ◌-◌, ℕ, suc, true, List, [], ◌∷◌, ◌++◌, map, length, slice_get, Option, Some, None, Err, if◌then◌else◌}
 use Rattle.std.specs.FinMap.{entries, empty, entries_sorted, get-entries, get-empty}
 use Rattle.std.specs.FinMap.Entries.{same_entries}
 use Rattle.table_laws.specs.Place.{place_cmp}
 use Rattle.table_laws.proofs.Place.{place_cmp_total, place_cmp-IsAntisymmetric}
 use Rattle.table_laws.specs.Table.{rows_where}
-use Rattle.iv_meaning.specs.Database.{created, rows_of}
+use Rattle.iv_meaning.specs.Database.{created}
 use Rattle.query_laws.proofs.SoundLemmas.{created_sound}
 use Rattle.std.proofs.Common.{arith, append_assoc}
 use mathlib.Core.Path.{refl, sym, ap, subst, ◌∙◌}
@@ -16,15 +16,20 @@ use Rattle.iv_types.specs.declared.refusal.Refusal.{Refusal}
 use Rattle.iv_types.specs.declared.refusal.Refusal.TheVariants.{NoMemory, NumberRange}
 use Rattle.iv_types.specs.declared.reply.Reply.{Reply}
 use Rattle.iv_types.specs.declared.reply.Reply.TheVariants as reply
+use Rattle.iv_meaning.specs.Statement as bound
 use Rattle.iv_types.specs.Syntax.{StatementTree, create_table, create_index, create_view, insert, update, delete, select, begin, commit, rollback, savepoint}
 use Rattle.iv_meaning.specs.Database.{Row, Database}
-use Rattle.iv_meaning.specs.Statement.{Kept, sets, defines, Meaning, Refused, Accepted, keep, keep_all, select_meaning}
+use Rattle.iv_meaning.specs.Statement.{Kept, sets, defines, Meaning, Refused, Accepted, keep, keep_all, select_meaning, bound_meaning}
 use Rattle.iv_meaning.specs.Transaction.{ended_by, next_number, committed, means, outside}
 use Rattle.iv_meaning.specs.Reading.{replies_of}
-use Rattle.iv_meaning.specs.Autocommit.{is_built, IsPassedOver, RunsAlone}
+use Rattle.iv_meaning.specs.Autocommit.{is_built}
 use Rattle.list_engine.specs.declared.engine.ListEngine.{ListEngine}
-use Rattle.list_engine.specs.Held.{Holds}
-use Rattle.list_engine.specs.Engine.{IsIn, Answers, Ends, EndsAs, is_done, with_commit}
+use Rattle.std.specs.List.{AllByRecursion}
+use Rattle.std.specs.Option.{option_and_then}
+use Rattle.iv_meaning.specs.Query.{BoundQuery, answer}
+use Rattle.row_eval.specs.Grouped.{Gives}
+use Rattle.list_engine.specs.Held.{Holds, IsEvaluated, sources}
+use Rattle.list_engine.specs.Engine.{IsIn, Answers, EndsAs, is_done, with_commit, IsSelected}
 
 -- ---- databases
 
@@ -57,18 +62,18 @@ module _ (m : Meaning) (db : Database) (replies : List Reply) (engine : ListEngi
   not_ended why i (inl memory) e = passed_over i (e ∙ ap (λ r. reply.Error r ∷ []) memory)
   not_ended why i (inr is) e = refused_ends why i is e
 
-  pub accepted_ends : (count : ℕ) (kept : List Kept) → m ≡ Accepted [] count kept → engine.number ≡ next_number kept db.number → Holds engine.catalog engine.tables (keep_all kept db)
+  pub accepted_ends : (count : ℕ) (kept : List Kept) → m ≡ Accepted [] count kept → IsIn engine (record (keep_all kept db) { number = next_number kept db.number })
       → replies ≡ reply.Done count ∷ reply.Commit engine.number ∷ [] → EndsAs m db replies engine
-  accepted_ends count kept is number h e =
+  accepted_ends count kept is here e =
       let after : Database = committed (record { db = keep_all kept db; kept = kept; saved = [] }) in
-      let same : engine.number ≡ after.number = number ∙ ap (next_number kept) (sym (same_number kept db)) in
+      let there : IsIn engine after = subst (λ n. IsIn engine (record (keep_all kept db) { number = next_number kept n })) (sym (same_number kept db)) here in
       record {
         after = after;
         told = inl (record {
-          told = e ∙ (ap (λ n. reply.Done count ∷ reply.Commit n ∷ []) same ∙ ap (λ x. (ended_by x db).replies) (sym is));
+          told = e ∙ (ap (λ n. reply.Done count ∷ reply.Commit n ∷ []) there.has.number ∙ ap (λ x. (ended_by x db).replies) (sym is));
           left = ap (λ x. (ended_by x db).leaves) (sym is);
         });
-        holds = record { number = same; holds = held_number engine.catalog engine.tables (keep_all kept db) (next_number kept (keep_all kept db).number) h };
+        holds = there;
       }
 
 -- ---- SELECT
@@ -87,15 +92,42 @@ ends_with n count rows =
     ∙ append_assoc rows (reply.Done count ∷ []) (reply.Commit n ∷ [])
 
 pub select_ends : (db : Database) (o : Option (List Row)) (replies : List Reply) (engine : ListEngine) → IsIn engine db
-    → replies ≡ with_commit engine.number (replies_of (select_meaning o)) → EndsAs (select_meaning o) db replies engine
+    → replies ≡ with_commit db.number (replies_of (select_meaning o)) → EndsAs (select_meaning o) db replies engine
 select_ends db None replies engine i e = refused_ends (select_meaning None) db replies engine NumberRange i refl e
 select_ends db (Some rows) replies engine i e = record {
   after = record db { number = db.number };
   told = inl (record {
-    told = e ∙ (ends_with engine.number (length rows) (map reply.Row rows) ∙ ap (λ n. map reply.Row rows ++ (reply.Done (length rows) ∷ reply.Commit n ∷ [])) i.number);
+    told = e ∙ ends_with db.number (length rows) (map reply.Row rows);
     left = refl;
   });
-  holds = record { number = i.number; holds = held_number engine.catalog engine.tables db db.number i.holds };
+  holds = i;
+}
+
+-- what was told of a SELECT in a transaction of its own
+pub selected_ends : (db : Database) (o : Option (List Row)) (read replies : List Reply) (engine : ListEngine) → read ≡ replies_of (select_meaning o) → IsSelected db read replies engine
+    → EndsAs (select_meaning o) db replies engine
+selected_ends db o read replies engine is e = elim e.told [
+  | inl told ↦ select_ends db o replies engine e.holds (told ∙ ap (with_commit db.number) is)
+  | inr over ↦ record { after = db; told = inr over; holds = e.holds }
+]
+
+refused_by : (o : Option (List (List Row))) (q : BoundQuery) (why : Refusal) → Gives o (Err why) → (why ≡ NoMemory) ⊎ (select_meaning (option_and_then (answer q) o) ≡ Refused why)
+refused_by (Some found) q why g = inl g
+refused_by None q why g = elim g [
+  | inl range ↦ inr (ap Refused (sym range))
+  | inr memory ↦ inl memory
+]
+
+-- a view among its relations refuses it
+pub select_refused : (db : Database) (q : BoundQuery) (why : Refusal) → Gives (sources db q.relations) (Err why) → (why ≡ NoMemory) ⊎ (bound_meaning (bound.select q) db ≡ Refused why)
+select_refused db q why g = refused_by (sources db q.relations) q why g
+
+-- with other views that are evaluated
+pub with_more : (engine : ListEngine) (db : Database) (views : List RowsOf) → IsIn engine db → AllByRecursion (IsEvaluated db) views → IsIn (record engine { views = views }) db
+with_more engine db views i h = record {
+  has = record { number = i.has.number; holds = i.has.holds; evaluated = h };
+  places = i.places;
+  closed = i.closed;
 }
 
 -- ---- statements

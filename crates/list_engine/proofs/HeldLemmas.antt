@@ -1,36 +1,36 @@
 -- Lemmas on lists of rows that hold a database.
-use Rattle.std.specs.Prelude.{◌≡◌, is_some, ◌⊎◌, ◌<◌, ◌+◌, ℕ, filter, Result, Ok, Err, IfOk, Bool, true, false, ◌==◌, ◌||◌, if◌then◌else◌, zero, suc, List, [], ◌∷◌, map, length, slice_get, get_or, drop, Option, Some, None}
-use Rattle.std.specs.List.{All, AllByRecursion}
+use Rattle.std.specs.Prelude.{◌≡◌, is_some, ◌⊎◌, ℕ, filter, Result, Ok, Err, IfOk, true, false, ◌==◌, ◌||◌, if◌then◌else◌, List, [], ◌∷◌, map, Option, Some, None}
+use Rattle.std.specs.List.{AllByRecursion}
 use mathlib.Core.Logic.{inl, inr}
 use Rattle.iv_types.specs.declared.catalog.TableDef.{TableDef}
 use Rattle.iv_types.specs.declared.value.Interval.{Interval}
 use Rattle.std.specs.Option.{option_map, unwrap_or}
 use borrow.Author.Tests.{eqb-true}
-use Rattle.std.proofs.Common.{arith}
 use mathlib.Core.Path.{refl, sym, ap, subst, ◌∙◌}
 use Rattle.iv_types.specs.declared.catalog.Definition.{Definition}
 use Rattle.iv_types.specs.declared.value.RowsOf.{RowsOf}
-use Rattle.iv_meaning.specs.Schema.{Schema, Object, table, view, ViewTree, numbered, sources_of, schema_of}
+use Rattle.iv_meaning.specs.Schema.{Object, table, index, view, ViewTree, numbered, sources_of, schema_of}
 use Rattle.iv_meaning.specs.Database.{Row, Database, rows_of, key_of}
 use Rattle.iv_meaning.specs.Query.{answer}
-use Rattle.iv_meaning.specs.View.{view_rows, query_of, read, object_rows, lies_in, rows_between, view_key}
+use Rattle.iv_meaning.specs.View.{relation_rows, view_rows, query_of, read, object_rows, lies_in, rows_between, view_key}
 use Rattle.query_laws.specs.Laws.{Rises}
 use Rattle.query_laws.proofs.Rising.{between_rising}
 use Rattle.query_laws.proofs.TableRows.{rows_law}
-use Rattle.iv_meaning.specs.Sound.{IsTable, IsView, IsObject, IsSound}
+use Rattle.iv_meaning.specs.Sound.{IsSound}
 use Rattle.query_laws.proofs.Relations.{view_rows_are}
 use Rattle.row_eval.specs.Fresh.{table_rows, fresh}
 use Rattle.iv_types.specs.declared.reply.Reply.{Reply}
 use Rattle.iv_types.specs.declared.refusal.Refusal.{Refusal}
 use Rattle.iv_types.specs.declared.refusal.Refusal.TheVariants as refusal
-use Rattle.iv_meaning.specs.Statement.{Meaning, Refused, Accepted, create_meaning, defines}
+use Rattle.iv_meaning.specs.Statement.{Refused, Accepted, create_meaning, defines}
 use Rattle.row_eval.specs.Grouped.{Gives}
 use Rattle.iv_meaning.specs.Reading.{Program, done, fetch, replies_by}
 use Rattle.txn_book.specs.declared.step.Step.{Step}
-use Rattle.txn_book.specs.declared.step.Answer.TheVariants.{Rows}
 use Rattle.txn_book.specs.declared.step.Turn.TheVariants.{Want, Done, NoMemory}
-use Rattle.query_exec.specs.Tasks.{IsTurn, after}
-use Rattle.list_engine.specs.Held.{Reads, Holds, IsEvaluated, has_rows, reader}
+use Rattle.query_exec.specs.Tasks.{IsTurn}
+use Rattle.iv_types.specs.declared.lock.LockMode.TheVariants.{Share}
+use Rattle.txn_book.specs.declared.step.Act.TheVariants as act
+use Rattle.list_engine.specs.Held.{Holds, IsEvaluated, has_rows, reader}
 
 same_sources : (db : Database) (tables : List RowsOf) → ((n : ℕ) → table_rows tables n ≡ rows_of db.rows n)
     → (ns : List ℕ) → map (table_rows tables) ns ≡ map (rows_of db.rows) ns
@@ -95,19 +95,40 @@ view_read db sound n v e rows is interval found f =
 
 -- ---- a SELECT as it is read
 
+-- a program asks for an interval, and the step is that of the session
+pub record IsWanted (session : ℕ) (p : Program) (step : Step) : Type 0 where
+  pub i : ℕ
+  pub interval : Interval
+  pub more : List Row → Program
+  pub is : p ≡ fetch i interval more
+  pub step_is : step ≡ record { session = session; act = act.Fetch i interval Share }
+
 pub turn_done : (rows : ℕ → Interval → List Row) (session : ℕ) (p : Program) (replies : List Reply) → IsTurn session p (Done replies) → replies ≡ replies_by rows p
 turn_done rows session (done told) replies h = h
 turn_done rows session (fetch i interval more) replies h = absurd h
 
-pub turn_want : (db : Database) (session : ℕ) (p : Program) (step : Step) (found : List Row) → IsTurn session p (Want step) → Reads db step.act found
-    → replies_by (reader db) (after (Some (Rows found)) p) ≡ replies_by (reader db) p
-turn_want db session (done told_) step found h r = absurd h
-turn_want db session (fetch i interval more) step found h r =
-    let is : read db i interval ≡ Some found = subst (λ a. Reads db a found) (ap (λ s. s.act) h) r in
-    ap (λ rows. replies_by (reader db) (more rows)) (sym (told db i interval found is))
+-- the interval that it wants
+pub turn_want : (session : ℕ) (p : Program) (step : Step) → IsTurn session p (Want step) → IsWanted session p step
+turn_want session (done replies) step h = absurd h
+turn_want session (fetch i interval more) step h = record { i = i; interval = interval; more = more; is = refl; step_is = h }
 
 pub no_turn : (step : Step) → Want step ≡ NoMemory → ⊥
 no_turn step e = absurd (cc)
+
+-- ---- relations
+
+-- what is no view can be read
+pub not_view : (db : Database) (n : ℕ) (o : Object) → numbered db.schema n ≡ Some o → ((v : ViewTree) → o ≡ view v → ⊥) → (rows : List Row) × (relation_rows db (numbered db.schema n) ≡ Some rows)
+not_view db n (table t) e other = (rows_of db.rows t.number, ap (relation_rows db) e)
+not_view db n (index i) e other = ([], ap (relation_rows db) e)
+not_view db n (view v) e other = absurd (other v refl)
+
+-- a view that is refused can't be read in any interval
+pub refused_read : (db : Database) (o : Option Object) (interval : Interval) → relation_rows db o ≡ None → object_rows db o interval ≡ None
+refused_read db None interval e = absurd (cc)
+refused_read db (Some (table t)) interval e = absurd (cc)
+refused_read db (Some (index i)) interval e = absurd (cc)
+refused_read db (Some (view v)) interval e = ap (option_map (rows_between (view_key db.schema v) interval)) e
 
 -- ---- what is created
 

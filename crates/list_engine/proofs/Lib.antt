@@ -6,3 +6,5 @@ pub mod Lifting
 pub mod ListLemmas
 pub mod PlaceLemmas
 pub mod EngineLemmas
+pub mod SteppingLemmas
+pub mod RunningLemmas

@@ -1,14 +1,13 @@
 -- Lemmas on places among rows in the order of their keys.
-use Rattle.std.specs.Prelude.{◌≡◌, ◌≤◌, ◌<◌, ◌+◌, ◌-◌, ℕ, zero, suc, List, [], ◌∷◌, ◌++◌, length, slice_get, get_or, Some, None, Option, Bool, true, false, ◌&&◌, filter, take, drop, cond, nat_lt, nat_le, not}
+use Rattle.std.specs.Prelude.{◌≡◌, ◌≤◌, ◌<◌, ◌+◌, ℕ, zero, suc, List, [], ◌∷◌, length, slice_get, get_or, Some, Bool, true, false}
 use Rattle.std.proofs.Common.{arith}
 use Rattle.std.proofs.lemmas.Bool.{cases_lt}
 use Rattle.std.proofs.lemmas.Option.{slice_get-get_or}
 use mathlib.Core.Logic.{inl, inr}
-use mathlib.Core.Path.{refl, sym, ap, subst, ◌∙◌}
+use mathlib.Core.Path.{sym, ap, subst, ◌∙◌}
 use Rattle.iv_meaning.specs.Database.{Row}
 use Rattle.query_laws.specs.Laws.{IsBefore, Rises}
 use Rattle.query_laws.proofs.Rising.{before_through, rest_rises, first_before, BeforeAll}
-use Rattle.list_engine.specs.Keys.{IsPlace}
 
 before_each : (key : Row → List ℕ) (k : List ℕ) (rows : List Row) → BeforeAll key k rows → (i : ℕ) (row : Row) → slice_get rows i ≡ Some row → IsBefore k (key row)
 before_each key k [] h i row e = absurd (cc)

@@ -1,15 +1,12 @@
 -- Which database some lists of rows hold, and what was evaluated of it.
-use Rattle.std.specs.Prelude.{◌≡◌, ◌==◌, ◌||◌, ℕ, Bool, true, false, List, [], ◌∷◌, map, Option, Some, Result, Ok, Err}
+use Rattle.std.specs.Prelude.{◌≡◌, ◌==◌, ◌||◌, ℕ, Bool, false, List, [], ◌∷◌, map, Option, Some, Result, Ok, Err}
 use Rattle.std.specs.List.{AllByRecursion}
 use Rattle.std.specs.Option.{unwrap_or}
 use Rattle.iv_types.specs.declared.value.Interval.{Interval}
-use Rattle.txn_book.specs.declared.step.Act.{Act}
-use Rattle.txn_book.specs.declared.step.Act.TheVariants as act
-use Rattle.iv_types.specs.declared.catalog.TableDef.{TableDef}
 use Rattle.iv_types.specs.declared.catalog.Definition.{Definition}
 use Rattle.iv_types.specs.declared.value.RowsOf.{RowsOf}
 use Rattle.iv_types.specs.declared.refusal.Refusal.{Refusal}
-use Rattle.iv_meaning.specs.Schema.{Schema, table, view, ViewTree, numbered, schema_of}
+use Rattle.iv_meaning.specs.Schema.{view, ViewTree, numbered, schema_of}
 use Rattle.iv_meaning.specs.Database.{Row, Database, rows_of}
 use Rattle.iv_meaning.specs.Grouping.{all_of}
 use Rattle.iv_meaning.specs.View.{view_rows, relation_rows, read}
@@ -39,25 +36,23 @@ has_rows (e ∷ es) n = (e.table == n) || has_rows es n
 abbrev pub sources : Database → List ℕ → Option (List (List Row))
 sources db relations = all_of (map (λ n. relation_rows db (numbered db.schema n)) relations)
 
--- the views among some relations were evaluated, or one is refused
-abbrev pub AreEvaluated : Database → List ℕ → Result (List RowsOf) Refusal → Type 0
-AreEvaluated db relations (Ok views) = ((found : List (List Row)) × (sources db relations ≡ Some found)) × AllByRecursion (IsEvaluated db) views
-AreEvaluated db relations (Err why) = Gives (sources db relations) (Err why)
+-- a relation can be read, or it is refused
+abbrev pub CanBeRead : {X : Type 0} → Option X → Result (Unit {0}) Refusal → Type 0
+CanBeRead {X} o (Ok u) = (x : X) × (o ≡ Some x)
+CanBeRead o (Err why) = Gives o (Err why)
 
--- a relation was looked at: its rows are there, and if it is a view they stand behind those of other views
-abbrev pub IsLookedAt : Database → ℕ → List RowsOf → Result (Unit {0}) Refusal → List RowsOf → Type 0
-IsLookedAt db n before (Ok u) after =
-    ((rows : List Row) × (relation_rows db (numbered db.schema n) ≡ Some rows))
-    × (AllByRecursion (IsEvaluated db) before → AllByRecursion (IsEvaluated db) after)
-IsLookedAt db n before (Err why) after = Gives (relation_rows db (numbered db.schema n)) (Err why)
+-- a relation was looked at, and the views are evaluated
+pub record IsLookedAt (db : Database) (n : ℕ) (told : Result (Unit {0}) Refusal) (views : List RowsOf) : Type 0 where
+  pub keeps : AllByRecursion (IsEvaluated db) views
+  pub there : CanBeRead (relation_rows db (numbered db.schema n)) told
+
+-- the same of some relations, one after another: those behind one that is refused were not looked at
+pub record AreEvaluated (db : Database) (relations : List ℕ) (told : Result (Unit {0}) Refusal) (views : List RowsOf) : Type 0 where
+  pub keeps : AllByRecursion (IsEvaluated db) views
+  pub there : CanBeRead (sources db relations) told
 
 -- ---- what is read
 
 -- the rows that a database has in an interval, or none where a view is refused
 abbrev pub reader : Database → ℕ → Interval → List Row
 reader db n i = unwrap_or (read db n i) []
-
--- these rows are what a Fetch asks for
-abbrev pub Reads : Database → Act → List Row → Type 0
-Reads db (act.Fetch i interval mode) found = read db i interval ≡ Some found
-Reads db _ found = ⊥

@@ -4,3 +4,5 @@ pub mod Held
 pub mod Inserting
 pub mod Insertion
 pub mod Keys
+pub mod Parts
+pub mod Told

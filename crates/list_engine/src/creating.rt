@@ -1,5 +1,5 @@
 //! CREATE.
-ghost use Rattle.std.specs.Prelude.{◌≡◌, ◌⊎◌, ◌++◌, ◌∷◌, [], IfOk, OnOk, OnErr, IfErr, Ok};
+ghost use Rattle.std.specs.Prelude.{◌≡◌, ◌⊎◌, OnOk, IfErr, Ok};
 ghost use Rattle.iv_types.specs.Syntax.{StatementTree};
 ghost use Rattle.iv_types.specs.declared.refusal.Refusal.TheVariants as refusal;
 ghost use Rattle.iv_types.specs.declared.catalog.Definition.{Definition};
@@ -12,26 +12,11 @@ ghost use Rattle.sql_bind.specs.Bound.{bound_tree};
 ghost use Rattle.list_engine.specs.Held.{Holds};
 ghost use Rattle.list_engine.specs.Creating.{IsMade, Makes};
 
+use crate::copying::add;
 use crate::entering::enter;
 use crate::evaluating::view_afresh;
-use iv_types::{Catalog, Definition, NoMemory, Refusal, TableRows};
+use iv_types::{Catalog, Definition, Refusal, TableRows};
 use std::alloc::Global;
-
-// Adds a definition that has the next number and a name of its own.
-fn add(catalog: &mut Catalog, definition: Definition) -> Result<(), NoMemory>
-    ensures ok { OnOk result (catalog.new ≡ catalog.old ++ definition ∷ []) }
-    ensures err { OnErr result (catalog.new ≡ catalog.old) }
-{
-    // Binding makes sure of both.
-    let next = catalog.len().checked_add(1);
-    if next != Some(definition.number() as usize) {
-        return Err(NoMemory);
-    }
-    if catalog.find(definition.name().as_slice()).is_some() {
-        return Err(NoMemory);
-    }
-    catalog.add(definition)
-}
 
 // Whether what is defined can be made: a view can be evaluated, and a table gets a list.
 fn make(

@@ -1,22 +1,17 @@
-//! Views evaluated afresh.
+//! Views evaluated afresh, once for each state of the rows.
 ghost use Rattle.std.specs.Prelude.{◌≡◌, ℕ, Some, IfOk};
 ghost use Rattle.std.specs.Option.{option_map, option_copied};
 ghost use Rattle.iv_meaning.specs.Schema.{object_of, schema_of, numbered, view_tree};
 ghost use Rattle.iv_meaning.specs.Database.{Database};
 ghost use Rattle.iv_meaning.specs.View.{view_rows};
+ghost use Rattle.std.specs.List.{AllByRecursion};
 ghost use Rattle.row_eval.specs.Grouped.{Gives};
-ghost use Rattle.list_engine.specs.Held.{Holds, IsLookedAt, AreEvaluated};
+ghost use Rattle.list_engine.specs.Held.{Holds, IsEvaluated, has_rows, IsLookedAt, AreEvaluated};
 
 use iv_types::{Catalog, Definition, Refusal, RowList, RowsOf, TableRows, ViewDef};
 use row_eval::{fresh_rows, is_readable};
+use sql_bind::numbered;
 use std::alloc::Global;
-
-/// The definition of an object number, if there is one.
-pub fn numbered(catalog: &Catalog, number: u32) -> Option<&Definition>
-    ensures { option_map object_of (option_copied result) ≡ numbered (schema_of catalog.now) number }
-{
-    catalog.get(number)
-}
 
 /// The rows of a view.
 ///
@@ -38,15 +33,32 @@ pub fn view_afresh(
     fresh_rows(alloc, catalog, view, tables)
 }
 
-// Puts the rows of a relation behind those of other views, if it is a view.
-fn look_at(
+/// Whether rows of this number were evaluated.
+pub fn has_rows(views: &TableRows, number: u32) -> bool
+    ensures { result ≡ has_rows views.now number }
+{
+    let views = views.as_slice();
+    for index in 0..views.len() {
+        if views[index].table == number {
+            return true;
+        }
+    }
+    false
+}
+
+/// Puts the rows of a relation behind those of other views, if it is a view that is not among them.
+///
+/// # Errors
+///
+/// `NumberRange` where a sum of it leaves the HUGE range; `NoMemory`.
+pub fn look_at(
     alloc: Global,
     catalog: &Catalog,
     tables: &TableRows,
     number: u32,
     views: &mut TableRows,
 ) -> Result<(), Refusal>
-    ensures { (db : Database) → Holds catalog.now tables.now db → IsLookedAt db number views.old result views.new }
+    ensures { (db : Database) → Holds catalog.now tables.now db → AllByRecursion (IsEvaluated db) views.old → IsLookedAt db number result views.new }
 {
     let Some(definition) = numbered(catalog, number) else {
         return Ok(());
@@ -55,6 +67,9 @@ fn look_at(
         Definition::Table(_) => Ok(()),
         Definition::Index(_) => Ok(()),
         Definition::View(view) => {
+            if has_rows(views, number) {
+                return Ok(());
+            }
             let rows = view_afresh(alloc, catalog, tables, view)?;
             views.push(RowsOf {
                 table: number,
@@ -65,22 +80,22 @@ fn look_at(
     }
 }
 
-/// The rows of the views among some relations.
+/// Puts the rows of those views among some relations that were not evaluated yet behind those of other views.
 ///
 /// # Errors
 ///
 /// `NumberRange` where a sum of one leaves the HUGE range; `NoMemory`.
-pub fn evaluated(
+pub fn evaluate(
     alloc: Global,
     catalog: &Catalog,
     tables: &TableRows,
+    views: &mut TableRows,
     relations: &[u32],
-) -> Result<TableRows, Refusal>
-    ensures { (db : Database) → Holds catalog.now tables.now db → AreEvaluated db relations.now result }
+) -> Result<(), Refusal>
+    ensures { (db : Database) → Holds catalog.now tables.now db → AllByRecursion (IsEvaluated db) views.old → AreEvaluated db relations.now result views.new }
 {
-    let mut views = TableRows::new(alloc);
     for index in 0..relations.len() {
-        look_at(alloc, catalog, tables, relations[index], &mut views)?;
+        look_at(alloc, catalog, tables, relations[index], views)?;
     }
-    Ok(views)
+    Ok(())
 }

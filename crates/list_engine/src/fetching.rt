@@ -3,26 +3,14 @@ ghost use Rattle.std.specs.Prelude.{◌≡◌, Some, IfOk};
 ghost use Rattle.std.specs.List.{AllByRecursion};
 ghost use Rattle.iv_meaning.specs.Database.{Database};
 ghost use Rattle.iv_meaning.specs.View.{read};
-ghost use Rattle.list_engine.specs.Held.{Holds, IsEvaluated, has_rows};
+ghost use Rattle.list_engine.specs.Held.{Holds, IsEvaluated};
 
-use crate::evaluating::numbered;
+use crate::evaluating::has_rows;
 use crate::reading::{table_between, view_between};
 use iv_types::{Catalog, Definition, Interval, NoMemory, RowList, TableRows};
 use row_eval::rows_of_table;
+use sql_bind::numbered;
 use std::alloc::Global;
-
-// Whether rows of this number were evaluated.
-fn has_rows(views: &TableRows, number: u32) -> bool
-    ensures { result ≡ has_rows views.now number }
-{
-    let views = views.as_slice();
-    for index in 0..views.len() {
-        if views[index].table == number {
-            return true;
-        }
-    }
-    false
-}
 
 /// The rows of a table or of a view that was evaluated whose keys lie in an interval, in the order of these.
 ///

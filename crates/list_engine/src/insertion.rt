@@ -18,12 +18,12 @@ ghost use Rattle.list_engine.specs.Keys.{key_by};
 ghost use Rattle.list_engine.specs.Inserting.{AreInserted, IsDuplicate};
 ghost use Rattle.list_engine.specs.Insertion.{place_in, PutsIn, Inserts};
 
-use crate::evaluating::numbered;
 use crate::inserting::insert_all;
 use crate::keys::{Key, primary_key};
 use crate::tuples::tuple_rows;
 use iv_types::{Catalog, Definition, ExprList, Refusal, Row, RowList, RowsOf, TableDef, TableRows};
 use row_codec::row_fits;
+use sql_bind::numbered;
 use std::alloc::Global;
 
 // The place of the list of a table's rows.

@@ -3,6 +3,7 @@
 //! where none is open.
 #![tactic(auto)]
 
+mod copying;
 mod creating;
 mod engine;
 mod entering;
@@ -11,10 +12,13 @@ mod fetching;
 mod inserting;
 mod insertion;
 mod keys;
+mod parts;
 mod places;
 mod reading;
 mod replying;
+mod running;
 mod selecting;
+mod told;
 mod tuples;
 
 pub use engine::ListEngine;

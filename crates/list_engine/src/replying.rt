@@ -1,5 +1,5 @@
 //! Replies of statements that are transactions of their own.
-ghost use Rattle.std.specs.Prelude.{◌≡◌, [], ◌∷◌, ◌-◌, length, slice_get, IfOk, OnOk};
+ghost use Rattle.std.specs.Prelude.{◌≡◌, [], ◌∷◌, ◌-◌, length, slice_get, IfOk};
 ghost use Rattle.iv_types.specs.declared.reply.Reply.TheVariants as reply;
 ghost use Rattle.list_engine.specs.Engine.{is_done, with_commit};
 
@@ -46,16 +46,16 @@ fn ends_done(replies: &[Reply]) -> bool
     }
 }
 
-/// Puts a commit behind replies that end with a count.
+/// Replies with a commit behind them, where they end with a count.
 ///
 /// # Errors
 ///
 /// Where there is no memory for it.
-pub fn commit(replies: &mut ReplyList, number: u64) -> Result<(), NoMemory>
-    ensures { OnOk result (replies.new ≡ with_commit number replies.old) }
+pub fn commit(mut replies: ReplyList, number: u64) -> Result<ReplyList, NoMemory>
+    ensures { IfOk result (λ told. told ≡ with_commit number replies) }
 {
     if ends_done(replies.as_slice()) {
         replies.push(Reply::Commit(number))?;
     }
-    Ok(())
+    Ok(replies)
 }

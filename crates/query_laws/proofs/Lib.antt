@@ -10,5 +10,6 @@ pub mod IndexRows
 pub mod GroupRows
 pub mod Relations
 pub mod ReadingLemmas
+pub mod Asking
 pub mod SoundLemmas
 pub mod CreatingLemmas

@@ -39,7 +39,7 @@ part_index ts number (place ∷ places) equal = go (first_equal ts place) (λ e.
     go [] h = refl
     go (e ∷ fs) h = h e
 
-best_has : (P : Part → Type 0) (p : Part) (ps : List Part) → P p → AllByRecursion P ps → P (best p ps)
+pub best_has : (P : Part → Type 0) (p : Part) (ps : List Part) → P p → AllByRecursion P ps → P (best p ps)
 best_has P p [] h hs = h
 best_has P p (q ∷ ps) h hs =
     elim (is_better q p) as (λ b. P (cond b (best q ps) (best p ps))) [

@@ -1,5 +1,5 @@
 -- Laws of databases that statements left, and of how a SELECT reads them.
-use Rattle.std.specs.Prelude.{◌≡◌, ◌≢◌, ◌⊎◌, ℕ, true, List, [], ◌∷◌, ◌++◌, map, filter, Option, Some, None, Ok}
+use Rattle.std.specs.Prelude.{◌≡◌, ◌≢◌, ◌⊎◌, ℕ, true, List, [], ◌∷◌, ◌++◌, map, filter, Option, Some, None, Ok, IsSome}
 use Rattle.std.specs.List.{All}
 use Rattle.std.specs.Ordering.{nat_cmp, is_lt}
 use Rattle.std.specs.Cmp.Lexicographic.{slice_cmp}
@@ -17,7 +17,7 @@ use Rattle.iv_meaning.specs.Query.{BoundQuery}
 use Rattle.iv_meaning.specs.View.{relation_rows, lies_in, rows_between, read}
 use Rattle.iv_meaning.specs.Statement.{create, select, bound_meaning, keep, defines}
 use Rattle.iv_meaning.specs.Binding.{bind}
-use Rattle.iv_meaning.specs.Reading.{program, sources_for, replies_by, replies_of}
+use Rattle.iv_meaning.specs.Reading.{Program, done, fetch, program, sources_for, replies_by, replies_of}
 use Rattle.iv_meaning.specs.Sound.{IsSound}
 
 -- ---- rows in the order of their keys
@@ -86,3 +86,12 @@ ReadingLaw = (db : Database) → IsSound db → (query : BoundQuery) → All (Is
     → (sources : List (List Row)) → all_of (map (λ n. relation_rows db (numbered db.schema n)) query.relations) ≡ Some sources
     → (mode : Mode) (rows : ℕ → Interval → List Row) → ((n : ℕ) (i : Interval) (found : List Row) → read db n i ≡ Some found → rows n i ≡ found)
     → replies_by rows (program query (sources_for db.schema query mode)) ≡ replies_of (bound_meaning (select query) db)
+
+-- each interval that it asks for is one of an object that there is
+abbrev pub Asks : Schema → Program → Type 0
+Asks objects (done replies) = Unit {0}
+Asks objects (fetch i interval more) = IsSome (numbered objects i) × ((rows : List Row) → Asks objects (more rows))
+
+-- a SELECT that is read by its plan asks for what there is, whatever it is told
+abbrev pub AskingLaw : Type 0
+AskingLaw = (db : Database) → IsSound db → (query : BoundQuery) (mode : Mode) → Asks db.schema (program query (sources_for db.schema query mode))

@@ -13,7 +13,7 @@ use Rattle.iv_meaning.specs.Names.{Visible, bound}
 use Rattle.iv_types.specs.declared.catalog.Second.{Second}
 use Rattle.iv_types.specs.declared.refusal.Refusal.TheVariants.{NeedsIndex}
 use Rattle.bind_shape.specs.Joining.{pairs_of}
-use Rattle.bind_names.proofs.Walks.{cons_is}
+use Rattle.iv_types.proofs.Walks.{cons_is}
 use Rattle.sql_bind.specs.Viewing.{or_else, first_some, left_of, serves, is_at, perhaps_on, second_by, numbered_second, lacks}
 
 -- ---- a walk over what stands at places

@@ -100,6 +100,20 @@ fn copied_value(alloc: Global, expression: &Expr) -> Result<Expr, NoMemory>
     bound(alloc, &[], expression)
 }
 
+/// A copy of a condition that may be left out.
+///
+/// # Errors
+///
+/// Where there is no memory for it.
+pub fn copied_condition(alloc: Global, condition: &Option<Expr>) -> Result<Option<Expr>, NoMemory>
+    ensures { IfOk result (λ copy. perhaps_tree copy ≡ perhaps_tree condition.now) }
+{
+    match condition {
+        Some(condition) => Ok(Some(copied_value(alloc, condition)?)),
+        None => Ok(None),
+    }
+}
+
 fn copied_tuple(alloc: Global, expressions: &[Expr]) -> Result<ExprList, NoMemory>
     ensures { IfOk result (λ copy. trees copy ≡ trees expressions.now) }
 {
@@ -134,7 +148,7 @@ fn copied_column(alloc: Global, column: &ColumnDef) -> Result<ColumnDef, NoMemor
     })
 }
 
-/// A copy of the columns of a CREATE TABLE.
+/// A copy of the columns of a table.
 ///
 /// # Errors
 ///

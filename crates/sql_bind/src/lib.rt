@@ -20,8 +20,9 @@ pub use bound::{
     Bound, BoundItem, BoundItemList, BoundOrder, BoundOrderList, BoundSet, BoundSetList, Equal,
     EqualList, Plan, PlanPart, PlanPartList, RangeTerm, RangeTermList,
 };
+pub use copies::{copied_columns, copied_condition};
 pub use plan_intervals::{fits_columns, interval};
-pub use plan_kinds::{group_kinds, kinds_of};
+pub use plan_kinds::{group_kinds, kinds_of, numbered};
 pub use plan_terms::fits;
 pub use planning::plan;
 

@@ -15,7 +15,7 @@ use Rattle.iv_types.specs.Syntax.{StatementTree, create_table, create_index, cre
 use Rattle.iv_meaning.specs.Schema.{Object, table, numbered, schema_of}
 use Rattle.iv_meaning.specs.Database.{Database}
 use Rattle.iv_meaning.specs.View.{read}
-use Rattle.iv_meaning.specs.Statement.{BoundTree, Kept, Meaning, Refused, Accepted, keep_all}
+use Rattle.iv_meaning.specs.Statement.{BoundTree, defines, Meaning, Refused, Accepted, keep}
 use Rattle.iv_meaning.specs.Binding.{bind}
 use Rattle.iv_meaning.specs.Transaction.{means}
 use Rattle.txn_book.specs.declared.step.Step.{Step}
@@ -98,10 +98,10 @@ IsFree s = (session : ℕ) → s.open_of session ≡ None
 -- a CREATE statement is one entry, of the next number
 pub record Defines (s : State) (statement : StatementTree) (number : ℕ) (after : State) : Type 0 where
   pub free : IsFree s
-  pub kept : List Kept
-  pub accepted : means statement s.committed ≡ Accepted [] 0 kept
+  pub object : Object
+  pub accepted : means statement s.committed ≡ Accepted [] 0 (defines object ∷ [])
   pub number_is : number ≡ s.committed.number + 1
-  pub left : after ≡ counted (record s { committed = record (keep_all kept s.committed) { number = number } })
+  pub left : after ≡ counted (record s { committed = record (keep (defines object) s.committed) { number = number } })
 
 -- It is refused by what it means. What is found only by evaluating a view is found after other transactions have ended.
 pub record Denies (s : State) (statement : StatementTree) (why : Refusal) (after : State) : Type 0 where

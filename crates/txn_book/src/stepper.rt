@@ -11,10 +11,10 @@ pub trait Stepper {
     /// Which state the engine is in.
     ghost stands: { Self → State → Type 0 };
 
-    /// Does a step. Steps are counted from 1; a step that is answered `Stopped` is not counted.
+    /// Does a step. Steps are counted from 1; a step that is answered `Stopped` is not counted. Of a step that may not be
+    /// asked for in the engine's state nothing is told.
     fn step(&mut self, step: &Step) -> Answer
-        requires { (s : State) → stands self.old s → May s step.now }
-        ensures { (s : State) → stands self.old s → Moves (stands self.new) s step.now result };
+        ensures { (s : State) → stands self.old s → May s step.now → Moves (stands self.new) s step.now result };
 
     /// How many steps were done.
     fn steps_done(&self) -> u64

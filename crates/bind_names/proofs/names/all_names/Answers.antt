@@ -1,6 +1,6 @@
 use Rattle.std.proofs.Common.{◌++◌, ◌∙◌, ap, refl}
 use Rattle.std.specs.List.{flat_map}
-use Rattle.bind_names.proofs.Walks.{all_gathered, gathered}
+use Rattle.iv_types.proofs.Walks.{all_gathered, gathered}
 use Rattle.bind_names.specs.Seeing.{names_in, scope_seen}
 use Rattle.std.proofs.lemmas.List.{map-append}
 use Rattle.bind_names.proofs.names.all_names.Goals as goal

@@ -2,7 +2,7 @@ use Rattle.std.proofs.Common.{◌∷◌, [], refl}
 use Rattle.iv_meaning.specs.Names.{taken}
 use Rattle.bind_names.proofs.Checking.{all_passed, exits, halted, moved}
 use Rattle.bind_names.proofs.NameLemmas.{bad_taken, one_taken}
-use Rattle.bind_names.proofs.Walks.{all_gathered, gathered}
+use Rattle.iv_types.proofs.Walks.{all_gathered, gathered}
 use Rattle.bind_names.specs.Seeing.{names_in}
 use Rattle.bind_names.proofs.names.check_all_taken.Goals as goal
 

@@ -3,7 +3,7 @@ use Rattle.std.specs.Option.{option_copied}
 use Rattle.iv_meaning.specs.Names.{candidates}
 use Rattle.bind_names.specs.Found.{found_of, both, is_meant}
 use Rattle.bind_names.specs.Seeing.{scope_seen, visible_of}
-use Rattle.bind_names.proofs.Walks.{walked, ended}
+use Rattle.iv_types.proofs.Walks.{walked, ended}
 use Rattle.bind_names.proofs.FoundLemmas.{one_relation, both-nothing}
 use Rattle.bind_names.proofs.resolving.candidates.Goals as goal
 

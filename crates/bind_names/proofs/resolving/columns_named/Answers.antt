@@ -2,7 +2,7 @@ use Rattle.std.proofs.Common.{sym, ap, ◌∙◌}
 use Rattle.iv_meaning.specs.Names.{columns_named}
 use Rattle.bind_names.specs.Found.{found_of, both}
 use Rattle.bind_names.specs.Seeing.{names_in}
-use Rattle.bind_names.proofs.Walks.{walked, ended}
+use Rattle.iv_types.proofs.Walks.{walked, ended}
 use Rattle.bind_names.proofs.FoundLemmas.{one_column, both-nothing}
 use Rattle.bind_names.proofs.resolving.columns_named.Goals as goal
 

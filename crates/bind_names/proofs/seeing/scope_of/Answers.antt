@@ -4,7 +4,7 @@ use Rattle.iv_types.specs.Syntax.{join_tree}
 use Rattle.iv_meaning.specs.Schema.{schema_of}
 use Rattle.iv_meaning.specs.Names.{visible}
 use Rattle.bind_names.specs.Seeing.{scope_seen, visible_of}
-use Rattle.bind_names.proofs.Walks.{gathered, all_gathered}
+use Rattle.iv_types.proofs.Walks.{gathered, all_gathered}
 use Rattle.bind_names.proofs.seeing.scope_of.Goals as goal
 
 pub loop-join-init : goal.loop-join-init

@@ -1,5 +1,5 @@
 use Rattle.std.proofs.Common.{◌∷◌, [], map, refl}
-use Rattle.bind_names.proofs.Walks.{gathered, all_gathered}
+use Rattle.iv_types.proofs.Walks.{gathered, all_gathered}
 use Rattle.bind_names.proofs.seeing.table_kinds.Goals as goal
 
 pub loop-column-preserved : goal.loop-column-preserved

@@ -1,7 +1,7 @@
 use Rattle.std.proofs.Common.{◌++◌, ◌∷◌, [], map, ap, ◌∙◌, refl}
 use Rattle.std.proofs.lemmas.List.{map_push}
 use Rattle.bind_names.specs.Seeing.{names_in}
-use Rattle.bind_names.proofs.Walks.{gathered, all_gathered}
+use Rattle.iv_types.proofs.Walks.{gathered, all_gathered}
 use Rattle.bind_names.proofs.seeing.table_names.Goals as goal
 
 pub loop-column-init : goal.loop-column-init

@@ -1,6 +1,6 @@
 use Rattle.std.proofs.Common.{◌++◌, ◌∷◌, [], map, sym, append_assoc}
 use Rattle.iv_types.specs.declared.value.Kind.TheVariants.{Huge}
-use Rattle.bind_names.proofs.Walks.{walked_at}
+use Rattle.iv_types.proofs.Walks.{walked_at}
 use Rattle.bind_names.proofs.seeing.view_kinds.Goals as goal
 
 pub sums-preserved : goal.sums-preserved

@@ -1,10 +1,10 @@
 use Rattle.std.proofs.Common.{◌∙◌, ◌+◌, ap, drop, sym}
 use Rattle.iv_meaning.specs.Names.{columns_named}
 use Rattle.bind_names.proofs.TypeLemmas.{is_named_first, not_named}
-use Rattle.bind_names.proofs.Walks.{ended}
+use Rattle.iv_types.proofs.Walks.{ended}
 use Rattle.bind_names.specs.Checks.{first}
 use Rattle.bind_names.specs.Seeing.{names_in}
-use Rattle.bind_names.proofs.Walks.{moved_on, left_at}
+use Rattle.iv_types.proofs.Walks.{moved_on, left_at}
 use Rattle.bind_names.proofs.types.first_named.Goals as goal
 
 pub loop-index-preserved : goal.loop-index-preserved

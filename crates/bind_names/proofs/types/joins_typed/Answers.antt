@@ -2,9 +2,9 @@ use Rattle.std.proofs.Common.{◌∙◌, ◌&&◌, ◌+◌, ap, drop, map, sym}
 use Rattle.std.specs.List.{list_all}
 use Rattle.iv_types.specs.Syntax.{join_tree}
 use Rattle.iv_meaning.specs.Types.{family_in, is_truth}
-use Rattle.bind_names.proofs.Walks.{ended}
+use Rattle.iv_types.proofs.Walks.{ended}
 use Rattle.bind_names.specs.Seeing.{scope_seen}
-use Rattle.bind_names.proofs.Walks.{moved_on, left_at}
+use Rattle.iv_types.proofs.Walks.{moved_on, left_at}
 use Rattle.bind_names.proofs.types.joins_typed.Goals as goal
 
 pub loop-join-preserved : goal.loop-join-preserved

@@ -2,9 +2,9 @@ use Rattle.std.proofs.Common.{◌∙◌, ◌&&◌, ◌+◌, ap, drop, map, sym}
 use Rattle.std.specs.List.{list_all}
 use Rattle.iv_types.specs.Syntax.{set_tree}
 use Rattle.iv_meaning.specs.Types.{set_typed}
-use Rattle.bind_names.proofs.Walks.{ended}
+use Rattle.iv_types.proofs.Walks.{ended}
 use Rattle.bind_names.specs.Seeing.{visible_of}
-use Rattle.bind_names.proofs.Walks.{moved_on, left_at}
+use Rattle.iv_types.proofs.Walks.{moved_on, left_at}
 use Rattle.bind_names.proofs.types.sets_typed.Goals as goal
 
 pub loop-set-preserved : goal.loop-set-preserved

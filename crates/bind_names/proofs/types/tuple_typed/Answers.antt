@@ -2,9 +2,9 @@ use Rattle.std.proofs.Common.{◌∙◌, ◌&&◌, ◌+◌, ap, drop, sym}
 use Rattle.iv_types.specs.Syntax.{tree, trees}
 use Rattle.iv_meaning.specs.Types.{tuple_typed}
 use Rattle.bind_names.proofs.TypeLemmas.{one_typed}
-use Rattle.bind_names.proofs.Walks.{ended}
+use Rattle.iv_types.proofs.Walks.{ended}
 use Rattle.bind_names.specs.Typing.{value_typed}
-use Rattle.bind_names.proofs.Walks.{moved_on, left_at}
+use Rattle.iv_types.proofs.Walks.{moved_on, left_at}
 use Rattle.bind_names.proofs.TypeLemmas.{none_typed}
 use Rattle.bind_names.proofs.types.tuple_typed.Goals as goal
 

@@ -3,9 +3,9 @@ use Rattle.std.specs.List.{filter_map, list_any}
 use Rattle.iv_meaning.specs.Schema.{schema_of}
 use Rattle.iv_meaning.specs.Shape.{numbers_of, object_number, readers}
 use Rattle.bind_shape.proofs.LimitLemmas.{one_number}
-use Rattle.bind_names.proofs.Walks.{ended}
+use Rattle.iv_types.proofs.Walks.{ended}
 use Rattle.bind_names.specs.Seeing.{scope_seen, visible_of}
-use Rattle.bind_names.proofs.Walks.{moved_on, left_at}
+use Rattle.iv_types.proofs.Walks.{moved_on, left_at}
 use Rattle.bind_shape.proofs.counting.have_many_readers.Goals as goal
 
 pub loop-relation-preserved : goal.loop-relation-preserved

@@ -1,7 +1,7 @@
 use Rattle.std.proofs.Common.{◌++◌, ◌∙◌, ap, refl, slice_get}
 use Rattle.std.specs.List.{filter_map}
 use Rattle.std.specs.Option.{option_to_list}
-use Rattle.bind_names.proofs.Walks.{all_gathered, one_filtered, walked_at}
+use Rattle.iv_types.proofs.Walks.{all_gathered, one_filtered, walked_at}
 use Rattle.bind_shape.proofs.counting.kinds_at.Goals as goal
 
 pub loop-index-preserved : goal.loop-index-preserved

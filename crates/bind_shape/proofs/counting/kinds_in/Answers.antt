@@ -2,7 +2,7 @@ use Rattle.std.proofs.Common.{◌++◌, ◌∙◌, ap, map, refl}
 use Rattle.std.specs.List.{filter_map}
 use Rattle.std.specs.Option.{option_to_list}
 use Rattle.iv_meaning.specs.Schema.{kind_at}
-use Rattle.bind_names.proofs.Walks.{all_gathered, one_filtered, walked_at}
+use Rattle.iv_types.proofs.Walks.{all_gathered, one_filtered, walked_at}
 use Rattle.bind_names.specs.Seeing.{scope_seen}
 use Rattle.bind_shape.proofs.counting.kinds_in.Goals as goal
 

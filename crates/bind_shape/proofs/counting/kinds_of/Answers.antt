@@ -1,5 +1,5 @@
 use Rattle.std.proofs.Common.{◌∷◌, [], map, refl}
-use Rattle.bind_names.proofs.Walks.{all_gathered, gathered}
+use Rattle.iv_types.proofs.Walks.{all_gathered, gathered}
 use Rattle.bind_shape.proofs.counting.kinds_of.Goals as goal
 
 pub loop-column-preserved : goal.loop-column-preserved

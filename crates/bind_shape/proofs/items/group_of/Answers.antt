@@ -1,7 +1,7 @@
 use Rattle.std.proofs.Common.{refl}
 use Rattle.std.specs.List.{flat_map}
 use Rattle.iv_meaning.specs.Shape.{resolved}
-use Rattle.bind_names.proofs.Walks.{all_gathered, gathered}
+use Rattle.iv_types.proofs.Walks.{all_gathered, gathered}
 use Rattle.bind_names.specs.Seeing.{scope_seen}
 use Rattle.bind_shape.proofs.items.group_of.Goals as goal
 

@@ -1,7 +1,7 @@
 use Rattle.std.proofs.Common.{◌++◌, ◌∙◌, ap, append_assoc, refl, sym}
 use Rattle.iv_meaning.specs.Shape.{all_columns, columns_from}
 use Rattle.bind_shape.proofs.ItemLemmas.{with_columns}
-use Rattle.bind_names.proofs.Walks.{all_gathered, walked}
+use Rattle.iv_types.proofs.Walks.{all_gathered, walked}
 use Rattle.bind_shape.specs.Items.{items_seen}
 use Rattle.bind_names.specs.Seeing.{names_in, scope_seen}
 use Rattle.bind_names.specs.declared.visible.Visible.{Visible}

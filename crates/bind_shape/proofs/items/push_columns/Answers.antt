@@ -1,5 +1,5 @@
 use Rattle.std.proofs.Common.{◌++◌, ◌∷◌, [], append_assoc, refl, sym}
-use Rattle.bind_names.proofs.Walks.{all_gathered, walked}
+use Rattle.iv_types.proofs.Walks.{all_gathered, walked}
 use Rattle.bind_shape.specs.Items.{columns_seen}
 use Rattle.bind_shape.proofs.items.push_columns.Goals as goal
 

@@ -1,8 +1,8 @@
 use Rattle.std.proofs.Common.{◌∙◌, ◌&&◌, ◌+◌, None, ap, drop, sym}
 use Rattle.std.specs.List.{list_all}
-use Rattle.bind_names.proofs.Walks.{ended}
+use Rattle.iv_types.proofs.Walks.{ended}
 use Rattle.bind_shape.specs.Joining.{is_key}
-use Rattle.bind_names.proofs.Walks.{moved_at, left_read}
+use Rattle.iv_types.proofs.Walks.{moved_at, left_read}
 use Rattle.bind_shape.proofs.joining.are_keys.Goals as goal
 
 pub loop-index-preserved : goal.loop-index-preserved

@@ -1,9 +1,9 @@
 use Rattle.std.proofs.Common.{◌∙◌, ◌&&◌, ◌+◌, ◌==◌, ap, drop, sym}
 use Rattle.std.specs.List.{list_all}
 use Rattle.iv_meaning.specs.Names.{how_many}
-use Rattle.bind_names.proofs.Walks.{ended}
+use Rattle.iv_types.proofs.Walks.{ended}
 use Rattle.bind_shape.specs.Joining.{is_of_column}
-use Rattle.bind_names.proofs.Walks.{moved_at, left_read}
+use Rattle.iv_types.proofs.Walks.{moved_at, left_read}
 use Rattle.bind_shape.proofs.joining.each_once.Goals as goal
 
 pub loop-index-preserved : goal.loop-index-preserved

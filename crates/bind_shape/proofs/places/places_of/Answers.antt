@@ -1,7 +1,7 @@
 use Rattle.std.proofs.Common.{◌++◌, ◌∙◌, ap, map, refl, sym}
 use Rattle.iv_meaning.specs.Shape.{places_of}
 use Rattle.bind_shape.proofs.PlaceLemmas.{places_are}
-use Rattle.bind_names.proofs.Walks.{all_gathered, gathered}
+use Rattle.iv_types.proofs.Walks.{all_gathered, gathered}
 use Rattle.bind_names.specs.Seeing.{names_in}
 use Rattle.iv_meaning.specs.Names.{columns_named}
 use Rattle.bind_shape.proofs.places.places_of.Goals as goal

@@ -1,5 +1,5 @@
 use Rattle.std.proofs.Common.{◌++◌, append_assoc, refl, sym}
-use Rattle.bind_names.proofs.Walks.{all_gathered, walked}
+use Rattle.iv_types.proofs.Walks.{all_gathered, walked}
 use Rattle.bind_shape.specs.Places.{column_places, named_place}
 use Rattle.bind_names.specs.Seeing.{names_in}
 use Rattle.bind_shape.proofs.places.push_places.Goals as goal

@@ -2,10 +2,10 @@ use Rattle.std.proofs.Common.{◌∙◌, ◌&&◌, ◌||◌, ◌+◌, ap, drop, 
 use Rattle.std.specs.List.{list_all}
 use Rattle.iv_meaning.specs.Shape.{is_aggregate, is_grouped}
 use Rattle.bind_shape.proofs.JoinLemmas.{grouped_at}
-use Rattle.bind_names.proofs.Walks.{ended}
+use Rattle.iv_types.proofs.Walks.{ended}
 use Rattle.bind_shape.specs.Items.{items_seen, named_item}
 use Rattle.bind_names.specs.Seeing.{scope_seen}
-use Rattle.bind_names.proofs.Walks.{moved_on, left_at}
+use Rattle.iv_types.proofs.Walks.{moved_on, left_at}
 use Rattle.bind_shape.proofs.shape.are_of_group.Goals as goal
 
 pub loop-item-preserved : goal.loop-item-preserved

@@ -1,9 +1,9 @@
 use Rattle.std.proofs.Common.{◌∙◌, ◌||◌, ◌+◌, ap, drop, sym}
 use Rattle.std.specs.List.{list_any}
 use Rattle.iv_meaning.specs.Shape.{is_view}
-use Rattle.bind_names.proofs.Walks.{ended}
+use Rattle.iv_types.proofs.Walks.{ended}
 use Rattle.bind_names.specs.Seeing.{scope_seen}
-use Rattle.bind_names.proofs.Walks.{moved_on, left_at}
+use Rattle.iv_types.proofs.Walks.{moved_on, left_at}
 use Rattle.bind_shape.proofs.shape.has_view.Goals as goal
 
 pub loop-relation-preserved : goal.loop-relation-preserved

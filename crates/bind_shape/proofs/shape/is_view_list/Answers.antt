@@ -1,10 +1,10 @@
 use Rattle.std.proofs.Common.{◌≡◌, ◌∙◌, ◌&&◌, ◌+◌, ap, drop, get_or, length, sym}
 use Rattle.iv_meaning.specs.Shape.{is_count_and_sums, is_view_list}
 use Rattle.bind_shape.proofs.JoinLemmas.{one_view_column}
-use Rattle.bind_names.proofs.Walks.{ended}
+use Rattle.iv_types.proofs.Walks.{ended}
 use Rattle.bind_shape.specs.Items.{items_seen, named_item}
 use Rattle.bind_names.specs.Seeing.{scope_seen}
-use Rattle.bind_names.proofs.Walks.{moved_at, left_read}
+use Rattle.iv_types.proofs.Walks.{moved_at, left_read}
 use Rattle.std.proofs.lemmas.List.{take_rest, drop-map}
 use Rattle.std.proofs.Common.{arith}
 use Rattle.bind_shape.proofs.shape.is_view_list.Goals as goal

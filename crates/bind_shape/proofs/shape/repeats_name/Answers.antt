@@ -2,7 +2,7 @@ use Rattle.std.proofs.Common.{◌∙◌, ◌-◌, ◌+◌, ap, length, subst, sy
 use Rattle.iv_meaning.specs.Shape.{repeats}
 use Rattle.std.specs.Str.{bytes_eq}
 use Rattle.bind_names.proofs.SortedLemmas.{alike_more, repeats_behind, still_none, twice_here}
-use Rattle.bind_names.proofs.Walks.{back_at, back_end}
+use Rattle.iv_types.proofs.Walks.{back_at, back_end}
 use Rattle.bind_names.specs.Seeing.{names_in, Alike}
 use Rattle.bind_shape.proofs.shape.repeats_name.Goals as goal
 

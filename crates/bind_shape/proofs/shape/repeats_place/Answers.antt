@@ -1,9 +1,9 @@
 use Rattle.std.proofs.Common.{◌∙◌, ◌||◌, ◌+◌, ap, drop, get_or, sym}
 use Rattle.std.specs.List.{list_any}
 use Rattle.iv_meaning.specs.Shape.{repeats, same_place}
-use Rattle.bind_names.proofs.Walks.{ended}
+use Rattle.iv_types.proofs.Walks.{ended}
 use Rattle.std.proofs.lemmas.List.{take_rest}
-use Rattle.bind_names.proofs.Walks.{moved_at, left_read}
+use Rattle.iv_types.proofs.Walks.{moved_at, left_read}
 use Rattle.bind_shape.proofs.shape.repeats_place.Goals as goal
 
 pub loop-index-preserved : goal.loop-index-preserved

@@ -1,5 +1,5 @@
-use Rattle.std.proofs.Common.{◌≡◌, ◌++◌, ◌∷◌, []}
-use mathlib.Core.Path.{refl, sym, ap, subst, ◌∙◌}
+use Rattle.std.proofs.Common.{◌++◌, ◌∷◌, []}
+use mathlib.Core.Path.{ap, ◌∙◌}
 use Rattle.std.proofs.lemmas.List.{map_push}
 use Rattle.iv_meaning.specs.Schema.{object_of, schema_of}
 use Rattle.query_laws.proofs.CreatingLemmas.{created_law}

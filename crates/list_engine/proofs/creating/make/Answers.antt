@@ -1,5 +1,5 @@
-use Rattle.std.proofs.Common.{◌≡◌, Err}
-use mathlib.Core.Path.{refl, sym, ap, subst, ◌∙◌}
+use Rattle.std.proofs.Common.{Err}
+use mathlib.Core.Path.{sym, subst}
 use Rattle.std.proofs.lemmas.Result.{err_from_is_err_and}
 use Rattle.iv_meaning.specs.Schema.{object_of, view_tree}
 use Rattle.list_engine.specs.Creating.{IsMade}

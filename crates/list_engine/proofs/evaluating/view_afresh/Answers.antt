@@ -1,4 +1,3 @@
-use Rattle.std.proofs.Common.{◌≡◌}
 use mathlib.Core.Path.{subst}
 use Rattle.iv_meaning.specs.Schema.{view_tree}
 use Rattle.row_eval.specs.Grouped.{Gives}

@@ -1,5 +1,4 @@
-use Rattle.std.proofs.Common.{◌≡◌, ◌≤◌, ◌<◌, ◌+◌, ◌-◌, ◌/◌, arith, length, ℕ, List, slice_get, Some}
-use mathlib.Core.Path.{refl, sym, ap, subst, ◌∙◌}
+use Rattle.std.proofs.Common.{◌<◌, ◌+◌, ◌-◌, ◌/◌, arith, length, ℕ}
 use Rattle.list_engine.specs.Keys.{key_by}
 use Rattle.list_engine.proofs.PlaceLemmas.{through, from, read_at, not_both}
 use Rattle.list_engine.proofs.places.place_of.Goals as goal

@@ -1,10 +1,10 @@
-use Rattle.std.proofs.Common.{◌≡◌, ℕ, List, filter, drop, take, IfOk}
-use mathlib.Core.Path.{refl, sym, ap, subst, ◌∙◌}
+use Rattle.std.proofs.Common.{◌≡◌, ℕ, List, IfOk}
+use mathlib.Core.Path.{sym, subst}
 use Rattle.iv_meaning.specs.Database.{Row, key_of}
 use Rattle.iv_meaning.specs.View.{lies_in}
 use Rattle.query_laws.specs.Laws.{Rises}
 use Rattle.list_engine.specs.Keys.{key_by, IsPlace}
-use Rattle.list_engine.proofs.BetweenLemmas.{between, interval_between, AreEnds}
+use Rattle.list_engine.proofs.BetweenLemmas.{between, interval_between}
 use Rattle.list_engine.proofs.reading.table_between.Goals as goal
 
 pub returns : goal.returns

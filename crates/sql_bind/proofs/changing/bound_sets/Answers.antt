@@ -1,6 +1,6 @@
 use Rattle.std.proofs.Common.{map, refl}
 use Rattle.std.specs.List.{flat_map}
-use Rattle.bind_names.proofs.Walks.{all_gathered, gathered}
+use Rattle.iv_types.proofs.Walks.{all_gathered, gathered}
 use Rattle.sql_bind.specs.Changing.{sets_at}
 use Rattle.bind_names.specs.Seeing.{names_in, scope_seen}
 use Rattle.iv_types.specs.Syntax as syntax

@@ -1,9 +1,9 @@
 use Rattle.std.proofs.Common.{◌∙◌, ◌&&◌, ◌+◌, ◌==◌, List, ap, drop, length, map, sym}
 use Rattle.std.specs.List.{list_all}
 use Rattle.iv_types.specs.Syntax.{trees}
-use Rattle.bind_names.proofs.Walks.{ended}
+use Rattle.iv_types.proofs.Walks.{ended}
 use Rattle.iv_types.specs.declared.expression.Expr.{Expr}
-use Rattle.bind_names.proofs.Walks.{moved_on, left_at}
+use Rattle.iv_types.proofs.Walks.{moved_on, left_at}
 use Rattle.sql_bind.proofs.changing.have_length.Goals as goal
 
 pub loop-tuple-preserved : goal.loop-tuple-preserved

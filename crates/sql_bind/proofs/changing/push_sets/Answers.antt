@@ -1,6 +1,6 @@
 use Rattle.std.proofs.Common.{◌++◌, ◌∷◌, [], append_assoc, ap, refl, ◌∙◌, map, sym}
 use Rattle.iv_types.specs.Syntax.{tree}
-use Rattle.bind_names.proofs.Walks.{walked_at, all_gathered}
+use Rattle.iv_types.proofs.Walks.{walked_at, all_gathered}
 use Rattle.sql_bind.specs.Changing.{set_at}
 use Rattle.bind_names.specs.Seeing.{scope_seen}
 use Rattle.sql_bind.specs.Bound.{set_tree}

@@ -1,6 +1,6 @@
 use Rattle.std.proofs.Common.{◌∷◌, ◌∙◌, [], ap, map, refl}
 use Rattle.std.proofs.lemmas.List.{map_push}
-use Rattle.bind_names.proofs.Walks.{all_gathered, gathered}
+use Rattle.iv_types.proofs.Walks.{all_gathered, gathered}
 use Rattle.bind_names.specs.Seeing.{names_in}
 use Rattle.sql_bind.proofs.creating.column_names.Goals as goal
 

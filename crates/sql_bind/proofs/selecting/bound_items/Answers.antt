@@ -1,6 +1,6 @@
 use Rattle.std.proofs.Common.{◌++◌, ◌∷◌, ◌∙◌, [], ap, map, refl}
 use Rattle.std.proofs.lemmas.List.{map_push}
-use Rattle.bind_names.proofs.Walks.{all_gathered, gathered}
+use Rattle.iv_types.proofs.Walks.{all_gathered, gathered}
 use Rattle.bind_shape.specs.Items.{items_seen, named_item}
 use Rattle.bind_names.specs.Seeing.{scope_seen}
 use Rattle.sql_bind.specs.Bound.{item_tree}

@@ -1,10 +1,10 @@
 use Rattle.std.proofs.Common.{◌≡◌, ◌∙◌, ◌+◌, drop, length}
 use Rattle.iv_meaning.specs.Binding.{item_place}
 use Rattle.sql_bind.proofs.SelectLemmas.{item_here, item_later}
-use Rattle.bind_names.proofs.Walks.{ended}
+use Rattle.iv_types.proofs.Walks.{ended}
 use Rattle.bind_shape.specs.Items.{items_seen, named_item}
 use Rattle.bind_names.specs.Seeing.{scope_seen}
-use Rattle.bind_names.proofs.Walks.{moved_on, left_at}
+use Rattle.iv_types.proofs.Walks.{moved_on, left_at}
 use Rattle.std.proofs.Common.{arith}
 use Rattle.sql_bind.proofs.selecting.item_place.Goals as goal
 

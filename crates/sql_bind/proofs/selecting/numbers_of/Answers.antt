@@ -1,7 +1,7 @@
 use Rattle.std.proofs.Common.{map, refl}
 use Rattle.std.specs.Option.{option_to_list}
 use Rattle.iv_meaning.specs.Shape.{numbers_of, object_number}
-use Rattle.bind_names.proofs.Walks.{all_gathered, gathered}
+use Rattle.iv_types.proofs.Walks.{all_gathered, gathered}
 use Rattle.bind_names.specs.Seeing.{scope_seen, visible_of}
 use Rattle.sql_bind.proofs.SelectLemmas.{one_mapped}
 use Rattle.std.specs.List.{filter_map}

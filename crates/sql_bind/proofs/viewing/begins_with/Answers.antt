@@ -1,8 +1,8 @@
 use Rattle.std.proofs.Common.{◌∙◌, ◌&&◌, ◌+◌, ap, drop, get_or, sym}
 use Rattle.iv_meaning.specs.Binding.{begins_with}
 use Rattle.sql_bind.proofs.ViewLemmas.{one_begins}
-use Rattle.bind_names.proofs.Walks.{ended}
-use Rattle.bind_names.proofs.Walks.{moved_at, left_read}
+use Rattle.iv_types.proofs.Walks.{ended}
+use Rattle.iv_types.proofs.Walks.{moved_at, left_read}
 use Rattle.sql_bind.proofs.viewing.begins_with.Goals as goal
 
 pub loop-index-preserved : goal.loop-index-preserved

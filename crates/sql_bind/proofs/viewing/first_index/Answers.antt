@@ -1,7 +1,7 @@
 use Rattle.std.proofs.Common.{◌∙◌, ◌≤◌, ◌+◌, ap, drop, length, sym}
 use Rattle.iv_meaning.specs.Schema.{object_of, schema_of}
 use Rattle.sql_bind.proofs.ViewLemmas.{one_found}
-use Rattle.bind_names.proofs.Walks.{ended}
+use Rattle.iv_types.proofs.Walks.{ended}
 use Rattle.sql_bind.specs.Viewing.{first_some, or_else, serves}
 use Rattle.std.proofs.lemmas.List.{length-map}
 use Rattle.std.proofs.Common.{arith}

@@ -1,10 +1,10 @@
 use Rattle.std.proofs.Common.{◌+◌, drop}
 use Rattle.std.specs.Option.{option_to_list}
 use Rattle.bind_shape.specs.Items.{named_item}
-use Rattle.bind_names.proofs.Walks.{cons_is}
+use Rattle.iv_types.proofs.Walks.{cons_is}
 use Rattle.std.proofs.Common.{refl}
 use Rattle.std.specs.List.{filter_map}
-use Rattle.bind_names.proofs.Walks.{all_gathered, gathered}
+use Rattle.iv_types.proofs.Walks.{all_gathered, gathered}
 use Rattle.bind_shape.specs.Items.{items_seen}
 use Rattle.bind_names.specs.Seeing.{scope_seen}
 use Rattle.sql_bind.proofs.viewing.item_names.Goals as goal

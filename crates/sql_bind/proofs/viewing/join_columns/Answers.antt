@@ -1,7 +1,7 @@
 use Rattle.std.proofs.Common.{◌++◌, ◌∙◌, ap, refl}
 use Rattle.std.specs.List.{filter_map}
 use Rattle.std.specs.Option.{option_to_list}
-use Rattle.bind_names.proofs.Walks.{all_gathered, one_filtered, walked_at}
+use Rattle.iv_types.proofs.Walks.{all_gathered, one_filtered, walked_at}
 use Rattle.sql_bind.specs.Viewing.{first_some, left_of}
 use Rattle.sql_bind.proofs.viewing.join_columns.Goals as goal
 

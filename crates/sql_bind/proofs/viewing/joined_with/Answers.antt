@@ -1,7 +1,7 @@
 use Rattle.std.proofs.Common.{◌∙◌, ◌+◌, None, ap, drop, sym}
-use Rattle.bind_names.proofs.Walks.{ended}
+use Rattle.iv_types.proofs.Walks.{ended}
 use Rattle.sql_bind.specs.Viewing.{first_some, left_of, or_else}
-use Rattle.bind_names.proofs.Walks.{moved_at, left_read}
+use Rattle.iv_types.proofs.Walks.{moved_at, left_read}
 use Rattle.sql_bind.proofs.viewing.joined_with.Goals as goal
 
 pub loop-index-preserved : goal.loop-index-preserved

@@ -1,30 +1,13 @@
-use Rattle.std.proofs.Common.{◌≡◌, ◌⊎◌, ◌+◌, refl, [], ◌∷◌, map, Ok, Err, List, ℕ}
-use mathlib.Core.Path.{sym, ap, subst, ◌∙◌}
-use mathlib.Core.Logic.{inl, inr}
-use Rattle.iv_types.specs.declared.refusal.Refusal.TheVariants.{NoMemory}
-use Rattle.iv_types.specs.declared.reply.Reply.{Reply}
-use Rattle.iv_types.specs.declared.reply.Reply.TheVariants as reply
-use Rattle.iv_types.specs.declared.statement.Mode.TheVariants.{Serial}
-use Rattle.iv_types.specs.Syntax.{StatementTree, statement_tree, trees}
-use Rattle.iv_meaning.specs.Schema.{Schema, object_of, schema_of}
-use Rattle.iv_meaning.specs.Query.{BoundQuery}
-use Rattle.iv_meaning.specs.Binding.{bind}
-use Rattle.iv_meaning.specs.Plan.{plan}
-use Rattle.iv_meaning.specs.View.{select_answer}
-use Rattle.iv_meaning.specs.Statement.{BoundTree, insert, select, Meaning, Refused, defines, create_meaning, bound_meaning}
-use Rattle.iv_meaning.specs.Transaction.{next_number, means, bound_or_refused}
-use Rattle.iv_meaning.specs.Reading.{replies_of}
-use Rattle.sql_bind.specs.Bound.{bound_tree, parts_of}
-use Rattle.query_exec.specs.Tasks.{query_in}
-use Rattle.query_laws.proofs.SoundLemmas.{relations_law}
-use Rattle.list_engine.specs.declared.engine.ListEngine.{ListEngine}
-use Rattle.list_engine.specs.Engine.{IsIn, Answers, EndsAs, with_commit}
+use Rattle.std.proofs.Common.{refl}
+use Rattle.iv_types.specs.Syntax.{StatementTree, statement_tree}
+use Rattle.iv_meaning.specs.Transaction.{means}
+use Rattle.list_engine.specs.Engine.{Answers, EndsAs}
 use Rattle.list_engine.proofs.HeldLemmas.{if_ok}
-use Rattle.list_engine.proofs.EngineLemmas.{passed_over, not_ended, accepted_ends, select_ends, answers}
+use Rattle.list_engine.proofs.EngineLemmas.{answers}
 use Rattle.list_engine.proofs.engine.ListEngine.run.Goals as goal
 
 pub returns : goal.returns
 returns c = λ db i.
     let s : StatementTree = statement_tree c.args.statement in
-    if_ok c.run_parsed.result (λ replies. EndsAs (means s db) db replies c.run_parsed.new.self) (λ replies. Answers s db replies c.run_parsed.new.self)
-    (λ replies e. answers s db replies c.run_parsed.new.self c.requires.built e) (c.run_parsed.ensures db i)
+    if_ok c.run_step.result (λ replies. EndsAs (means s db) db replies c.run_step.new.self) (λ replies. Answers s db replies c.run_step.new.self)
+    (λ replies e. answers s db replies c.run_step.new.self c.requires.built e) (c.run_step.ensures db c.args.statement i c.requires.session refl)

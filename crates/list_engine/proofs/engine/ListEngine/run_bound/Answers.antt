@@ -1,31 +1,15 @@
-use Rattle.std.proofs.Common.{◌≡◌, ◌⊎◌, ◌+◌, refl, [], ◌∷◌, map, Ok, Err, List, ℕ, IfOk}
+use Rattle.std.proofs.Common.{◌≡◌, refl, Ok, IfOk}
 use mathlib.Core.Path.{sym, ap, subst, ◌∙◌}
-use mathlib.Core.Logic.{inl, inr}
-use Rattle.iv_types.specs.declared.refusal.Refusal.TheVariants.{NoMemory}
-use Rattle.iv_types.specs.declared.reply.Reply.{Reply}
-use Rattle.iv_types.specs.declared.reply.Reply.TheVariants as reply
-use Rattle.iv_types.specs.declared.statement.Mode.TheVariants.{Serial}
-use Rattle.iv_types.specs.Syntax.{StatementTree, statement_tree, trees}
-use Rattle.iv_meaning.specs.Schema.{Schema, object_of, schema_of}
 use Rattle.iv_meaning.specs.Query.{BoundQuery}
-use Rattle.iv_meaning.specs.Binding.{bind}
-use Rattle.iv_meaning.specs.Plan.{plan}
-use Rattle.iv_meaning.specs.View.{select_answer}
-use Rattle.iv_meaning.specs.Statement.{BoundTree, insert, select, Meaning, Refused, defines, create_meaning, bound_meaning}
-use Rattle.iv_meaning.specs.Transaction.{next_number, means, bound_or_refused}
-use Rattle.iv_meaning.specs.Reading.{replies_of}
-use Rattle.sql_bind.specs.Bound.{bound_tree, parts_of}
+use Rattle.iv_meaning.specs.Statement.{select, bound_meaning}
+use Rattle.sql_bind.specs.Bound.{bound_tree}
 use Rattle.query_exec.specs.Tasks.{query_in}
-use Rattle.query_laws.proofs.SoundLemmas.{relations_law}
-use Rattle.list_engine.specs.declared.engine.ListEngine.{ListEngine}
-use Rattle.list_engine.specs.Engine.{IsIn, Answers, EndsAs, with_commit}
-use Rattle.list_engine.proofs.HeldLemmas.{if_ok}
-use Rattle.list_engine.proofs.EngineLemmas.{passed_over, not_ended, accepted_ends, select_ends, answers}
+use Rattle.list_engine.specs.Engine.{EndsAs}
 use Rattle.list_engine.proofs.engine.ListEngine.run_bound.Goals as goal
 
 pub returns-in-Select : goal.returns-in-Select
-returns-in-Select c = λ db s i b.
+returns-in-Select c = λ db s i of_session b.
     let q : BoundQuery = query_in (bound_tree c.args.bound) in
     let is : bound_tree c.args.bound ≡ select q = subst (λ x. bound_tree x ≡ select (query_in (bound_tree x))) (sym c.in-Select.is) refl in
-    subst (λ x. IfOk c.run_select.result (λ replies. EndsAs (bound_meaning x db) db replies c.args.self.now)) (sym is)
-    (c.run_select.ensures db s q i (b ∙ ap Ok is) is)
+    subst (λ x. IfOk c.run_select.result (λ replies. EndsAs (bound_meaning x db) db replies c.run_select.new.self)) (sym is)
+    (c.run_select.ensures db s q i of_session (b ∙ ap Ok is) is)

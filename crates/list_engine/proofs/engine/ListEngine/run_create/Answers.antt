@@ -1,46 +1,32 @@
-use Rattle.std.proofs.Common.{◌≡◌, ◌⊎◌, ◌+◌, refl, [], ◌∷◌, map, Ok, Err, List, ℕ}
-use mathlib.Core.Path.{sym, ap, subst, ◌∙◌}
-use mathlib.Core.Logic.{inl, inr}
+use Rattle.std.proofs.Common.{◌≡◌, [], ◌∷◌}
+use mathlib.Core.Path.{subst}
 use Rattle.iv_types.specs.declared.refusal.Refusal.TheVariants.{NoMemory}
-use Rattle.iv_types.specs.declared.reply.Reply.{Reply}
 use Rattle.iv_types.specs.declared.reply.Reply.TheVariants as reply
-use Rattle.iv_types.specs.declared.statement.Mode.TheVariants.{Serial}
-use Rattle.iv_types.specs.Syntax.{StatementTree, statement_tree, trees}
-use Rattle.iv_meaning.specs.Schema.{Schema, object_of, schema_of}
-use Rattle.iv_meaning.specs.Query.{BoundQuery}
-use Rattle.iv_meaning.specs.Binding.{bind}
-use Rattle.iv_meaning.specs.Plan.{plan}
-use Rattle.iv_meaning.specs.View.{select_answer}
-use Rattle.iv_meaning.specs.Statement.{BoundTree, insert, select, Meaning, Refused, defines, create_meaning, bound_meaning}
-use Rattle.iv_meaning.specs.Transaction.{next_number, means, bound_or_refused}
-use Rattle.iv_meaning.specs.Reading.{replies_of}
-use Rattle.sql_bind.specs.Bound.{bound_tree, parts_of}
-use Rattle.query_exec.specs.Tasks.{query_in}
-use Rattle.query_laws.proofs.SoundLemmas.{relations_law}
-use Rattle.list_engine.specs.declared.engine.ListEngine.{ListEngine}
-use Rattle.list_engine.specs.Engine.{IsIn, Answers, EndsAs, with_commit}
+use Rattle.iv_types.specs.Syntax.{statement_tree}
+use Rattle.iv_meaning.specs.Transaction.{means}
+use Rattle.txn_book.specs.Steps.{Moves}
+use Rattle.list_engine.specs.Engine.{Stands, EndsAs}
 use Rattle.list_engine.proofs.HeldLemmas.{if_ok}
-use Rattle.list_engine.proofs.EngineLemmas.{passed_over, not_ended, accepted_ends, select_ends, answers}
+use Rattle.list_engine.proofs.RunningLemmas.{state_of, stands_in, may_create, create_done, create_denied, create_passed}
 use Rattle.list_engine.proofs.engine.ListEngine.run_create.Goals as goal
 
-pub returns-then-self : goal.returns-then-self
-returns-then-self c = λ db s i b.
-    let m : Meaning = create_meaning (object_of c.args.definition) db in
-    if_ok c.refused.result (λ replies. replies ≡ reply.Error NoMemory ∷ []) (λ replies. EndsAs m db replies c.args.self.now)
-    (λ replies e. passed_over m db replies c.args.self.now i e) c.refused.ensures
+pub returns-in-Committed : goal.returns-in-Committed
+returns-in-Committed c = λ db statement i of_session is create.
+    let m = subst (Moves (Stands c.step.new.self) (state_of c.args.self.now db) c.args.step.now) c.in-Committed.is
+    (c.step.ensures (state_of c.args.self.now db) (stands_in c.args.self.now db i) (may_create c.args.self.now c.step.new.self db i statement c.args.step.now is of_session create)) in
+    if_ok c.done.result (λ replies. replies ≡ reply.Done 0 ∷ reply.Commit c.in-Committed.number ∷ []) (λ replies. EndsAs (means (statement_tree statement) db) db replies c.step.new.self)
+    (create_done c.args.self.now c.step.new.self db i statement c.args.step.now is c.in-Committed.number m) c.done.ensures
 
-pub returns-in-Ok : goal.returns-in-Ok
-returns-in-Ok c = λ db s i b.
-    let m : Meaning = create_meaning (object_of c.args.definition) db in
-    let made = c.in-Ok.ensures.ok db s i.holds b in
-    let engine : ListEngine = record { alloc = c.args.self.now.alloc; number = c.args.self.now.number + 1; catalog = c.create.new.catalog; tables = c.create.new.tables } in
-    if_ok c.done.result (λ replies. replies ≡ reply.Done 0 ∷ reply.Commit (c.args.self.now.number + 1) ∷ []) (λ replies. EndsAs m db replies engine)
-    (λ replies e. accepted_ends m db replies engine 0 (defines (object_of c.args.definition) ∷ []) made.means (ap (λ n. n + 1) i.number) made.holds e) c.done.ensures
+pub returns-in-Denied : goal.returns-in-Denied
+returns-in-Denied c = λ db statement i of_session is create.
+    let m = subst (Moves (Stands c.step.new.self) (state_of c.args.self.now db) c.args.step.now) c.in-Denied.is
+    (c.step.ensures (state_of c.args.self.now db) (stands_in c.args.self.now db i) (may_create c.args.self.now c.step.new.self db i statement c.args.step.now is of_session create)) in
+    if_ok c.refused.result (λ replies. replies ≡ reply.Error c.in-Denied.refusal ∷ []) (λ replies. EndsAs (means (statement_tree statement) db) db replies c.step.new.self)
+    (create_denied c.args.self.now c.step.new.self db i statement c.args.step.now is c.in-Denied.refusal m) c.refused.ensures
 
-pub returns-in-Err : goal.returns-in-Err
-returns-in-Err c = λ db s i b.
-    let m : Meaning = create_meaning (object_of c.args.definition) db in
-    let err = c.in-Err.ensures.err db i.holds in
-    let engine : ListEngine = record { alloc = c.args.self.now.alloc; number = c.args.self.now.number; catalog = c.create.new.catalog; tables = c.create.new.tables } in
-    if_ok c.refused-in-Err.result (λ replies. replies ≡ reply.Error c.in-Err.refusal ∷ []) (λ replies. EndsAs m db replies engine)
-    (λ replies e. not_ended m db replies engine c.in-Err.refusal (record { number = i.number; holds = err.1 }) err.0 e) c.refused-in-Err.ensures
+pub returns-in-Refused : goal.returns-in-Refused
+returns-in-Refused c = λ db statement i of_session is create.
+    let m = subst (Moves (Stands c.step.new.self) (state_of c.args.self.now db) c.args.step.now) c.in-Refused.is
+    (c.step.ensures (state_of c.args.self.now db) (stands_in c.args.self.now db i) (may_create c.args.self.now c.step.new.self db i statement c.args.step.now is of_session create)) in
+    if_ok c.refused-in-Refused.result (λ replies. replies ≡ reply.Error NoMemory ∷ []) (λ replies. EndsAs (means (statement_tree statement) db) db replies c.step.new.self)
+    (create_passed c.args.self.now c.step.new.self db i statement c.args.step.now is c.in-Refused.field-0 m) c.refused-in-Refused.ensures

@@ -1,35 +1,32 @@
-use Rattle.std.proofs.Common.{◌≡◌, ◌⊎◌, ◌+◌, refl, [], ◌∷◌, map, Ok, Err, List, ℕ}
+use Rattle.std.proofs.Common.{◌≡◌, ◌⊎◌, [], ◌∷◌, Ok, IfOk}
 use mathlib.Core.Path.{sym, ap, subst, ◌∙◌}
 use mathlib.Core.Logic.{inl, inr}
 use Rattle.iv_types.specs.declared.refusal.Refusal.TheVariants.{NoMemory}
-use Rattle.iv_types.specs.declared.reply.Reply.{Reply}
 use Rattle.iv_types.specs.declared.reply.Reply.TheVariants as reply
-use Rattle.iv_types.specs.declared.statement.Mode.TheVariants.{Serial}
-use Rattle.iv_types.specs.Syntax.{StatementTree, statement_tree, trees}
-use Rattle.iv_meaning.specs.Schema.{Schema, object_of, schema_of}
-use Rattle.iv_meaning.specs.Query.{BoundQuery}
+use Rattle.iv_types.specs.Syntax.{StatementTree, statement_tree}
+use Rattle.iv_meaning.specs.Schema.{Schema}
 use Rattle.iv_meaning.specs.Binding.{bind}
-use Rattle.iv_meaning.specs.Plan.{plan}
-use Rattle.iv_meaning.specs.View.{select_answer}
-use Rattle.iv_meaning.specs.Statement.{BoundTree, insert, select, Meaning, Refused, defines, create_meaning, bound_meaning}
-use Rattle.iv_meaning.specs.Transaction.{next_number, means, bound_or_refused}
-use Rattle.iv_meaning.specs.Reading.{replies_of}
-use Rattle.sql_bind.specs.Bound.{bound_tree, parts_of}
-use Rattle.query_exec.specs.Tasks.{query_in}
-use Rattle.query_laws.proofs.SoundLemmas.{relations_law}
-use Rattle.list_engine.specs.declared.engine.ListEngine.{ListEngine}
-use Rattle.list_engine.specs.Engine.{IsIn, Answers, EndsAs, with_commit}
+use Rattle.iv_meaning.specs.Statement.{Refused}
+use Rattle.iv_meaning.specs.Transaction.{means, bound_or_refused}
+use Rattle.sql_bind.specs.Bound.{bound_tree}
+use Rattle.list_engine.specs.Engine.{EndsAs}
 use Rattle.list_engine.proofs.HeldLemmas.{if_ok}
-use Rattle.list_engine.proofs.EngineLemmas.{passed_over, not_ended, accepted_ends, select_ends, answers}
+use Rattle.list_engine.proofs.EngineLemmas.{not_ended}
 use Rattle.list_engine.proofs.engine.ListEngine.run_parsed.Goals as goal
 
 pub returns-in-Err : goal.returns-in-Err
-returns-in-Err c = λ db i.
+returns-in-Err c = λ db i of_session.
     let s : StatementTree = statement_tree c.args.statement.now in
-    let engine : ListEngine = record { alloc = c.args.self.now.alloc; number = c.args.self.now.number; catalog = c.args.self.now.catalog; tables = c.args.self.now.tables } in
     let cause : (c.in-Err.refusal ≡ NoMemory) ⊎ (means s db ≡ Refused c.in-Err.refusal) = elim c.in-Err.ensures.fault [
       | inl memory ↦ inl memory
-      | inr fault ↦ inr (ap (λ x. bound_or_refused x db) (ap (λ (o : Schema). bind o s) (sym i.holds.schema) ∙ fault))
+      | inr fault ↦ inr (ap (λ x. bound_or_refused x db) (ap (λ (o : Schema). bind o s) (sym i.has.holds.schema) ∙ fault))
     ] in
-    if_ok c.refused.result (λ replies. replies ≡ reply.Error c.in-Err.refusal ∷ []) (λ replies. EndsAs (means s db) db replies engine)
-    (λ replies e. not_ended (means s db) db replies engine c.in-Err.refusal (record { number = i.number; holds = i.holds }) cause e) c.refused.ensures
+    if_ok c.refused.result (λ replies. replies ≡ reply.Error c.in-Err.refusal ∷ []) (λ replies. EndsAs (means s db) db replies c.args.self.now)
+    (λ replies e. not_ended (means s db) db replies c.args.self.now c.in-Err.refusal i cause e) c.refused.ensures
+
+pub returns-in-Ok : goal.returns-in-Ok
+returns-in-Ok c = λ db i of_session.
+    let s : StatementTree = statement_tree c.args.statement.now in
+    let bound : bind db.schema s ≡ Ok (bound_tree c.in-Ok.bound) = ap (λ (o : Schema). bind o s) (sym i.has.holds.schema) ∙ c.in-Ok.ensures.found in
+    subst (λ m. IfOk c.run_bound.result (λ replies. EndsAs m db replies c.run_bound.new.self)) (sym (ap (λ x. bound_or_refused x db) bound))
+    (c.run_bound.ensures db s i of_session bound)

@@ -1,0 +1,12 @@
+pub mod Steps
+pub mod ColumnSteps
+pub mod RowSteps
+pub mod NumberSteps
+pub mod ShareLemmas
+pub mod ColumnLemmas
+pub mod RowLemmas
+pub mod TableLemmas
+pub mod StateLemmas
+pub mod GhostLemmas
+pub mod Staging
+pub mod UnpaidLemmas

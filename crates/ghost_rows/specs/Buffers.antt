@@ -1,0 +1,6 @@
+-- Buffers for values of stored rows.
+use Rattle.std.specs.Prelude.{◌≡◌, ℕ, ◌≤◌, [], Vec, vec_capacity}
+
+-- it is empty, and has room for a stored row
+abbrev pub IsBuffer : {A : Type 0} → Vec ℕ A → Type 0
+IsBuffer v = (v.items ≡ []) × (144 ≤ vec_capacity v)

@@ -1,0 +1,7 @@
+pub mod Numbers
+pub mod Buffers
+pub mod Shares
+pub mod Rows
+pub mod Kept
+pub mod State
+pub mod Reading

@@ -1,0 +1,62 @@
+//! Buffers for values of stored rows, made ahead.
+ghost use Rattle.std.specs.Prelude.{◌≡◌, ◌+◌, ◌≤◌, [], OnOk, OnErr, vec_capacity};
+
+use iv_types::NoMemory;
+use std::alloc::Global;
+use std::marker::Model;
+
+/// The most bytes of a stored row: a count and eight sums of 16 bytes each.
+pub const MOST_BYTES: usize = 144;
+
+/// Empty buffers, each with room for a stored row. Contracts see how many there are.
+#[derive(Drop)]
+pub struct Pool {
+    buffers: Vec<Vec<u8>>,
+}
+
+impl Model for Pool {
+    ghost use Rattle.std.specs.Prelude.{ℕ, length};
+    ghost use Rattle.std.specs.List.{AllByRecursion};
+    ghost use Rattle.ghost_rows.specs.Buffers.{IsBuffer};
+
+    ghost Value = { ℕ };
+
+    ghost view = { λ p. length p.buffers.items };
+
+    ghost invariant = { λ p. AllByRecursion IsBuffer p.buffers.items };
+}
+
+impl Pool {
+    /// No buffers, which take no memory.
+    pub fn new(alloc: Global) -> Pool
+        ensures { result ≡ 0 }
+    {
+        Pool {
+            buffers: Vec::new(alloc),
+        }
+    }
+
+    /// Makes a buffer.
+    ///
+    /// # Errors
+    ///
+    /// Where there is no memory for it.
+    pub fn add(&mut self, alloc: Global) -> Result<(), NoMemory>
+        ensures ok { OnOk result (self.new ≡ self.old + 1) }
+        ensures err { OnErr result (self.new ≡ self.old) }
+    {
+        let buffer = Vec::with_capacity(alloc, MOST_BYTES)?;
+        self.buffers.push(buffer)?;
+        Ok(())
+    }
+
+    /// Takes a buffer; there is one.
+    pub fn take(&mut self) -> Vec<u8>
+        requires { 1 ≤ self.old }
+        ensures left { self.new + 1 ≡ self.old }
+        ensures empty { result.items ≡ [] }
+        ensures room { 144 ≤ vec_capacity result }
+    {
+        self.buffers.pop().unwrap()
+    }
+}

@@ -1,0 +1,385 @@
+//! The stored rows of views, and what open transactions have paid to them.
+ghost use Rattle.std.specs.Int.{w128};
+ghost use Rattle.std.specs.Prelude.{FitsSigned, get_or, suc, replicate, ◌≡◌, ◌≢◌, ◌<◌, ◌≤◌, ◌+◌, ◌*◌, ◌↔◌, ℕ, ℤ, pos, List, [], ◌∷◌, length, Option, false, true, Some, None, Ok, Err, IsSome, IsTrue, IfOk, IfErr, IfSome, OnOk, OnErr, vec_len, vec_capacity};
+ghost use Rattle.std.specs.Option.{option_copied};
+ghost use Rattle.iv_types.specs.Maps.{Map};
+ghost use Rattle.iv_meaning.specs.Escrow.{IsSession};
+ghost use Rattle.std.specs.FinMap as map;
+ghost use Rattle.table_laws.specs.Place.{Place};
+ghost use Rattle.table_store.specs.Stored.{between};
+ghost use Rattle.ghost_rows.specs.Reading.{AreViewRows, Shows};
+ghost use Rattle.txn_machine.specs.Deltas.{place_of};
+ghost use Rattle.ghost_rows.specs.Numbers.{numbers_bytes, moved, Fits128};
+ghost use Rattle.ghost_rows.specs.State.{stored_at, CanStore, StoresOnlyAt};
+ghost use Rattle.ghost_rows.specs.Kept.{width, IsDelta, HasNumbers};
+
+use crate::numbers::{front, numbers_of, put_moved};
+use crate::pool::Pool;
+use crate::reading::rows_between;
+use crate::row::Row;
+use crate::table::Table;
+use iv_types::{Bytes, GroupDelta, Interval, NoMemory, PrefixList, SortedMaps, ViewRowList};
+use std::alloc::Global;
+use std::marker::Model;
+
+// The sessions are 1 to 64.
+const POOLS: usize = 65;
+
+/// Why a pay was refused.
+#[derive(Clone, Copy, Debug, PartialEq, Eq)]
+pub enum PayRefusal {
+    /// The row is not stored.
+    Absent,
+    /// The first column that refuses the delta, counted from 0 with the count first, and its bounds before the delta.
+    Escrow { column: u32, inf: i128, sup: i128 },
+}
+
+// How many numbers a row of the delta's view has.
+fn width(delta: &GroupDelta) -> usize
+    requires { IsDelta delta.now }
+    ensures { result ≡ width delta.now }
+{
+    delta.sums.as_slice().len() + 1
+}
+
+// The value of a stored row with a delta added to it, or taken back, in a buffer that was made for it.
+fn moved_value<M: SortedMaps>(maps: &M, buffer: Vec<u8>, delta: &GroupDelta, back: bool) -> Bytes
+    requires empty { buffer.items ≡ [] }
+    requires room { 144 ≤ vec_capacity buffer }
+    requires delta { IsDelta delta.now }
+    requires stored { (numbers : List ℤ) × (stored_at (M.maps maps.now) (place_of delta.now) ≡ Some (numbers_bytes numbers)) × (length numbers ≡ width delta.now) }
+    ensures { (numbers : List ℤ) → stored_at (M.maps maps.now) (place_of delta.now) ≡ Some (numbers_bytes numbers)
+        → Fits128 numbers → Fits128 (moved back 0 numbers delta.now) → result ≡ numbers_bytes (moved back 0 numbers delta.now) }
+{
+    match maps.get(delta.view, delta.group.as_slice()) {
+        Some(stored) => {
+            let mut value = buffer;
+            put_moved(&mut value, stored, width(delta), delta, back);
+            Bytes::from_vec(value)
+        }
+        None => unreachable!(),
+    }
+}
+
+// Stores the numbers of a row with a delta added to them, or taken back.
+fn store_moved<M: SortedMaps>(maps: &mut M, buffer: Vec<u8>, delta: &GroupDelta, back: bool)
+    requires empty { buffer.items ≡ [] }
+    requires room { 144 ≤ vec_capacity buffer }
+    requires delta { IsDelta delta.now }
+    requires stored { (numbers : List ℤ) × (stored_at (M.maps maps.old) (place_of delta.now) ≡ Some (numbers_bytes numbers)) × (length numbers ≡ width delta.now)
+        × Fits128 numbers × Fits128 (moved back 0 numbers delta.now) }
+    requires can { CanStore (M.maps maps.old) (M.limit maps.old) (place_of delta.now) (width delta.now) }
+    ensures entry { (numbers : List ℤ) → stored_at (M.maps maps.old) (place_of delta.now) ≡ Some (numbers_bytes numbers)
+        → Fits128 numbers → Fits128 (moved back 0 numbers delta.now) → stored_at (M.maps maps.new) (place_of delta.now) ≡ Some (numbers_bytes (moved back 0 numbers delta.now)) }
+    ensures others { StoresOnlyAt (place_of delta.now) (M.maps maps.old) (M.maps maps.new) }
+    ensures spare { (i : ℕ) → M.spare maps.old i ≤ M.spare maps.new i }
+    ensures limit { M.limit maps.new ≡ M.limit maps.old }
+{
+    let value = moved_value(maps, buffer, delta, back);
+    maps.replace(delta.view, delta.group.as_slice(), value);
+}
+
+// The same bytes again.
+fn copy_of(alloc: Global, bytes: &Bytes) -> Result<Bytes, NoMemory>
+    ensures { IfOk result (λ copy. copy ≡ bytes.now) }
+{
+    Ok(Bytes::from_vec(Vec::from_slice(alloc, bytes.as_slice())?))
+}
+
+// So many zeros.
+fn zeros(alloc: Global, many: usize) -> Result<Vec<i128>, NoMemory>
+    ensures { IfOk result (λ found. found.items ≡ replicate many (pos 0)) }
+{
+    Ok(vec![in alloc; 0; many]?)
+}
+
+// The numbers that a row begins with: zeros where it is absent.
+fn numbers_at<M: SortedMaps>(
+    alloc: Global,
+    maps: &M,
+    delta: &GroupDelta,
+) -> Result<Vec<i128>, NoMemory>
+    requires delta { IsDelta delta.now }
+    requires stored { (numbers : List ℤ) × HasNumbers (stored_at (M.maps maps.now) (place_of delta.now)) (width delta.now) numbers }
+    ensures { IfOk result (λ found. (numbers : List ℤ) → HasNumbers (stored_at (M.maps maps.now) (place_of delta.now)) (width delta.now) numbers → found.items ≡ numbers) }
+{
+    match maps.get(delta.view, delta.group.as_slice()) {
+        Some(stored) => numbers_of(alloc, stored, width(delta)),
+        None => zeros(alloc, width(delta)),
+    }
+}
+
+/// What open transactions have paid to stored rows of views: for each row the escrow of its columns, and for each session
+/// the buffers that its further pays and their taking back need.
+#[derive(Drop)]
+pub struct ViewRows {
+    alloc: Global,
+    rows: Table,
+    pools: Vec<Pool>,
+}
+
+impl Model for ViewRows {
+    ghost use Rattle.std.specs.Prelude.{◌≡◌, length};
+    ghost use Rattle.ghost_rows.specs.State.{State, coded_state};
+
+    ghost Value = { State };
+
+    ghost coded = { coded_state };
+
+    ghost view = { λ v. record { rows = v.rows; rooms = v.pools.items } };
+
+    ghost invariant = { λ v. length v.pools.items ≡ 65 };
+}
+
+impl ViewRows {
+    ghost use Rattle.ghost_rows.specs.Rows.{row_at, settled_at, OpenRow};
+    ghost use Rattle.ghost_rows.specs.State.{State, room_of, AreKept, HasSeat, IsReady, OnlyAt, IsRefusal, MovesRoom};
+    ghost use Rattle.iv_meaning.specs.Escrow.{value};
+    ghost use Rattle.ghost_rows.specs.Kept.{account, Pays, with_pays, ArePrefixes, IsAllowedIn, IsPaidLast, committed_at, AllCount, IsUnpaid, StandsFor};
+
+    /// Adds a delta to its stored row, as a kept pay of the session, and answers the session's prefixes before it. The
+    /// session has room for it.
+    ///
+    /// # Errors
+    ///
+    /// `Absent` where the row is not stored, and `Escrow` where a column refuses the delta. Nothing is changed then.
+    pub fn pay<M: SortedMaps>(
+        &mut self,
+        maps: &mut M,
+        session: u32,
+        delta: &GroupDelta,
+    ) -> Result<PrefixList, PayRefusal>
+        requires session { IsSession session }
+        requires delta { IsDelta delta.now }
+        requires kept { (pays : Pays) × AreKept self.old (M.maps maps.old) (place_of delta.now) (width delta.now) pays }
+        requires ready { IsReady self.old (place_of delta.now) session }
+        requires can { CanStore (M.maps maps.old) (M.limit maps.old) (place_of delta.now) (width delta.now) }
+        ensures absent { (result ≡ Err PayRefusal.Absent) ↔ (stored_at (M.maps maps.old) (place_of delta.now) ≡ None) }
+        ensures paid { OnOk result ((pays : Pays) → AreKept self.old (M.maps maps.old) (place_of delta.now) (width delta.now) pays
+            → AreKept self.new (M.maps maps.new) (place_of delta.now) (width delta.now) (with_pays pays session (delta.now ∷ pays session))) }
+        ensures before { IfOk result (λ before. (pays : Pays) → AreKept self.old (M.maps maps.old) (place_of delta.now) (width delta.now) pays
+            → ArePrefixes before (width delta.now) (pays session)) }
+        ensures escrow { IfErr result (IsRefusal self.old (M.maps maps.old) session delta.now) }
+        ensures allowed { OnOk result ((pays : Pays) (row : OpenRow) → AreKept self.old (M.maps maps.old) (place_of delta.now) (width delta.now) pays
+            → row_at self.old.rows (place_of delta.now) ≡ Some row → IsAllowedIn (committed_at row) pays session delta.now (width delta.now)) }
+        ensures err { OnErr result ((q : Place) → (row_at self.new.rows q ≡ row_at self.old.rows q) × (stored_at (M.maps maps.new) q ≡ stored_at (M.maps maps.old) q)) }
+        ensures rooms { OnErr result (self.new.rooms ≡ self.old.rooms) }
+        ensures room { OnOk result (MovesRoom session self.old self.new) }
+        ensures others { OnlyAt (place_of delta.now) self.old self.new }
+        ensures stores { StoresOnlyAt (place_of delta.now) (M.maps maps.old) (M.maps maps.new) }
+        ensures seats { (s : ℕ) → HasSeat self.old (place_of delta.now) s → HasSeat self.new (place_of delta.now) s }
+        ensures limit { M.limit maps.new ≡ M.limit maps.old }
+    {
+        if maps.get(delta.view, delta.group.as_slice()).is_none() {
+            return Err(PayRefusal::Absent);
+        }
+        let group = delta.group.as_slice();
+        match self.rows.pay(delta.view, group, session, delta) {
+            Ok(before) => {
+                let buffer = self.pools[session as usize].take();
+                store_moved(maps, buffer, delta, false);
+                Ok(before)
+            }
+            Err((column, range)) => Err(PayRefusal::Escrow {
+                column,
+                inf: range.inf,
+                sup: range.sup,
+            }),
+        }
+    }
+
+    /// Takes the session's latest kept pay on a row back, which was of this delta and answered `before`.
+    pub fn take_back<M: SortedMaps>(
+        &mut self,
+        maps: &mut M,
+        session: u32,
+        delta: &GroupDelta,
+        before: &PrefixList,
+    )
+        requires session { IsSession session }
+        requires delta { IsDelta delta.now }
+        requires kept { (pays : Pays) × AreKept self.old (M.maps maps.old) (place_of delta.now) (width delta.now) pays × IsPaidLast pays session delta.now before.now }
+        requires room { 1 ≤ room_of self.old session }
+        requires can { CanStore (M.maps maps.old) (M.limit maps.old) (place_of delta.now) (width delta.now) }
+        ensures taken { (pays : Pays) (earlier : List GroupDelta) → AreKept self.old (M.maps maps.old) (place_of delta.now) (width delta.now) pays
+            → pays session ≡ delta.now ∷ earlier → ArePrefixes before.now (width delta.now) earlier
+            → AreKept self.new (M.maps maps.new) (place_of delta.now) (width delta.now) (with_pays pays session earlier) }
+        ensures room { MovesRoom session self.old self.new }
+        ensures others { OnlyAt (place_of delta.now) self.old self.new }
+        ensures stores { StoresOnlyAt (place_of delta.now) (M.maps maps.old) (M.maps maps.new) }
+        ensures seats { (s : ℕ) → HasSeat self.old (place_of delta.now) s → HasSeat self.new (place_of delta.now) s }
+        ensures limit { M.limit maps.new ≡ M.limit maps.old }
+    {
+        let group = delta.group.as_slice();
+        self.rows
+            .take_back(delta.view, group, session, delta, before);
+        let buffer = self.pools[session as usize].take();
+        store_moved(maps, buffer, delta, true);
+    }
+
+    /// No open transactions.
+    ///
+    /// # Errors
+    ///
+    /// Where there is no memory for it.
+    pub fn new(alloc: Global) -> Result<ViewRows, NoMemory>
+        ensures { IfOk result (λ rows. rows.rows ≡ []) }
+    {
+        let mut pools = Vec::new(alloc);
+        for _index in 0..POOLS {
+            pools.push(Pool::new(alloc))?;
+        }
+        Ok(ViewRows {
+            alloc,
+            rows: Table::new(alloc),
+            pools,
+        })
+    }
+
+    /// The session's kept pays become committed, and all that was made for it goes. It need have none.
+    pub fn settle(&mut self, session: u32)
+        requires { IsSession session }
+        ensures rows { (q : Place) → row_at self.new.rows q ≡ settled_at session (row_at self.old.rows q) }
+        ensures kept { (maps : ℕ → Map) (place : Place) (many : ℕ) (pays : Pays) → AreKept self.old maps place (suc many) pays → AreKept self.new maps place (suc many) (with_pays pays session []) }
+        ensures rooms { (s : ℕ) → s ≢ session → room_of self.new s ≡ room_of self.old s }
+        ensures gone { room_of self.new session ≡ 0 }
+    {
+        self.rows.settle(session);
+        self.pools[session as usize] = Pool::new(self.alloc);
+    }
+
+    // Makes the row of a delta in memory, if it is not there.
+    fn open<M: SortedMaps>(&mut self, maps: &M, delta: &GroupDelta) -> Result<(), NoMemory>
+        requires delta { IsDelta delta.now }
+        requires kept { (pays : Pays) × AreKept self.old (M.maps maps.now) (place_of delta.now) (width delta.now) pays }
+        ensures kept { (pays : Pays) → AreKept self.old (M.maps maps.now) (place_of delta.now) (width delta.now) pays
+            → AreKept self.new (M.maps maps.now) (place_of delta.now) (width delta.now) pays }
+        ensures there { OnOk result (IsSome (row_at self.new.rows (place_of delta.now))) }
+        ensures others { OnlyAt (place_of delta.now) self.old self.new }
+        ensures seats { (s : ℕ) → HasSeat self.old (place_of delta.now) s → HasSeat self.new (place_of delta.now) s }
+        ensures rooms { self.new.rooms ≡ self.old.rooms }
+    {
+        if self.rows.get(delta.view, delta.group.as_slice()).is_some() {
+            return Ok(());
+        }
+        let numbers = numbers_at(self.alloc, maps, delta)?;
+        let row = Row::new(self.alloc, &numbers)?;
+        let group = copy_of(self.alloc, &delta.group)?;
+        self.rows.insert(delta.view, group, row)?;
+        Ok(())
+    }
+
+    /// Makes all that one `pay` of the delta by the session and its `take_back` need.
+    ///
+    /// # Errors
+    ///
+    /// Where there is no memory for it. No kept pay and no room is lost then.
+    pub fn reserve<M: SortedMaps>(
+        &mut self,
+        maps: &M,
+        delta: &GroupDelta,
+        session: u32,
+    ) -> Result<(), NoMemory>
+        requires session { IsSession session }
+        requires delta { IsDelta delta.now }
+        requires kept { (pays : Pays) × AreKept self.old (M.maps maps.now) (place_of delta.now) (width delta.now) pays }
+        ensures kept { (pays : Pays) → AreKept self.old (M.maps maps.now) (place_of delta.now) (width delta.now) pays
+            → AreKept self.new (M.maps maps.now) (place_of delta.now) (width delta.now) pays }
+        ensures seat { OnOk result (HasSeat self.new (place_of delta.now) session) }
+        ensures room { OnOk result (room_of self.new session ≡ room_of self.old session + 2) }
+        ensures rooms { (s : ℕ) → room_of self.old s ≤ room_of self.new s }
+        ensures others { OnlyAt (place_of delta.now) self.old self.new }
+        ensures seats { (s : ℕ) → HasSeat self.old (place_of delta.now) s → HasSeat self.new (place_of delta.now) s }
+    {
+        self.open(maps, delta)?;
+        let group = delta.group.as_slice();
+        self.rows.reserve(delta.view, group, session)?;
+        self.pools[session as usize].add(self.alloc)?;
+        self.pools[session as usize].add(self.alloc)
+    }
+
+    /// The stored rows of a view whose encoded groups lie in the interval, in the order of these, ghosts included, as the
+    /// maps hold them.
+    ///
+    /// # Errors
+    ///
+    /// Where there is no memory for them.
+    pub fn read<M: SortedMaps>(
+        &self,
+        maps: &M,
+        view: u32,
+        interval: &Interval,
+    ) -> Result<ViewRowList, NoMemory>
+        requires { AreViewRows (M.maps maps.now view) }
+        ensures { IfOk result (λ rows. Shows (between interval.now (map.entries (M.maps maps.now view))) rows) }
+    {
+        Ok(ViewRowList::from_vec(rows_between(self.alloc, maps, view, interval)?))
+    }
+
+    // The committed count of a row that is stored.
+    fn count_of(&self, view: u32, group: &[u8], stored: &[u8]) -> i128
+        requires { 16 ≤ length stored.now }
+        ensures here { (row : OpenRow) → row_at self.now.rows (view, group.now) ≡ Some row → result ≡ row.committed }
+        ensures closed { row_at self.now.rows (view, group.now) ≡ None → (n : ℤ) (ns : List ℤ) → FitsSigned w128 n → stored.now ≡ numbers_bytes (n ∷ ns) → result ≡ n }
+    {
+        match self.rows.get(view, group) {
+            Some(row) => row.committed(),
+            None => front(stored).0,
+        }
+    }
+
+    /// Whether a row is stored whose committed count is 0.
+    pub fn is_ghost<M: SortedMaps>(&self, maps: &M, view: u32, group: &[u8]) -> bool
+        requires { (many : ℕ) × (pays : Pays) × AreKept self.now (M.maps maps.now) (view, group.now) (suc many) pays }
+        ensures absent { stored_at (M.maps maps.now) (view, group.now) ≡ None → result ≡ false }
+        ensures count { (many : ℕ) (pays : Pays) (kept : AreKept self.now (M.maps maps.now) (view, group.now) (suc many) pays) (count : ℤ)
+            → value (account count 0 pays) ≡ get_or kept.numbers 0 (pos 0) → IsSome (stored_at (M.maps maps.now) (view, group.now)) → (result ≡ true) ↔ (count ≡ pos 0) }
+    {
+        match maps.get(view, group) {
+            Some(stored) => self.count_of(view, group, stored) == 0,
+            None => false,
+        }
+    }
+
+    // Whether no session has a kept pay on the row of a place. The count tells, where each kept pay adds to it or takes
+    // from it.
+    fn is_unpaid(&self, view: u32, group: &[u8]) -> bool
+        ensures { (stored : Option (List ℕ)) (many : ℕ) (pays : Pays) → StandsFor (row_at self.now.rows (view, group.now)) stored (suc many) pays
+            → AllCount pays → (result ≡ true) ↔ IsUnpaid pays }
+    {
+        match self.rows.get(view, group) {
+            Some(row) => row.is_unpaid(),
+            None => true,
+        }
+    }
+
+    /// Whether a row is stored whose committed count is 0, on which no session has a kept pay, which is not locked and has
+    /// no versions. Each kept pay adds 1 to the count or takes 1 from it.
+    pub fn cleanable<M: SortedMaps>(
+        &self,
+        maps: &M,
+        view: u32,
+        group: &[u8],
+        locked: bool,
+        versions: bool,
+    ) -> bool
+        requires { (many : ℕ) × (pays : Pays) × AreKept self.now (M.maps maps.now) (view, group.now) (suc many) pays }
+        ensures absent { stored_at (M.maps maps.now) (view, group.now) ≡ None → result ≡ false }
+        ensures only { result ≡ true → (locked ≡ false) × (versions ≡ false) }
+        ensures exact { locked ≡ false → versions ≡ false
+            → (many : ℕ) (pays : Pays) (kept : AreKept self.now (M.maps maps.now) (view, group.now) (suc many) pays) (count : ℤ)
+            → value (account count 0 pays) ≡ get_or kept.numbers 0 (pos 0) → IsSome (stored_at (M.maps maps.now) (view, group.now)) → AllCount pays
+            → (result ≡ true) ↔ ((count ≡ pos 0) × IsUnpaid pays) }
+    {
+        if locked {
+            return false;
+        }
+        if versions {
+            return false;
+        }
+        if !self.is_unpaid(view, group) {
+            return false;
+        }
+        self.is_ghost(maps, view, group)
+    }
+}

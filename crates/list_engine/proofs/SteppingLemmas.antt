@@ -1,0 +1,277 @@
+-- Lemmas on steps, and on a SELECT that is read by them.
+use Rattle.std.specs.Prelude.{◌≡◌, ◌≤◌, ◌<◌, ◌==◌, ◌+◌, ◌^◌, ℕ, zero, suc, Bool, true, false, List, [], ◌∷◌, ◌++◌, length, slice_get, Option, Some, None, IsSome, Ok, Err, if◌then◌else◌}
+use Rattle.std.specs.List.{AllByRecursion}
+use Rattle.std.specs.Option.{option_map, unwrap_or, option_copied}
+use Rattle.std.proofs.Common.{Bor}
+use Rattle.iv_types.specs.declared.catalog.Definition.{Definition}
+use Rattle.iv_types.specs.Definitions as definitions
+use Rattle.std.proofs.Common.{arith}
+use Rattle.std.proofs.lemmas.Option.{slice_get_past}
+use mathlib.Core.Path.{refl, sym, ap, subst, ◌∙◌}
+use mathlib.Core.Logic.{inl, inr}
+use borrow.Author.Tests.{eqb-true}
+use Rattle.iv_types.specs.declared.value.Interval.{Interval}
+use Rattle.iv_types.specs.declared.lock.LockMode.{LockMode}
+use Rattle.iv_types.specs.declared.lock.LockMode.TheVariants.{Share}
+use Rattle.iv_types.specs.declared.reply.Reply.{Reply}
+use Rattle.iv_types.specs.declared.refusal.EngineRefusal.TheVariants as refusal
+use Rattle.iv_meaning.specs.Schema.{numbered, schema_of}
+use Rattle.iv_meaning.specs.Database.{Row, Database}
+use Rattle.iv_meaning.specs.View.{read}
+use Rattle.iv_meaning.specs.Reading.{Program, replies_by}
+use Rattle.txn_book.specs.declared.step.Step.{Step}
+use Rattle.txn_book.specs.declared.step.Act.{Act}
+use Rattle.txn_book.specs.declared.step.Act.TheVariants as act
+use Rattle.txn_book.specs.declared.step.Answer.{Answer}
+use Rattle.txn_book.specs.declared.step.Answer.TheVariants as answer
+use Rattle.std.proofs.lemmas.Bool.{cases_lt}
+use Rattle.iv_types.specs.Syntax.{StatementTree}
+use Rattle.iv_meaning.specs.Binding.{bind}
+use Rattle.iv_meaning.specs.Statement.{BoundTree}
+use Rattle.sql_bind.specs.declared.bound.Bound.{Bound}
+use Rattle.sql_bind.specs.Bound.{bound_tree}
+use Rattle.txn_book.specs.State.{State, counted}
+use Rattle.list_engine.specs.declared.parts.Opened.{Opened}
+use Rattle.txn_book.specs.Steps.{IsFree, IsBusy, MayAct, Does, May, Moves}
+use Rattle.query_laws.specs.Laws.{Asks}
+use Rattle.query_exec.specs.Tasks.{after, IsTurn}
+use Rattle.txn_book.specs.declared.step.Turn.TheVariants.{Want}
+use Rattle.list_engine.specs.declared.parts.Part.{Part}
+use Rattle.iv_types.specs.declared.value.RowsOf.{RowsOf}
+use Rattle.iv_types.specs.declared.refusal.Refusal.{Refusal}
+use Rattle.iv_types.specs.declared.refusal.Refusal.TheVariants as range
+use Rattle.row_eval.specs.Grouped.{Gives}
+use Rattle.list_engine.specs.declared.engine.ListEngine.{ListEngine}
+use Rattle.list_engine.specs.Held.{IsEvaluated, reader}
+use Rattle.list_engine.specs.Parts.{nothing, part_in, open_of, IsLeastOpen}
+use Rattle.list_engine.specs.Engine.{Stands, Moved, is_want, IsReading, WasRead}
+use Rattle.list_engine.proofs.HeldLemmas.{told, IsWanted, turn_want}
+
+-- ---- parts
+
+pub opened_of : (b : Bool) (x y : Part) → option_map open_of (if b then x else y).opened ≡ (if b then option_map open_of x.opened else option_map open_of y.opened)
+opened_of true x y = refl
+opened_of false x y = refl
+
+pub refused_of : (b : Bool) (x y : Part) → (if b then x else y).refused ≡ (if b then x.refused else y.refused)
+refused_of true x y = refl
+refused_of false x y = refl
+
+-- to set a part to what the session has changes nothing
+pub same_or : {X : Type 0} (f : ℕ → X) (session other : ℕ) → (if other == session then f session else f other) ≡ f other
+same_or f session other = elim (other == session) as (λ b. (other == session) ≡ b → (if b then f session else f other) ≡ f other) [
+  | true ↦ λ e. ap f (sym (eqb-true other session e))
+  | false ↦ λ e. refl
+] refl
+
+pub none_opened : (o : Option _) → option_map open_of o ≡ None → o ≡ None
+none_opened None e = refl
+none_opened (Some x) e = absurd (cc)
+
+-- no session past the last place has a part
+pub past_places : (places : List Part) (session : ℕ) → length places < session → part_in places session ≡ nothing
+past_places places zero h = refl
+past_places places (suc n) h = ap (λ o. unwrap_or o nothing) (slice_get_past places n (omega (arith, h)))
+
+-- one place more without a part
+none_more : (places : List Part) (n : ℕ) → unwrap_or (slice_get places n) nothing ≡ nothing → unwrap_or (slice_get (places ++ nothing ∷ []) n) nothing ≡ nothing
+none_more [] zero h = refl
+none_more [] (suc n) h = refl
+none_more (p ∷ places) zero h = h
+none_more (p ∷ places) (suc n) h = none_more places n h
+
+pub one_more : (places : List Part) (session : ℕ) → part_in places session ≡ nothing → part_in (places ++ nothing ∷ []) session ≡ nothing
+one_more places zero h = refl
+one_more places (suc n) h = none_more places n h
+
+-- ---- an engine that stands in a state
+
+pub some_is : {X : Type 0} (o : Option X) → IsSome o → (x : X) × (o ≡ Some x)
+some_is None e = absurd (cc)
+some_is (Some x) e = (x, refl)
+
+-- with other views that are evaluated
+pub with_views : (engine : ListEngine) (s : State) (views : List RowsOf) → Stands engine s → AllByRecursion (IsEvaluated s.committed) views
+    → Stands (record engine { views = views }) s
+with_views engine s views st h = record {
+  has = record { number = st.has.number; holds = st.has.holds; evaluated = h };
+  places = st.places;
+  opened = st.opened;
+  refused = st.refused;
+  steps = st.steps;
+}
+
+-- a sum that leaves the range refuses a view
+pub range_refused : {X : Type 0} (o : Option X) → Gives o (Err range.NumberRange) → o ≡ None
+range_refused None g = refl
+range_refused (Some x) g = absurd (cc)
+
+-- it is not in want of memory
+pub no_want : (r : Refusal) → is_want r ≡ false → r ≡ range.NoMemory → ⊥
+no_want r e same = absurd (cc (sym e ∙ ap is_want same))
+
+-- ---- definitions
+
+next_of : (n : ℕ) → n + 1 ≡ suc n
+next_of n = omega arith
+
+pub at_number : (ds : List Definition) (n : ℕ) (o : Option (Bor Definition)) (d : Bor Definition) → option_copied o ≡ definitions.numbered ds (n + 1) → o ≡ Some d → slice_get ds n ≡ Some d.now
+at_number ds n o d e is = sym (ap (definitions.numbered ds) (next_of n)) ∙ (sym e ∙ ap option_copied is)
+
+pub none_at : (ds : List Definition) (n : ℕ) (o : Option (Bor Definition)) → option_copied o ≡ definitions.numbered ds (n + 1) → o ≡ None → length ds ≤ n
+none_at ds n o e is =
+    let none : slice_get ds n ≡ None = sym (ap (definitions.numbered ds) (next_of n)) ∙ (sym e ∙ ap option_copied is) in
+    elim (cases_lt n (length ds)) [
+      | inl within ↦ absurd (not_there ds n within none)
+      | inr past ↦ past
+    ]
+  where
+    not_there : (xs : List Definition) (i : ℕ) → i < length xs → slice_get xs i ≡ None → ⊥
+    not_there [] i h e = omega (arith, h)
+    not_there (x ∷ xs) zero h e = absurd (cc)
+    not_there (x ∷ xs) (suc i) h e = not_there xs i (omega (arith, h)) e
+
+-- ---- steps
+
+-- a step is counted before it is done
+pub counted_in : (engine : ListEngine) (s : State) → Stands engine s → Stands (record engine { steps = engine.steps + 1 }) (counted s)
+counted_in engine s st = record {
+  has = record { number = st.has.number; holds = st.has.holds; evaluated = st.has.evaluated };
+  places = st.places;
+  opened = st.opened;
+  refused = st.refused;
+  steps = ap (λ n. n + 1) st.steps;
+}
+
+-- an engine that is not stopped was asked for what may be asked for
+pub asked_for : (s : State) (step : Step) (a : Act) → May s step → step.act ≡ a → s.steps < 2 ^ 62 → MayAct s step.session a
+asked_for s step a may is lt = elim may [
+  | inl stopped ↦ absurd (omega (arith, lt, stopped))
+  | inr asked ↦ subst (MayAct s step.session) is asked
+]
+
+pub stepped : (s : State) (step : Step) (a : Act) (said : Answer) (engine : ListEngine) → step.act ≡ a → s.steps < 2 ^ 62 → Moved s step.session a said engine → Moves (Stands engine) s step said
+stepped s step a said engine is lt m = record { after = m.after; does = inr (lt, subst (λ x. Does s step.session x said m.after) (sym is) m.does); stands = m.stands }
+
+pub stopped_in : (s : State) (step : Step) (engine : ListEngine) → Stands engine s → 2 ^ 62 ≤ engine.steps → Moves (Stands engine) s step (answer.Refused (refusal.Stopped (2 ^ 62)))
+stopped_in s step engine st le = record { after = s; does = inl (omega (arith, le, st.steps), record { says = refl; left = refl }); stands = st }
+
+-- ---- open transactions
+
+some_mapped : (o : Option Opened) → IsSome o → IsSome (option_map open_of o)
+some_mapped None e = absurd (cc)
+some_mapped (Some x) e = refl
+
+pub none_open : (engine : ListEngine) (s : State) → Stands engine (counted s) → IsLeastOpen engine.parts.places.items None → IsFree s
+none_open engine s st h = λ session.
+    st.opened session ∙ elim (cases_lt (length engine.parts.places.items) session) [
+      | inl past ↦ ap (λ (p : Part). option_map open_of p.opened) (past_places engine.parts.places.items session past)
+      | inr within ↦ ap (option_map open_of) (h session (omega (arith, within, st.places)))
+    ]
+
+pub is_busy : (engine : ListEngine) (s : State) → Stands engine (counted s) → (least : ℕ) → IsLeastOpen engine.parts.places.items (Some least) → IsBusy s least
+is_busy engine s st least h = record {
+  of_session = (h.0, h.1);
+  is_open = subst IsSome (sym (st.opened least)) (some_mapped (part_in engine.parts.places.items least).opened h.2);
+  least = λ other lt. st.opened other ∙ ap (option_map open_of) (h.3 other lt);
+}
+
+-- what a statement was bound to
+pub bound_here : (engine : ListEngine) (s : State) → Stands engine (counted s) → (statement : StatementTree) (bound : Bound) (tree : BoundTree)
+    → bind (schema_of engine.catalog) statement ≡ Ok (bound_tree bound) → bound_tree bound ≡ tree → bind s.committed.schema statement ≡ Ok tree
+bound_here engine s st statement bound tree found is = ap (λ x. bind x statement) (sym st.has.holds.schema) ∙ (found ∙ ap Ok is)
+
+-- ---- Fetch
+
+-- it leaves what is committed, and the open transactions, whatever it is answered
+pub fetched : (s : State) (session i : ℕ) (interval : Interval) (mode : LockMode) (a : Answer) (after : State) → Does s session (act.Fetch i interval mode) a after
+    → (after.committed ≡ s.committed) × (after.open_of ≡ s.open_of)
+fetched s session i interval mode (answer.Rows rows) after d = (ap (λ t. t.committed) d.1, ap (λ t. t.open_of) d.1)
+fetched s session i interval mode (answer.Denied why) after d = (ap (λ t. t.committed) d.2, ap (λ t. t.open_of) d.2)
+fetched s session i interval mode (answer.Refused refusal.NoMemory) after d = (ap (λ t. t.committed) d, ap (λ t. t.open_of) d)
+fetched s session i interval mode (answer.Refused (refusal.Deadlock cycle)) after d = absurd d
+fetched s session i interval mode (answer.Refused (refusal.Escrow column inf sup)) after d = absurd d
+fetched s session i interval mode (answer.Refused (refusal.LogFull used reserved need)) after d = absurd d
+fetched s session i interval mode (answer.Refused (refusal.DataFull used need)) after d = absurd d
+fetched s session i interval mode (answer.Refused (refusal.TxnFull kept need)) after d = absurd d
+fetched s session i interval mode (answer.Refused (refusal.HistoryFull kept need)) after d = absurd d
+fetched s session i interval mode (answer.Refused (refusal.SchemaBusy busy)) after d = absurd d
+fetched s session i interval mode (answer.Refused refusal.DiskFault) after d = absurd d
+fetched s session i interval mode (answer.Refused (refusal.Stopped k)) after d = absurd d
+fetched s session i interval mode (answer.Begun number defs) after d = absurd d
+fetched s session i interval mode (answer.Defs catalog) after d = absurd d
+fetched s session i interval mode answer.Ended after d = absurd d
+fetched s session i interval mode (answer.Committed number) after d = absurd d
+fetched s session i interval mode (answer.Blocked sessions) after d = absurd d
+
+-- a task under way: what is left of its program replies what the whole would
+pub record IsUnderWay (InState : State → Type 0) (s : State) (whole left : Program) : Type 0 where
+  pub after : State
+  pub committed : after.committed ≡ s.committed
+  pub opened : after.open_of ≡ s.open_of
+  pub stands : InState after
+  pub asks : Asks s.committed.schema left
+  pub reads : replies_by (reader s.committed) left ≡ replies_by (reader s.committed) whole
+
+module _ (s : State) (session : ℕ) (reading : IsReading s session) (whole p : Program) (step : Step) where
+  -- the step that it wants may be asked for
+  pub may_read : (t : State) → t.committed ≡ s.committed → t.open_of ≡ s.open_of → Asks s.committed.schema p → IsTurn session p (Want step) → May t step
+  may_read t same opened asks turn =
+      let w : IsWanted session p step = turn_want session p step turn in
+      let asked : IsSome (numbered s.committed.schema w.i) = (subst (Asks s.committed.schema) w.is asks).0 in
+      subst (May t) (sym w.step_is) (inr (record {
+        of_session = reading.1;
+        number = reading.0;
+        opened = ap (λ f. f session) opened ∙ reading.2;
+        index_is = subst (λ (db : Database). IsSome (numbered db.schema w.i)) (sym same) asked;
+      }))
+
+  -- what is left of it after the step
+  pub goes_on : (old new : State → Type 0) (u : IsUnderWay old s whole p) → IsTurn session p (Want step) → (rows : List Row) → Moves new u.after step (answer.Rows rows)
+      → IsUnderWay new s whole (after (Some (answer.Rows rows)) p)
+  goes_on old new u turn rows m =
+      let w : IsWanted session p step = turn_want session p step turn in
+      let act_is : step.act ≡ act.Fetch w.i w.interval Share = ap (λ (x : Step). x.act) w.step_is in
+      elim m.does [
+        | inl stopped ↦ absurd (cc_rows stopped.1.says)
+        | inr moved ↦
+            let d : Does u.after step.session (act.Fetch w.i w.interval Share) (answer.Rows rows) m.after = subst (λ a. Does u.after step.session a (answer.Rows rows) m.after) act_is moved.1 in
+            let same = fetched u.after step.session w.i w.interval Share (answer.Rows rows) m.after d in
+            let told_rows : read s.committed w.i w.interval ≡ Some rows = ap (λ db. read db w.i w.interval) (sym u.committed) ∙ d.0 in
+            let more : Program = w.more rows in
+            let left_is : after (Some (answer.Rows rows)) p ≡ w.more rows = ap (after (Some (answer.Rows rows))) w.is in
+            record {
+              after = m.after;
+              committed = same.0 ∙ u.committed;
+              opened = same.1 ∙ u.opened;
+              stands = m.stands;
+              asks = subst (Asks s.committed.schema) (sym left_is) ((subst (Asks s.committed.schema) w.is u.asks).1 rows);
+              reads = ap (replies_by (reader s.committed)) left_is
+                  ∙ (ap (λ found. replies_by (reader s.committed) (w.more found)) (sym (told s.committed w.i w.interval rows told_rows))
+                  ∙ (ap (replies_by (reader s.committed)) (sym w.is) ∙ u.reads));
+            }
+      ]
+    where
+      cc_rows : answer.Rows rows ≡ answer.Refused (refusal.Stopped (2 ^ 62)) → ⊥
+      cc_rows e = absurd (cc)
+
+  -- and where it is not told rows
+  pub ends : (old new : State → Type 0) (u : IsUnderWay old s whole p) → IsTurn session p (Want step) → (a : Answer) → Moves new u.after step a
+      → WasRead new s whole (Err (record {}))
+  ends old new u turn a m =
+      let w : IsWanted session p step = turn_want session p step turn in
+      let act_is : step.act ≡ act.Fetch w.i w.interval Share = ap (λ (x : Step). x.act) w.step_is in
+      elim m.does [
+        | inl stopped ↦ record { after = m.after; committed = ap (λ t. t.committed) stopped.1.left ∙ u.committed; opened = ap (λ t. t.open_of) stopped.1.left ∙ u.opened; stands = m.stands; replies = tt }
+        | inr moved ↦
+            let same = fetched u.after step.session w.i w.interval Share a m.after (subst (λ x. Does u.after step.session x a m.after) act_is moved.1) in
+            record { after = m.after; committed = same.0 ∙ u.committed; opened = same.1 ∙ u.opened; stands = m.stands; replies = tt }
+      ]
+
+-- where it ends, or is left
+pub left_off : (InState : State → Type 0) (s : State) (whole left : Program) → IsUnderWay InState s whole left → WasRead InState s whole (Err (record {}))
+left_off InState s whole left u = record { after = u.after; committed = u.committed; opened = u.opened; stands = u.stands; replies = tt }
+
+pub told_all : (InState : State → Type 0) (s : State) (whole left : Program) (replies : List Reply) → IsUnderWay InState s whole left → replies ≡ replies_by (reader s.committed) left
+    → WasRead InState s whole (Ok replies)
+told_all InState s whole left replies u e = record { after = u.after; committed = u.committed; opened = u.opened; stands = u.stands; replies = e ∙ u.reads }

@@ -1,0 +1,237 @@
+//! The locks that a session holds.
+ghost use Rattle.std.specs.Prelude.{◌≡◌, ◌+◌, ◌<◌, ◌≤◌, ◌↔◌, [], ◌∷◌, length, IsTrue, OnOk};
+ghost use Rattle.std.specs.Vec.{vec_len, vec_capacity};
+ghost use Rattle.txn_machine.specs.Locks.{Conflict, Meet};
+ghost use Rattle.lock_manager.specs.Order.{IsPoint, ArePoints, AreInOrder, HasNoneBefore};
+ghost use Rattle.lock_manager.specs.Table.{Covers, HasSome, HasGained};
+
+use crate::conflict::{conflict, covers, is_same};
+use crate::order::{count_before, is_point, put, stands_after, stands_past};
+use iv_types::{LockMode, NoMemory, Want};
+use std::alloc::Global;
+use std::marker::Model;
+
+// Whether one of the locks, the first of which don't, conflicts with this one.
+fn meets_from(locks: &[Want], start: usize, want: &Want) -> bool
+    requires order { AreInOrder locks.now }
+    requires before { HasNoneBefore (λ lock. Conflict lock want.now) locks.now start }
+    ensures { IsTrue result ↔ HasSome (λ lock. Conflict lock want.now) locks.now }
+{
+    for at in start..locks.len() {
+        let lock = &locks[at];
+        if stands_past(lock, want) {
+            return false;
+        }
+        if conflict(lock, want) {
+            return true;
+        }
+    }
+    false
+}
+
+// Whether one of the locks, the first of which don't, is of this mode and has the key of this index.
+fn covers_from(locks: &[Want], start: usize, index: u32, key: &[u8], mode: LockMode) -> bool
+    requires order { AreInOrder locks.now }
+    requires before { HasNoneBefore (Covers index key.now mode) locks.now start }
+    ensures { IsTrue result ↔ HasSome (Covers index key.now mode) locks.now }
+{
+    for at in start..locks.len() {
+        let lock = &locks[at];
+        if stands_after(lock, index, key) {
+            return false;
+        }
+        if covers(lock, index, key, mode) {
+            return true;
+        }
+    }
+    false
+}
+
+// The same of locks of one key. Those of lesser keys are passed over.
+fn point_meets(points: &[Want], want: &Want) -> bool
+    requires points { ArePoints points.now }
+    requires order { AreInOrder points.now }
+    ensures { IsTrue result ↔ HasSome (λ lock. Conflict lock want.now) points.now }
+{
+    let start = count_before(points, want.index, want.interval.low.as_slice());
+    meets_from(points, start, want)
+}
+
+// The same of any locks. Those of lesser indexes are passed over.
+fn range_meets(ranges: &[Want], want: &Want) -> bool
+    requires { AreInOrder ranges.now }
+    ensures { IsTrue result ↔ HasSome (λ lock. Conflict lock want.now) ranges.now }
+{
+    let start = count_before(ranges, want.index, &[]);
+    meets_from(ranges, start, want)
+}
+
+fn point_covers(points: &[Want], index: u32, key: &[u8], mode: LockMode) -> bool
+    requires points { ArePoints points.now }
+    requires order { AreInOrder points.now }
+    ensures { IsTrue result ↔ HasSome (Covers index key.now mode) points.now }
+{
+    let start = count_before(points, index, key);
+    covers_from(points, start, index, key, mode)
+}
+
+fn range_covers(ranges: &[Want], index: u32, key: &[u8], mode: LockMode) -> bool
+    requires { AreInOrder ranges.now }
+    ensures { IsTrue result ↔ HasSome (Covers index key.now mode) ranges.now }
+{
+    let start = count_before(ranges, index, &[]);
+    covers_from(ranges, start, index, key, mode)
+}
+
+// Whether this very lock is among these, the first of which are other ones.
+fn has_from(locks: &[Want], start: usize, want: &Want) -> bool
+    requires order { AreInOrder locks.now }
+    requires before { HasNoneBefore (λ lock. lock ≡ want.now) locks.now start }
+    ensures { IsTrue result ↔ HasSome (λ lock. lock ≡ want.now) locks.now }
+{
+    for at in start..locks.len() {
+        let lock = &locks[at];
+        if stands_after(lock, want.index, want.interval.low.as_slice()) {
+            return false;
+        }
+        if is_same(lock, want) {
+            return true;
+        }
+    }
+    false
+}
+
+// Whether this very lock is among these.
+fn has(locks: &[Want], want: &Want) -> bool
+    requires { AreInOrder locks.now }
+    ensures { IsTrue result ↔ HasSome (λ lock. lock ≡ want.now) locks.now }
+{
+    let start = count_before(locks, want.index, want.interval.low.as_slice());
+    has_from(locks, start, want)
+}
+
+// Adds a lock, into room that was made, if it is not there already.
+fn keep(locks: &mut Vec<Want>, want: Want)
+    requires order { AreInOrder locks.old.items }
+    requires room { vec_len locks.old < vec_capacity locks.old }
+    ensures gained { HasGained locks.old.items (want ∷ []) locks.new.items }
+    ensures order { AreInOrder locks.new.items }
+    ensures points { ArePoints locks.old.items → IsPoint want.interval → ArePoints locks.new.items }
+    ensures len { vec_len locks.new ≤ vec_len locks.old + 1 }
+    ensures capacity { vec_capacity locks.old ≤ vec_capacity locks.new }
+{
+    if !has(locks, &want) {
+        put(locks, want);
+    }
+}
+
+/// The locks of a session: those of one key, which are the great majority, apart from those of true ranges, so that a
+/// search begins at the first that can overlap an interval and goes no further than the last.
+#[derive(Debug, Drop)]
+pub struct Held {
+    points: Vec<Want>,
+    ranges: Vec<Want>,
+}
+
+impl Model for Held {
+    ghost use Rattle.std.specs.Prelude.{◌-◌, ◌++◌, min};
+    ghost use Rattle.std.specs.Vec.{vec_len, vec_capacity};
+    ghost use Rattle.lock_manager.specs.Order.{Kept, coded_kept, AreKept};
+
+    ghost Value = { Kept };
+
+    ghost coded = { coded_kept };
+
+    ghost view = { λ h. record { locks = h.points.items ++ h.ranges.items; spare = min (vec_capacity h.points - vec_len h.points) (vec_capacity h.ranges - vec_len h.ranges) } };
+
+    ghost invariant = { λ h. AreKept h.points.items h.ranges.items };
+}
+
+impl Held {
+    /// No locks, and no memory taken.
+    pub fn new(alloc: Global) -> Held
+        ensures { result.locks ≡ [] }
+    {
+        Held {
+            points: Vec::new(alloc),
+            ranges: Vec::new(alloc),
+        }
+    }
+
+    /// Makes room for that many locks more. An `Err` takes no room away.
+    ///
+    /// # Errors
+    ///
+    /// Where there is no memory for them.
+    pub fn reserve(&mut self, more: usize) -> Result<(), NoMemory>
+        ensures room { OnOk result (more ≤ self.new.spare) }
+        ensures locks { self.new.locks ≡ self.old.locks }
+        ensures spare { self.old.spare ≤ self.new.spare }
+    {
+        self.points.reserve(more)?;
+        self.ranges.reserve(more)?;
+        Ok(())
+    }
+
+    /// Adds a lock, into room that was made. One that is there already is not kept twice.
+    pub fn add(&mut self, want: Want)
+        requires { 1 ≤ self.old.spare }
+        ensures locks { HasGained self.old.locks (want ∷ []) self.new.locks }
+        ensures spare { self.old.spare ≤ self.new.spare + 1 }
+    {
+        if is_point(&want.interval) {
+            keep(&mut self.points, want);
+        } else {
+            keep(&mut self.ranges, want);
+        }
+    }
+
+    /// Adds locks, into room that was made.
+    pub fn add_all(&mut self, wants: Vec<Want>)
+        requires { length wants.items ≤ self.old.spare }
+        ensures locks { HasGained self.old.locks wants.items self.new.locks }
+        ensures spare { self.old.spare ≤ self.new.spare + length wants.items }
+    {
+        let mut left = wants;
+        while let Some(want) = left.pop() {
+            self.add(want);
+        }
+    }
+
+    /// Takes all locks away. The memory stays for later ones.
+    pub fn clear(&mut self)
+        ensures locks { self.new.locks ≡ [] }
+    {
+        self.points.clear();
+        self.ranges.clear();
+    }
+
+    // Whether one of the locks conflicts with this one of another session.
+    fn meets_one(&self, want: &Want) -> bool
+        ensures { IsTrue result ↔ HasSome (λ lock. Conflict lock want.now) self.now.locks }
+    {
+        point_meets(&self.points, want) || range_meets(&self.ranges, want)
+    }
+
+    /// Whether one of the locks conflicts with one of these of another session.
+    pub fn meets(&self, wants: &[Want]) -> bool
+        ensures { IsTrue result ↔ Meet self.now.locks wants.now }
+    {
+        if self.points.is_empty() && self.ranges.is_empty() {
+            return false;
+        }
+        for want in wants {
+            if self.meets_one(want) {
+                return true;
+            }
+        }
+        false
+    }
+
+    /// Whether there is a lock of exactly this mode on this index whose interval has the key.
+    pub fn holds(&self, index: u32, key: &[u8], mode: LockMode) -> bool
+        ensures { IsTrue result ↔ HasSome (Covers index key.now mode) self.now.locks }
+    {
+        point_covers(&self.points, index, key, mode) || range_covers(&self.ranges, index, key, mode)
+    }
+}

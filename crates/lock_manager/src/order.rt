@@ -1,0 +1,77 @@
+//! Locks in the order of their indexes, and in an index of their low ends.
+ghost use Rattle.std.specs.Prelude.{◌≡◌, ◌+◌, ◌<◌, ◌≤◌, ℕ, ◌∷◌, [], length, not, IsTrue, ◌↔◌};
+ghost use Rattle.std.specs.Vec.{vec_len, vec_capacity};
+ghost use Rattle.std.specs.List.{insert};
+ghost use Rattle.lock_manager.specs.Order.{IsPoint, IsCount, AreInOrder, is_before, is_after, is_past, place_of};
+
+use iv_types::{Interval, Want};
+use std::cmp::Ordering;
+
+/// Whether an interval is that of one key.
+pub fn is_point(interval: &Interval) -> bool
+    ensures { IsTrue result ↔ IsPoint interval.now }
+{
+    match &interval.high {
+        None => false,
+        Some(high) => match high.as_slice().split_last() {
+            None => false,
+            Some((last, front)) => *last == 0 && front == interval.low.as_slice(),
+        },
+    }
+}
+
+// Whether a lock stands before this low end of this index.
+fn stands_before(lock: &Want, index: u32, low: &[u8]) -> bool
+    ensures { result ≡ is_before (index ∷ low.now) lock.now }
+{
+    match lock.index.cmp(&index) {
+        Ordering::Less => true,
+        Ordering::Equal => lock.interval.low.as_slice().cmp(&low).is_lt(),
+        Ordering::Greater => false,
+    }
+}
+
+/// Whether a lock stands after this low end of this index.
+pub fn stands_after(lock: &Want, index: u32, low: &[u8]) -> bool
+    ensures { result ≡ is_after (index ∷ low.now) lock.now }
+{
+    match lock.index.cmp(&index) {
+        Ordering::Less => false,
+        Ordering::Equal => lock.interval.low.as_slice().cmp(&low).is_gt(),
+        Ordering::Greater => true,
+    }
+}
+
+/// Whether a lock stands at the high end of this one's interval or behind it.
+pub fn stands_past(lock: &Want, want: &Want) -> bool
+    ensures { result ≡ is_past want.now.index want.now.interval.high lock.now }
+{
+    match &want.interval.high {
+        None => want.index < lock.index,
+        Some(high) => !stands_before(lock, want.index, high.as_slice()),
+    }
+}
+
+/// How many locks stand before this low end of this index.
+pub fn count_before(locks: &[Want], index: u32, low: &[u8]) -> usize
+    requires { AreInOrder locks.now }
+    ensures { IsCount (index ∷ low.now) locks.now result }
+{
+    locks.partition_point(|lock| stands_before(lock, index, low))
+}
+
+/// Puts a lock among others, into room that was made.
+pub fn put(locks: &mut Vec<Want>, lock: Want)
+    requires order { AreInOrder locks.old.items }
+    requires room { vec_len locks.old < vec_capacity locks.old }
+    ensures items { (at : ℕ) × (at ≤ length locks.old.items) × (locks.new.items ≡ insert locks.old.items at lock) }
+    ensures order { AreInOrder locks.new.items }
+    ensures len { vec_len locks.new ≡ vec_len locks.old + 1 }
+    ensures capacity { vec_capacity locks.old ≤ vec_capacity locks.new }
+{
+    let at = count_before(locks, lock.index, lock.interval.low.as_slice());
+    match locks.insert(at, lock) {
+        Ok(()) => {}
+        Err(_) => unreachable!(),
+    }
+}

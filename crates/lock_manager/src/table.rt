@@ -1,0 +1,159 @@
+//! The locks of all sessions.
+ghost use Rattle.std.specs.Prelude.{◌≡◌, ◌≤◌, ◌↔◌, length, IsTrue, IfOk, OnOk, OnErr};
+ghost use Rattle.iv_meaning.specs.Escrow.{IsSession};
+ghost use Rattle.txn_machine.specs.Locks.{IsInTheWay, AreInTheWay};
+ghost use Rattle.lock_manager.specs.Table.{Covers, HasSome, IsNew, IsFree, IsSomebody, IsReserved, IsGranted, IsRecorded, IsCancelled, IsReleased, OnGranted, IfBlocked, locks_of, waiting_of, room_of};
+
+use crate::LockAnswer;
+use crate::session_part::SessionPart;
+use crate::session_set::{NOBODY, is_somebody, with};
+use iv_types::{LockMode, NoMemory, Sessions, Want, WantList};
+use std::alloc::Global;
+use std::marker::Model;
+
+// Session k's part stands at place k, from 1 to 64.
+const PARTS: usize = 65;
+
+// Whether another session is in the way of these wants.
+fn is_in_the_way(parts: &[SessionPart], session: u32, wants: &[Want], other: u32) -> bool
+    requires parts { length parts.now ≡ 65 }
+    requires other { IsSession other }
+    ensures { IsTrue result ↔ IsInTheWay (locks_of parts.now) session wants.now other }
+{
+    other != session && parts[other as usize].held().meets(wants)
+}
+
+// The sessions that are in the way of these wants.
+fn in_the_way(parts: &[SessionPart], session: u32, wants: &[Want]) -> Sessions
+    requires { length parts.now ≡ 65 }
+    ensures { AreInTheWay (locks_of parts.now) session wants.now result }
+{
+    let mut sessions = NOBODY;
+    for other in 1..65 {
+        if is_in_the_way(parts, session, wants, other) {
+            sessions = with(sessions, other);
+        }
+    }
+    sessions
+}
+
+/// The locks that sessions 1 to 64 hold on intervals of the keys of indexes, what each session waits for, and the room
+/// that was made for each.
+///
+/// Each session's locks are kept in the order of their indexes and low ends, so that a request looks, of each session,
+/// only at locks of its own indexes that can overlap what it asks for.
+#[derive(Debug, Drop)]
+pub struct LockTable {
+    alloc: Global,
+    parts: Vec<SessionPart>,
+}
+
+impl Model for LockTable {
+    ghost use Rattle.std.specs.Prelude.{◌≡◌, length};
+    ghost use Rattle.std.specs.Coded.{coded_list};
+    ghost use Rattle.lock_manager.specs.Table.{Table, coded_session_locks};
+
+    ghost Value = { Table };
+
+    ghost coded = { coded_list coded_session_locks };
+
+    ghost view = { λ t. t.parts.items };
+
+    ghost invariant = { λ t. length t.parts.items ≡ 65 };
+}
+
+impl LockTable {
+    /// A table in which no session holds anything.
+    ///
+    /// # Errors
+    ///
+    /// Where there is no memory for it.
+    pub fn new(alloc: Global) -> Result<LockTable, NoMemory>
+        ensures { IfOk result (λ table. IsNew table) }
+    {
+        let mut parts = Vec::new(alloc);
+        for _ in 0..PARTS {
+            parts.push(SessionPart::new(alloc))?;
+        }
+        Ok(LockTable { alloc, parts })
+    }
+
+    /// Makes room, so that the session, 1 to 64, may be granted this many locks more than it holds. Room that it has
+    /// already counts.
+    ///
+    /// # Errors
+    ///
+    /// Where there is no memory for it. Nothing is changed then. No other call takes memory.
+    pub fn reserve(&mut self, session: u32, more: u32) -> Result<(), NoMemory>
+        requires { IsSession session }
+        ensures ok { OnOk result (IsReserved self.old self.new session more) }
+        ensures err { OnErr result (self.new ≡ self.old) }
+    {
+        self.parts[session as usize].reserve(more)
+    }
+
+    /// Asks for locks, all or none. The session is 1 to 64, and as many locks are reserved for it as there are wants.
+    ///
+    /// Where no other session holds a lock that conflicts with one of them they become locks of the session, which use
+    /// that much of its room, and it waits for nothing. Else the sessions in the way are answered, nothing is granted,
+    /// and the session waits for these wants and for nothing else.
+    pub fn request(&mut self, session: u32, wants: WantList) -> LockAnswer
+        requires session { IsSession session }
+        requires reserved { length wants ≤ room_of self.old session }
+        ensures free { OnGranted result (IsFree (locks_of self.old) session wants) }
+        ensures granted { OnGranted result (IsGranted self.old self.new session wants) }
+        ensures in_the_way { IfBlocked result (λ sessions. AreInTheWay (locks_of self.old) session wants sessions) }
+        ensures somebody { IfBlocked result (λ sessions. IsSomebody sessions) }
+        ensures recorded { IfBlocked result (λ _. IsRecorded self.old self.new session wants) }
+    {
+        let sessions = in_the_way(&self.parts, session, wants.as_slice());
+        let alloc = self.alloc;
+        if is_somebody(sessions) {
+            self.parts[session as usize].wait(wants);
+            return LockAnswer::Blocked(sessions);
+        }
+        self.parts[session as usize].grant(alloc, wants);
+        LockAnswer::Granted
+    }
+
+    /// The sessions that would block this request, nobody where it would be granted.
+    pub fn conflicts(&self, session: u32, wants: &WantList) -> Sessions
+        ensures { AreInTheWay (locks_of self.now) session wants.now result }
+    {
+        in_the_way(&self.parts, session, wants.as_slice())
+    }
+
+    /// The sessions that are now in the way of what the session, 1 to 64, waits for: nobody where it waits for nothing.
+    pub fn blocked_by(&self, session: u32) -> Sessions
+        requires { IsSession session }
+        ensures { AreInTheWay (locks_of self.now) session (waiting_of self.now session) result }
+    {
+        in_the_way(&self.parts, session, self.parts[session as usize].waiting())
+    }
+
+    /// Forgets what the session, 1 to 64, waits for.
+    pub fn cancel(&mut self, session: u32)
+        requires { IsSession session }
+        ensures { IsCancelled self.old self.new session }
+    {
+        let none = WantList::new(self.alloc);
+        self.parts[session as usize].wait(none);
+    }
+
+    /// Takes away all locks of the session, 1 to 64, what it waits for, and its room.
+    pub fn release_all(&mut self, session: u32)
+        requires { IsSession session }
+        ensures { IsReleased self.old self.new session }
+    {
+        let alloc = self.alloc;
+        self.parts[session as usize].release(alloc);
+    }
+
+    /// Whether the session, 1 to 64, holds a lock of exactly this mode on this index whose interval has the key.
+    pub fn holds(&self, session: u32, index: u32, key: &[u8], mode: LockMode) -> bool
+        requires { IsSession session }
+        ensures { IsTrue result ↔ HasSome (Covers index key.now mode) (locks_of self.now session) }
+    {
+        self.parts[session as usize].held().holds(index, key, mode)
+    }
+}

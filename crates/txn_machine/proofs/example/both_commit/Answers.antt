@@ -1,0 +1,5 @@
+use Rattle.txn_machine.proofs.Together.{both_commit}
+use Rattle.txn_machine.proofs.example.both_commit.Goals as goal
+
+pub returns : goal.returns
+returns c = both_commit

@@ -1,0 +1,5 @@
+use Rattle.txn_machine.proofs.Inserting.{insert_runs}
+use Rattle.txn_machine.proofs.example.insert_runs.Goals as goal
+
+pub returns : goal.returns
+returns c = insert_runs

@@ -1,0 +1,5 @@
+use Rattle.txn_machine.proofs.LaterMissing.{later_misses}
+use Rattle.txn_machine.proofs.example.later_misses.Goals as goal
+
+pub returns : goal.returns
+returns c = later_misses

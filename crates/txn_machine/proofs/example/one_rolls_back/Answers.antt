@@ -1,0 +1,5 @@
+use Rattle.txn_machine.proofs.Together.{one_rolls_back}
+use Rattle.txn_machine.proofs.example.one_rolls_back.Goals as goal
+
+pub returns : goal.returns
+returns c = one_rolls_back
