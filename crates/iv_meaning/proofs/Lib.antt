@@ -1,3 +1,12 @@
 pub mod LineLemmas
+pub mod SerialLemmas
+pub mod HistoryLemmas
+pub mod Spelling
+pub mod SaleLemmas
 pub mod NumberLemmas
 pub mod SessionLemmas
+pub mod SaidLemmas
+pub mod Saying
+pub mod SerialRuns
+pub mod SerialTurns
+pub mod SerialMisses

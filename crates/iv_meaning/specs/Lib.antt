@@ -23,4 +23,6 @@ pub mod Sound
 pub mod Transaction
 pub mod Autocommit
 pub mod History
+pub mod Said
 pub mod Serial
+pub mod SerialExample

@@ -78,7 +78,7 @@ column_names t = map (λ column. column.name) t.columns
 abbrev pub key_kinds : TableDef → List Kind
 key_kinds t = items_at (kinds_of t) t.primary
 
--- the kinds of an object's columns: an index has none, and a view has those of its group and then HUGE
+-- the kinds of a table's columns, and none of another object
 abbrev pub kinds_of_table : Option Object → List Kind
 kinds_of_table (Some (table t)) = kinds_of t
 kinds_of_table _ = []
@@ -94,6 +94,7 @@ kind_at sources place = elim (slice_get sources place.source) [ None ↦ None | 
 abbrev pub group_kinds : Schema → ViewTree → List Kind
 group_kinds objects v = filter_map (kind_at (map (λ n. kinds_of_table (numbered objects n)) (sources_of v))) v.group
 
+-- the kinds of an object's columns: an index has none, and a view has those of its group and then HUGE
 abbrev pub object_kinds : Schema → Object → List Kind
 object_kinds objects (table t) = kinds_of t
 object_kinds objects (index i) = []

@@ -1,21 +1,24 @@
--- When the replies of a script are those of its transactions run one after another: each committed one on the database
--- that the commit before it left, and each other one on the database that was last committed before it ended.
-use Rattle.std.specs.Prelude.{◌≡◌, ◌≢◌, ◌⊎◌, ℕ, ◌==◌, Bool, true, false, IsTrue, List, [], ◌∷◌, ◌++◌, map, codes, decimal, Option, Some, None, Result, Ok, Err, if◌then◌else◌}
-use Rattle.std.specs.List.{find}
+-- When the output of a script of many sessions is serial. Each committed transaction was told what it is told alone on the
+-- database that the commit before it left, a snapshot on the database of its number, and any other transaction on the
+-- database that was last committed before it ended, or before the input did.
+use Rattle.std.specs.Prelude.{◌≡◌, ◌⊎◌, ◌≤◌, ℕ, ◌+◌, ◌==◌, Bool, true, false, IsTrue, List, [], ◌∷◌, ◌++◌, map, codes, decimal, Option, Some, None, Result, Ok, Err, if◌then◌else◌}
+use Rattle.std.specs.List.{AllZip}
 use Rattle.std.specs.Option.{unwrap_or}
 use Rattle.iv_types.specs.declared.session.Sessions.{Sessions}
-use Rattle.iv_types.specs.declared.session.Cycle.{Cycle}
 use Rattle.iv_types.specs.declared.refusal.Refusal.{Refusal}
 use Rattle.iv_types.specs.declared.refusal.Refusal.TheVariants as refusal
 use Rattle.iv_types.specs.declared.reply.Reply.{Reply}
 use Rattle.iv_types.specs.declared.reply.Reply.TheVariants as reply
 use Rattle.iv_types.specs.declared.statement.Mode.{Mode}
 use Rattle.iv_types.specs.declared.statement.Mode.TheVariants.{Serial, Snapshot}
-use Rattle.iv_types.specs.Syntax.{StatementTree, create_table, create_index, create_view, insert, update, delete, begin, commit, rollback, savepoint}
+use Rattle.iv_types.specs.Syntax.{StatementTree, begin, commit, rollback}
+use Rattle.iv_meaning.specs.Lines.{lines_of}
+use Rattle.iv_meaning.specs.Reply.{reply_lines}
 use Rattle.iv_meaning.specs.Database.{Database}
 use Rattle.iv_meaning.specs.Statement.{Kept}
-use Rattle.iv_meaning.specs.Reply.{reply_lines}
-use Rattle.iv_meaning.specs.Transaction.{Running, alone, committed, outside, begin_reply}
+use Rattle.iv_meaning.specs.Transaction.{Running, alone, committed, outside, begin_reply, refused_outside, refused_inside}
+use Rattle.iv_meaning.specs.History.{Entry, fold, state_at, AreNumbered}
+use Rattle.iv_meaning.specs.Said.{Said, nothing, too_long, bad, runs, loads, steps, cleans, checkpoints, Says}
 
 -- ---- what is known after some lines
 
@@ -35,15 +38,19 @@ pub record Open : Type 0 where
   pub told : List (StatementTree × List Reply)
 
 pub record World : Type 0 where
-  -- the database that the commit of the greatest printed number left, and those before it
-  pub committed : Database
-  pub earlier : List Database
+  -- the database that was opened, and what was committed since
+  pub origin : Database
+  pub history : List Entry
   -- of each session: its open transaction, and what it was not told the end of
   pub running : ℕ → Option Open
   pub unfinished : ℕ → Unfinished
 
 abbrev pub opened_with : Database → World
-opened_with db = record { committed = db; earlier = []; running = λ s. None; unfinished = λ s. none }
+opened_with db = record { origin = db; history = []; running = λ s. None; unfinished = λ s. none }
+
+-- the database of the greatest printed number
+abbrev pub latest : World → Database
+latest w = fold w.history w.origin
 
 abbrev pub set_open : World → ℕ → Option Open → World
 set_open w session o = record w { running = λ s. if s == session then o else w.running s }
@@ -51,17 +58,18 @@ set_open w session o = record w { running = λ s. if s == session then o else w.
 abbrev pub set_unfinished : World → ℕ → Unfinished → World
 set_unfinished w session u = record w { unfinished = λ s. if s == session then u else w.unfinished s }
 
--- a database that was left, unless it is the one that stands
-abbrev pub commits : World → Database → World
-commits w db = if db.number == w.committed.number then w else record w { committed = db; earlier = w.committed ∷ w.earlier }
+-- the changes that a transaction kept, if there are some, are an entry of the next number
+abbrev pub commits : World → ℕ → List Kept → World
+commits w session [] = w
+commits w session kept = record w { history = w.history ++ record { number = (latest w).number + 1; session = session; kept = kept } ∷ [] }
 
 -- ---- transactions
 
 -- the database that a transaction ran on alone
 abbrev pub base_of : World → Open → Database
 base_of w o = elim o.mode [
-  | Serial ↦ w.committed
-  | Snapshot ↦ unwrap_or (find (λ db. db.number == o.number) (w.committed ∷ w.earlier)) w.committed
+  | Serial ↦ latest w
+  | Snapshot ↦ state_at w.origin w.history o.number
 ]
 
 abbrev pub ran : World → Open → List (List Reply) × Running
@@ -99,17 +107,15 @@ pub record PassesOver (w : World) (session : ℕ) (replies : List Reply) (after 
 
 -- outside a transaction; number is the greatest that was printed before the statement's first step
 abbrev pub EndsOutside : World → ℕ → StatementTree → ℕ → List Reply → World → Type 0
-EndsOutside w session (begin Serial) number replies after =
-    (replies ≡ reply.Done 0 ∷ []) × (after ≡ set_open w session (Some (record { mode = Serial; number = number; told = [] })))
-EndsOutside w session (begin Snapshot) number replies after =
-    (replies ≡ reply.Snapshot number ∷ []) × (after ≡ set_open w session (Some (record { mode = Snapshot; number = number; told = [] })))
+EndsOutside w session (begin mode) number replies after =
+    (replies ≡ begin_reply mode number ∷ []) × (after ≡ set_open w session (Some (record { mode = mode; number = number; told = [] })))
 EndsOutside w session statement number replies after =
-    (replies ≡ (outside statement w.committed).replies) × (after ≡ commits w (outside statement w.committed).leaves)
+    (replies ≡ (outside statement (latest w)).replies) × (after ≡ commits w session (outside statement (latest w)).kept)
 
 -- inside one: COMMIT and ROLLBACK end it, and any other statement goes on with it
 abbrev pub EndsInside : World → ℕ → Open → StatementTree → List Reply → World → Type 0
 EndsInside w session o commit replies after =
-    WasAlone w o × (replies ≡ reply.Commit (committed (ran w o).1).number ∷ []) × (after ≡ set_open (elim o.mode [ Serial ↦ commits w (committed (ran w o).1) | Snapshot ↦ w ]) session None)
+    WasAlone w o × (replies ≡ reply.Commit (committed (ran w o).1).number ∷ []) × (after ≡ set_open (commits w session (ran w o).1.kept) session None)
 EndsInside w session o (rollback None) replies after = WasAlone w o × (replies ≡ reply.Done 0 ∷ []) × (after ≡ set_open w session None)
 EndsInside w session o statement replies after = after ≡ set_open w session (Some (record o { told = o.told ++ (statement, replies) ∷ [] }))
 
@@ -123,22 +129,9 @@ Ends w session statement number replies after =
     let before : World = set_unfinished w session none in
     PassesOver before session replies after ⊎ EndsBy before session (before.running session) statement number replies after
 
--- ---- lines
+-- ---- what a line prints itself
 
--- what a line says
-pub data Said : Type 0 where
-  nothing : Said
-  too_long : Said
-  bad : Said
-  -- `N: ..` and `N/ ..` with a statement, or with a text that the grammar refuses
-  runs : (session : ℕ) → Result StatementTree Refusal → Said
-  loads : (session : ℕ) → Result StatementTree Refusal → Said
-  -- `N+`
-  steps : (session : ℕ) → Said
-  cleans : Said
-  checkpoints : Said
-
--- the line's own reply, which changes nothing
+-- its own reply, which changes nothing
 pub record Tells (w : World) (session : ℕ) (r : Reply) (piece : List ℕ) (after : World) : Type 0 where
   pub told : piece ≡ reply_lines session (r ∷ [])
   pub left : after ≡ w
@@ -149,6 +142,11 @@ pub record EndsNow (w : World) (session : ℕ) (statement : StatementTree) (numb
   pub told : piece ≡ reply_lines session replies
   pub ends : Ends w session statement number replies after
 
+-- it ended with this refusal
+pub record IsRefused (w : World) (session : ℕ) (statement : StatementTree) (why : Refusal) (piece : List ℕ) (after : World) : Type 0 where
+  pub told : piece ≡ reply_lines session (reply.Error why ∷ [])
+  pub ends : EndsBy w session (w.running session) statement (latest w).number (reply.Error why ∷ []) after
+
 -- it has not ended, and this is left of it
 pub record GoesOn (w : World) (session : ℕ) (r : Reply) (left : Unfinished) (piece : List ℕ) (after : World) : Type 0 where
   pub told : piece ≡ reply_lines session (r ∷ [])
@@ -158,43 +156,38 @@ pub record Waits (w : World) (session : ℕ) (left : Unfinished) (piece : List �
   pub for : Sessions
   pub goes_on : GoesOn w session (reply.Wait for) left piece after
 
-abbrev pub RunsStatement : World → ℕ → Unfinished → Result StatementTree Refusal → List ℕ → World → Type 0
-RunsStatement w session none (Err why) piece after = Tells w session (reply.Error why) piece after
-RunsStatement w session none (Ok statement) piece after =
-    EndsNow w session statement w.committed.number piece after ⊎ Waits w session (waits statement w.committed.number) piece after
-RunsStatement w session _ text piece after = Tells w session (reply.Error refusal.SessionWaiting) piece after
+-- the refusal of codes 12 to 15 or of limit 16 that a statement gets by its session's mode and savepoints
+abbrev pub refused_by_mode : World → Option Open → StatementTree → Option Refusal
+refused_by_mode w None statement = refused_outside statement
+refused_by_mode w (Some o) statement = refused_inside o.mode (ran w o).1.saved statement
 
--- the refusal of codes 12 to 15 that a statement gets by its session's mode alone
-abbrev pub refused_by_mode : Option Open → StatementTree → Option Refusal
-refused_by_mode None commit = Some refusal.NoTransaction
-refused_by_mode None (rollback to) = Some refusal.NoTransaction
-refused_by_mode None (savepoint name) = Some refusal.NoTransaction
-refused_by_mode None statement = None
-refused_by_mode (Some o) (begin mode) = Some refusal.InTransaction
-refused_by_mode (Some o) (create_table name columns primary) = Some refusal.InTransaction
-refused_by_mode (Some o) (create_index name table columns) = Some refusal.InTransaction
-refused_by_mode (Some o) (create_view name query) = Some refusal.InTransaction
-refused_by_mode (Some o) (insert table tuples) = elim o.mode [ Serial ↦ None | Snapshot ↦ Some refusal.ReadOnly ]
-refused_by_mode (Some o) (update table sets condition) = elim o.mode [ Serial ↦ None | Snapshot ↦ Some refusal.ReadOnly ]
-refused_by_mode (Some o) (delete table condition) = elim o.mode [ Serial ↦ None | Snapshot ↦ Some refusal.ReadOnly ]
-refused_by_mode (Some o) statement = None
-
--- one that is refused by its mode is told so at once
-abbrev pub LoadsStatement : World → ℕ → Unfinished → Result StatementTree Refusal → List ℕ → World → Type 0
-LoadsStatement w session none (Err why) = Tells w session (reply.Error why)
-LoadsStatement w session none (Ok statement) = elim (refused_by_mode (w.running session) statement) [
-  | Some why ↦ EndsNow w session statement w.committed.number
-  | None ↦ GoesOn w session reply.Step (loaded statement None)
+-- A text is given to a session. One with an unfinished statement takes none; then the grammar may refuse the text, and the
+-- mode the statement; else the statement goes as this says.
+abbrev pub Takes : World → ℕ → Unfinished → Result StatementTree Refusal → (StatementTree → List ℕ → World → Type 0) → List ℕ → World → Type 0
+Takes w session none (Err why) Goes = Tells w session (reply.Error why)
+Takes w session none (Ok statement) Goes = elim (refused_by_mode w (w.running session) statement) [
+  | Some why ↦ IsRefused w session statement why
+  | None ↦ Goes statement
 ]
-LoadsStatement w session _ text = Tells w session (reply.Error refusal.SessionWaiting)
+Takes w session _ read Goes = Tells w session (reply.Error refusal.SessionWaiting)
 
-abbrev pub StepsStatement : World → ℕ → Unfinished → List ℕ → World → Type 0
-StepsStatement w session (loaded statement first) piece after =
-    let number : ℕ = unwrap_or first w.committed.number in
+-- `N: ..` goes to the end of the statement, or to WAIT
+abbrev pub Runs : World → ℕ → StatementTree → List ℕ → World → Type 0
+Runs w session statement piece after =
+    EndsNow w session statement (latest w).number piece after ⊎ Waits w session (waits statement (latest w).number) piece after
+
+-- `N/ ..` does nothing of it yet
+abbrev pub Loads : World → ℕ → StatementTree → List ℕ → World → Type 0
+Loads w session statement = GoesOn w session reply.Step (loaded statement None)
+
+-- `N+` does a step of the loaded statement
+abbrev pub Steps : World → ℕ → Unfinished → List ℕ → World → Type 0
+Steps w session (loaded statement first) piece after =
+    let number : ℕ = unwrap_or first (latest w).number in
     EndsNow w session statement number piece after
     ⊎ GoesOn w session reply.Step (loaded statement (Some number)) piece after
     ⊎ Waits w session (loaded statement (Some number)) piece after
-StepsStatement w session _ piece after = Tells w 0 (reply.Error refusal.BadLine) piece after
+Steps w session _ piece after = Tells w 0 (reply.Error refusal.BadLine) piece after
 
 -- a line of the engine's own prints a word and a number, or its refusal
 pub record Counts (w : World) (word : List ℕ) (Right : ℕ → Type 0) (piece : List ℕ) (after : World) : Type 0 where
@@ -208,18 +201,23 @@ pub record IsPassedOver (w : World) (piece : List ℕ) (after : World) : Type 0 
   pub engines : IsTrue (is_engines why)
   pub tells : Tells w 0 (reply.Error why) piece after
 
--- what the line itself prints
+-- for want of memory a session's text is passed over
+abbrev pub LacksMemory : World → ℕ → List ℕ → World → Type 0
+LacksMemory w session = Tells w session (reply.Error refusal.NoMemory)
+
 abbrev pub OwnPiece : Said → World → List ℕ → World → Type 0
 OwnPiece nothing w piece after = (piece ≡ []) × (after ≡ w)
 OwnPiece too_long w piece after = Tells w 0 (reply.Error refusal.LineTooLong) piece after
 OwnPiece bad w piece after = Tells w 0 (reply.Error refusal.BadLine) piece after
-OwnPiece (runs session text) w piece after = RunsStatement w session (w.unfinished session) text piece after
-OwnPiece (loads session text) w piece after = LoadsStatement w session (w.unfinished session) text piece after
-OwnPiece (steps session) w piece after = StepsStatement w session (w.unfinished session) piece after
+OwnPiece (runs session read) w piece after = Takes w session (w.unfinished session) read (Runs w session) piece after ⊎ LacksMemory w session piece after
+OwnPiece (loads session read) w piece after = Takes w session (w.unfinished session) read (Loads w session) piece after ⊎ LacksMemory w session piece after
+OwnPiece (steps session) w piece after = Steps w session (w.unfinished session) piece after
 OwnPiece cleans w piece after = Counts w (codes "CLEAN") (λ k. Unit {0}) piece after ⊎ IsPassedOver w piece after
-OwnPiece checkpoints w piece after = Counts w (codes "CHECKPOINT") (λ n. n ≡ w.committed.number) piece after ⊎ IsPassedOver w piece after
+OwnPiece checkpoints w piece after = Counts w (codes "CHECKPOINT") (λ n. n ≡ (latest w).number) piece after ⊎ IsPassedOver w piece after
 
--- then sessions that waited with a line `N: ..` and were tried again, each with how its statement ended
+-- ---- what is printed behind it
+
+-- a session that waited with a line `N: ..` was tried again, and its statement ended
 pub record EndsLater (w : World) (session : ℕ) (piece : List ℕ) (after : World) : Type 0 where
   pub statement : StatementTree
   pub number : ℕ
@@ -229,6 +227,8 @@ pub record EndsLater (w : World) (session : ℕ) (piece : List ℕ) (after : Wor
 abbrev pub LaterPieces : List (ℕ × List ℕ) → World → List ℕ → World → Type 0
 LaterPieces [] w piece after = (piece ≡ []) × (after ≡ w)
 LaterPieces (p ∷ ps) w piece after = (between : World) × (more : List ℕ) × EndsLater w p.0 p.1 between × (piece ≡ p.1 ++ more) × LaterPieces ps between more after
+
+-- ---- transcripts
 
 -- a line is answered so, where it says this
 pub record Answers (said : Said) (w : World) (piece : List ℕ) (after : World) : Type 0 where
@@ -243,3 +243,44 @@ pub record Answers (said : Said) (w : World) (piece : List ℕ) (after : World) 
 -- at the end of the input the transactions that are still open were told what they are told alone
 abbrev pub IsEnd : World → Type 0
 IsEnd w = (session : ℕ) (o : Open) → w.running session ≡ Some o → WasAlone w o
+
+-- the output has one piece for each line, where the lines say this and the input ends with the last of them
+abbrev pub IsSerialFrom : World → List Said → List ℕ → Type 0
+IsSerialFrom w [] out = (out ≡ []) × IsEnd w
+IsSerialFrom w (said ∷ more) out =
+    (piece : List ℕ) × (after : World) × (rest : List ℕ) × Answers said w piece after × (out ≡ piece ++ rest) × IsSerialFrom after more rest
+
+-- the output of an input is serial, on an opened database
+abbrev pub IsSerial : Database → List ℕ → List ℕ → Type 0
+IsSerial db input out = (said : List Said) × AllZip Says (lines_of input) said × IsSerialFrom (opened_with db) said out
+
+-- ---- laws
+
+-- the history begins with this database, and its numbers follow that of the database
+pub record IsSince (db : Database) (w : World) : Type 0 where
+  pub began : w.origin ≡ db
+  pub numbered : AreNumbered db.number w.history
+
+-- so it is with every line
+abbrev pub HistoryLaw : Type 0
+HistoryLaw = (db : Database) (said : Said) (w after : World) (piece : List ℕ) → IsSince db w → Answers said w piece after → IsSince db after
+
+-- then the database of the greatest printed number is the state at that number
+abbrev pub LatestLaw : Type 0
+LatestLaw = (db : Database) (w : World) → IsSince db w → latest w ≡ state_at w.origin w.history (latest w).number
+
+-- The database that a transaction leaves, alone on that of the greatest printed number, is the one of the number that it
+-- takes: what runs alone on the state at n - 1 leaves the state at n.
+abbrev pub CommitLaw : Type 0
+CommitLaw = (w : World) (session : ℕ) (statements : List StatementTree) →
+    committed (alone Serial statements (latest w)).1 ≡ latest (commits w session (alone Serial statements (latest w)).1.kept)
+
+-- so does a statement that is a transaction of its own
+abbrev pub OutsideLaw : Type 0
+OutsideLaw = (w : World) (session : ℕ) (statement : StatementTree) →
+    (outside statement (latest w)).leaves ≡ latest (commits w session (outside statement (latest w)).kept)
+
+-- a commit leaves the database at each number before its own
+abbrev pub StateLaw : Type 0
+StateLaw = (w : World) (session number : ℕ) (kept : List Kept) → number ≤ (latest w).number →
+    state_at w.origin (commits w session kept).history number ≡ state_at w.origin w.history number

@@ -1,4 +1,5 @@
--- A database as statements leave it: its definitions are those that binding makes, and its rows fit their tables.
+-- What laws ask of a database. Each object has its number. The columns of a table's key, of an index and of a view's groups
+-- are there, and a view reads tables. Each row fits its table and stands under its key.
 use Rattle.std.specs.Prelude.{◌≡◌, ◌<◌, ℕ, List, length, map, Option, Some}
 use Rattle.std.specs.List.{All}
 use Rattle.std.specs.FinMap.{get}

@@ -1,6 +1,5 @@
 -- A transaction that runs alone: its statements one after another, by their meaning.
-use Rattle.std.specs.Prelude.{ℕ, pos, ◌+◌, nat_le, Bool, true, false, List, [], ◌∷◌, ◌++◌, map, length, Option, Some, None, Result, Ok, Err, if◌then◌else◌}
-use Rattle.std.specs.List.{find}
+use Rattle.std.specs.Prelude.{ℕ, pos, ◌+◌, nat_le, List, [], ◌∷◌, ◌++◌, map, length, Option, Some, None, Result, Ok, Err, if◌then◌else◌}
 use Rattle.std.specs.Str.{bytes_eq}
 use Rattle.iv_types.specs.declared.refusal.Refusal.{Refusal}
 use Rattle.iv_types.specs.declared.refusal.Refusal.TheVariants.{NoTransaction, InTransaction, ReadOnly, UnknownSavepoint, Limit}
@@ -8,8 +7,8 @@ use Rattle.iv_types.specs.declared.reply.Reply.{Reply}
 use Rattle.iv_types.specs.declared.reply.Reply.TheVariants as reply
 use Rattle.iv_types.specs.declared.statement.Mode.{Mode}
 use Rattle.iv_types.specs.declared.statement.Mode.TheVariants.{Serial, Snapshot}
-use Rattle.iv_types.specs.Syntax.{StatementTree, create_table, create_index, create_view, insert, update, delete, select, begin, commit, rollback, savepoint}
-use Rattle.iv_meaning.specs.Database.{Row, Database}
+use Rattle.iv_types.specs.Syntax.{StatementTree, insert, update, delete, select, commit, rollback, savepoint}
+use Rattle.iv_meaning.specs.Database.{Database}
 use Rattle.iv_meaning.specs.Binding.{bind}
 use Rattle.iv_meaning.specs.Statement.{BoundTree, Kept, Meaning, Refused, Accepted, bound_meaning, keep_all}
 
@@ -63,38 +62,63 @@ most_savepoints = 64
 abbrev pub done : Running → Told
 done t = record { replies = reply.Done 0 ∷ []; after = t }
 
-abbrev pub saved_at : List ℕ → Running → Told
-saved_at name t =
-    if nat_le most_savepoints (length t.saved) then refused_with (Limit 16 (pos most_savepoints)) t
-    else done (record t { saved = record { name = name; db = t.db; kept = t.kept } ∷ t.saved })
-
 -- the savepoints from the latest one of this name on
 abbrev pub from_named : List ℕ → List Saved → List Saved
 from_named name [] = []
 from_named name (s ∷ ss) = if bytes_eq name s.name then s ∷ ss else from_named name ss
 
--- back to a savepoint, which stays; later ones go
-abbrev pub back_to : List ℕ → List Saved → Running → Told
-back_to name [] t = refused_with (UnknownSavepoint name) t
-back_to name (s ∷ ss) t = done (record { db = s.db; kept = s.kept; saved = s ∷ ss })
+-- back to the first of some savepoints, which stays; later ones go
+abbrev pub back_to : List Saved → Running → Running
+back_to [] t = t
+back_to (s ∷ ss) t = record { db = s.db; kept = s.kept; saved = s ∷ ss }
+
+-- ---- what is refused before a statement is bound
+
+-- outside a transaction
+abbrev pub refused_outside : StatementTree → Option Refusal
+refused_outside commit = Some NoTransaction
+refused_outside (rollback to) = Some NoTransaction
+refused_outside (savepoint name) = Some NoTransaction
+refused_outside _ = None
+
+-- a snapshot keeps no change
+abbrev pub refused_change : Mode → Option Refusal
+refused_change Serial = None
+refused_change Snapshot = Some ReadOnly
+
+-- no live savepoint has the name
+abbrev pub refused_return : List ℕ → List Saved → Option Refusal
+refused_return name [] = Some (UnknownSavepoint name)
+refused_return name (s ∷ ss) = None
+
+-- inside a transaction of this mode, with these live savepoints
+abbrev pub refused_inside : Mode → List Saved → StatementTree → Option Refusal
+refused_inside mode saved (select query order) = None
+refused_inside mode saved (insert table tuples) = refused_change mode
+refused_inside mode saved (update table ss condition) = refused_change mode
+refused_inside mode saved (delete table condition) = refused_change mode
+refused_inside mode saved (savepoint name) = if nat_le most_savepoints (length saved) then Some (Limit 16 (pos most_savepoints)) else None
+refused_inside mode saved (rollback (Some name)) = refused_return name (from_named name saved)
+refused_inside mode saved (rollback None) = None
+refused_inside mode saved commit = None
+refused_inside mode saved _ = Some InTransaction
 
 -- ---- statements inside a transaction
 
-abbrev pub changing : Mode → StatementTree → Running → Told
-changing Serial statement t = told (means statement t.db) t
-changing Snapshot statement t = refused_with ReadOnly t
+-- one that is not refused so
+abbrev pub accepted : StatementTree → Running → Told
+accepted (savepoint name) t = done (record t { saved = record { name = name; db = t.db; kept = t.kept } ∷ t.saved })
+accepted (rollback (Some name)) t = done (back_to (from_named name t.saved) t)
+accepted (rollback None) t = done t
+accepted commit t = done t
+accepted statement t = told (means statement t.db) t
 
 -- a statement other than the COMMIT or ROLLBACK that ends the transaction
 abbrev pub inside : Mode → StatementTree → Running → Told
-inside mode (select query order) t = told (means (select query order) t.db) t
-inside mode (insert table tuples) t = changing mode (insert table tuples) t
-inside mode (update table ss condition) t = changing mode (update table ss condition) t
-inside mode (delete table condition) t = changing mode (delete table condition) t
-inside mode (savepoint name) t = saved_at name t
-inside mode (rollback (Some name)) t = back_to name (from_named name t.saved) t
-inside mode (rollback None) t = done t
-inside mode commit t = done t
-inside mode _ t = refused_with InTransaction t
+inside mode statement t = elim (refused_inside mode t.saved statement) [
+  | Some refusal ↦ refused_with refusal t
+  | None ↦ accepted statement t
+]
 
 -- what each of some statements is told, and how the transaction stands then
 abbrev pub alone_from : Mode → List StatementTree → Running → List (List Reply) × Running
@@ -117,25 +141,26 @@ next_number (k ∷ ks) number = number + 1
 abbrev pub committed : Running → Database
 committed t = record t.db { number = next_number t.kept t.db.number }
 
--- a statement outside a transaction is one of its own: its replies, and the database that it leaves
+-- a statement outside a transaction is one of its own: its replies, the changes that it keeps, and the database that it leaves
 pub record Transaction : Type 0 where
   pub replies : List Reply
+  pub kept : List Kept
   pub leaves : Database
 
 abbrev pub ended_by : Meaning → Database → Transaction
-ended_by (Refused refusal) db = record { replies = reply.Error refusal ∷ []; leaves = db }
+ended_by (Refused refusal) db = record { replies = reply.Error refusal ∷ []; kept = []; leaves = db }
 ended_by (Accepted listed count kept) db =
     let after : Database = committed (record { db = keep_all kept db; kept = kept; saved = [] }) in
-    record { replies = map reply.Row listed ++ (reply.Done count ∷ reply.Commit after.number ∷ []); leaves = after }
+    record { replies = map reply.Row listed ++ (reply.Done count ∷ reply.Commit after.number ∷ []); kept = kept; leaves = after }
 
--- BEGIN opens a transaction on the database as it is
-abbrev pub begin_reply : Mode → Database → Reply
-begin_reply Serial db = reply.Done 0
-begin_reply Snapshot db = reply.Snapshot db.number
+-- BEGIN opens a transaction on the database of this number
+abbrev pub begin_reply : Mode → ℕ → Reply
+begin_reply Serial number = reply.Done 0
+begin_reply Snapshot number = reply.Snapshot number
 
 -- any statement but BEGIN
 abbrev pub outside : StatementTree → Database → Transaction
-outside commit db = ended_by (Refused NoTransaction) db
-outside (rollback to) db = ended_by (Refused NoTransaction) db
-outside (savepoint name) db = ended_by (Refused NoTransaction) db
-outside statement db = ended_by (means statement db) db
+outside statement db = elim (refused_outside statement) [
+  | Some refusal ↦ ended_by (Refused refusal) db
+  | None ↦ ended_by (means statement db) db
+]

@@ -14,7 +14,7 @@ not_end_long e = cc
 
 pub loop-lines-init : goal.loop-lines-init
 loop-lines-init g c = record {
-  held = (created, c.in-Ok-new.ensures, λ input before e w. subst (λ (waits : List ℕ). Serving input before c.in-Ok.lines (g.S.Source.left c.args.source.now) (g.K.Sink.written c.args.sink.now) waits created) (sym c.new-waiting.ensures.items) (begun input before c.in-Ok.lines _ _ c.in-Ok.ensures.held c.in-Ok.ensures.taken e w));
+  held = (created, c.in-Ok-new.ensures.holds, λ input before e w. subst (λ (waits : List ℕ). Serving input before c.in-Ok.lines (g.S.Source.left c.args.source.now) (g.K.Sink.written c.args.sink.now) waits created) (sym c.new-waiting.ensures.items) (begun input before c.in-Ok.lines _ _ c.in-Ok.ensures.held c.in-Ok.ensures.taken e w));
   counted = λ input e. (input, e, omega (arith, c.in-Ok.ensures.taken));
   reads = refl;
   writes = refl;
