@@ -29,7 +29,7 @@ use Rattle.std.specs.Option.{option_and_then}
 use Rattle.iv_meaning.specs.Query.{BoundQuery, answer}
 use Rattle.row_eval.specs.Grouped.{Gives}
 use Rattle.list_engine.specs.Held.{Holds, IsEvaluated, sources}
-use Rattle.list_engine.specs.Engine.{IsIn, Answers, EndsAs, is_done, with_commit, IsSelected}
+use Rattle.list_engine.specs.Engine.{HasDatabase, IsIn, Answers, EndsAs, is_done, with_commit, IsSelected}
 
 -- ---- databases
 
@@ -174,4 +174,11 @@ holds_created = record {
   schema = refl;
   rows = λ n. sym (ap (λ es. map (λ e. e.1) (rows_where (λ place row. place.0 == n) es)) no_entries);
   sound = created_sound;
+}
+
+pub has_created : (engine : ListEngine) → engine.number ≡ 0 → engine.catalog ≡ [] → engine.tables ≡ [] → engine.views ≡ [] → HasDatabase engine created
+has_created engine number catalog tables views = record {
+  number = number;
+  holds = subst (λ ds. Holds ds engine.tables created) (sym catalog) (subst (λ ts. Holds [] ts created) (sym tables) holds_created);
+  evaluated = subst (AllByRecursion (IsEvaluated created)) (sym views) tt;
 }

@@ -1,13 +1,15 @@
 -- Lemmas on lists of rows of tables, of which one is changed.
-use Rattle.std.specs.Prelude.{◌≡◌, ◌≢◌, ◌≤◌, ◌<◌, ◌+◌, ◌==◌, ℕ, zero, suc, Bool, true, false, List, [], ◌∷◌, ◌++◌, length, drop, get_or, slice_set, Option, Some, None, if◌then◌else◌}
+use Rattle.std.specs.Prelude.{◌≡◌, ◌≢◌, ◌≤◌, ◌<◌, ◌+◌, ◌==◌, ◌||◌, ℕ, zero, suc, Bool, true, false, List, [], ◌∷◌, ◌++◌, length, drop, get_or, slice_set, Option, Some, None, if◌then◌else◌}
 use Rattle.std.specs.Option.{option_map}
 use Rattle.std.specs.Prelude.{Result, Ok, Err, OnOk, OnErr}
 use Rattle.std.proofs.Common.{arith}
+use Rattle.std.proofs.Math.Bool.{or-true}
 use Rattle.std.proofs.lemmas.List.{at_drop_more, at_drop_all}
 use mathlib.Core.Path.{refl, sym, ap, ◌∙◌}
 use Rattle.iv_types.specs.declared.value.RowsOf.{RowsOf}
 use Rattle.iv_meaning.specs.Database.{Row}
 use Rattle.row_eval.specs.Fresh.{table_rows}
+use Rattle.list_engine.specs.Held.{has_rows}
 use Rattle.list_engine.specs.Insertion.{place_in}
 
 -- ---- the place of a list
@@ -130,3 +132,12 @@ pub rows_entered : {E : Type 0} (tables after : List RowsOf) (table : ℕ) (r : 
     → (n : ℕ) → table_rows after n ≡ table_rows tables n
 rows_entered tables after table (Ok u) ok err n = ap (λ ts. table_rows ts n) ok ∙ one_more tables table n
 rows_entered tables after table (Err e) ok err n = ap (λ ts. table_rows ts n) err
+
+-- ---- a list that is put behind others is there
+
+itself : (n : ℕ) → (n == n) ≡ true
+itself n = grind arith
+
+pub entered : (tables : List RowsOf) (e : RowsOf) → has_rows (tables ++ e ∷ []) e.table ≡ true
+entered [] e = ap (λ b. b || false) (itself e.table)
+entered (t ∷ tables) e = ap (λ b. (t.table == e.table) || b) (entered tables e) ∙ or-true (t.table == e.table)

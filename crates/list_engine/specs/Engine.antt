@@ -9,7 +9,7 @@ use Rattle.iv_types.specs.declared.statement.Statement.{Statement}
 use Rattle.iv_types.specs.declared.refusal.Refusal.{Refusal}
 use Rattle.iv_types.specs.declared.refusal.Refusal.TheVariants as refusal
 use Rattle.iv_types.specs.Syntax.{StatementTree, statement_tree}
-use Rattle.iv_meaning.specs.Database.{Database}
+use Rattle.iv_meaning.specs.Database.{Database, created}
 use Rattle.iv_meaning.specs.Reading.{Program, replies_by}
 use Rattle.iv_meaning.specs.Binding.{bind}
 use Rattle.iv_meaning.specs.Statement.{Meaning, Refused}
@@ -36,6 +36,10 @@ pub record Stands (engine : ListEngine) (s : State) : Type 0 where
   pub opened : (session : ℕ) → s.open_of session ≡ open_in engine.parts.places.items session
   pub refused : (session : ℕ) → s.refused session ≡ (part_in engine.parts.places.items session).refused
   pub steps : engine.steps ≡ s.steps
+
+-- no step was done yet
+abbrev pub opened : State
+opened = record { committed = created; open_of = λ session. None; steps = 0; refused = λ session. None }
 
 -- a step that is counted already was answered so, and left the engine in a state that it may leave
 pub record Moved (s : State) (session : ℕ) (act : Act) (a : Answer) (engine : ListEngine) : Type 0 where

@@ -10,7 +10,7 @@ ghost use Rattle.iv_meaning.specs.Statement as statement;
 ghost use Rattle.iv_meaning.specs.Statement.{create_meaning, Refused};
 ghost use Rattle.sql_bind.specs.Bound.{bound_tree};
 ghost use Rattle.list_engine.specs.Held.{Holds};
-ghost use Rattle.list_engine.specs.Creating.{IsMade, Makes};
+ghost use Rattle.list_engine.specs.Creating.{IsMade, IsListed, Makes};
 
 use crate::copying::add;
 use crate::entering::enter;
@@ -25,7 +25,8 @@ fn make(
     tables: &mut TableRows,
     definition: &Definition,
 ) -> Result<(), Refusal>
-    ensures { (db : Database) → Holds catalog.now tables.old db → IsMade (object_of definition.now) db result × Holds catalog.now tables.new db }
+    ensures made { (db : Database) → Holds catalog.now tables.old db → IsMade (object_of definition.now) db result × Holds catalog.now tables.new db }
+    ensures listed { OnOk result (IsListed (object_of definition.now) tables.new) }
 {
     match definition {
         Definition::Table(table) => Ok(enter(alloc, tables, table.number)?),

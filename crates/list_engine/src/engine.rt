@@ -10,7 +10,7 @@ ghost use Rattle.txn_book.specs.State.{State, Open, counted, refused_step, with_
 ghost use Rattle.txn_book.specs.Steps.{IsFree, IsSession, MayAct, number_at_end};
 ghost use Rattle.txn_book.specs.declared.step.Act.TheVariants as act;
 ghost use Rattle.txn_book.specs.declared.step.Answer.TheVariants as answer;
-ghost use Rattle.list_engine.specs.Engine.{IsIn, Stands, Moved, is_want, IsWhy};
+ghost use Rattle.list_engine.specs.Engine.{IsIn, Stands, opened, Moved, is_want, IsWhy};
 ghost use Rattle.list_engine.specs.Parts.{open_of};
 
 use crate::copying::copied_catalog;
@@ -60,7 +60,8 @@ impl ListEngine {
     ///
     /// Where there is no memory for it.
     pub fn new(alloc: Global) -> Result<ListEngine, NoMemory>
-        ensures { IfOk result (λ engine. IsIn engine created) }
+        ensures holds { IfOk result (λ engine. IsIn engine created) }
+        ensures stands { IfOk result (λ engine. Stands engine opened) }
     {
         let parts = Parts::new(alloc)?;
         Ok(ListEngine {

@@ -64,8 +64,8 @@ pub fn table_between(
     copies(alloc, rows, low, high)
 }
 
-// Whether a key lies in an interval.
-fn lies_in(key: &[u8], interval: &Interval) -> bool
+/// Whether a key lies in an interval.
+pub fn lies_in(key: &[u8], interval: &Interval) -> bool
     ensures { result ≡ lies_in key.now interval.now }
 {
     if interval.low.as_slice().cmp(&key).is_gt() {

@@ -56,7 +56,9 @@ impl ListEngine {
 
     // Runs an INSERT.
     fn run_insert(&mut self, table: u32, tuples: &TupleList) -> Result<ReplyList, NoMemory>
-        ensures { (db : Database) → IsIn self.old db → IfOk result (λ replies. EndsAs (bound_meaning (meaning.insert table (map trees tuples.now)) db) db replies self.new) }
+        ensures ends { (db : Database) → IsIn self.old db → IfOk result (λ replies. EndsAs (bound_meaning (meaning.insert table (map trees tuples.now)) db) db replies self.new) }
+        ensures steps { self.new.steps ≡ self.old.steps }
+        ensures parts { self.new.parts ≡ self.old.parts }
     {
         if self.number == u64::MAX {
             return refused(self.alloc, Refusal::NoMemory);

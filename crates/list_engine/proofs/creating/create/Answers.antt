@@ -7,7 +7,7 @@ use Rattle.list_engine.proofs.creating.create.Goals as goal
 
 pub returns-clause-ok : goal.returns-clause-ok
 returns-clause-ok c = λ db s h b.
-    let made = c.in_ok-make.ensures db h in
+    let made = c.in_ok-make.ensures.made db h in
     record {
       means = made.0;
       holds = record {
@@ -15,4 +15,5 @@ returns-clause-ok c = λ db s h b.
         rows = made.1.rows;
         sound = created_law db h.sound s (object_of c.args.definition) b;
       };
+      listed = c.in_ok-make.ensures.listed;
     }

@@ -1,18 +1,22 @@
-use Rattle.std.proofs.Common.{refl, []}
-use mathlib.Core.Path.{sym, ap, subst}
-use Rattle.std.specs.List.{AllByRecursion}
-use Rattle.iv_meaning.specs.Database.{created}
-use Rattle.list_engine.specs.Held.{Holds, IsEvaluated}
-use Rattle.list_engine.proofs.EngineLemmas.{holds_created}
+use Rattle.std.proofs.Common.{refl}
+use mathlib.Core.Path.{sym, ap}
+use Rattle.std.specs.Option.{option_map}
+use Rattle.list_engine.specs.Parts.{open_of}
+use Rattle.list_engine.proofs.EngineLemmas.{has_created}
 use Rattle.list_engine.proofs.engine.ListEngine.new.Goals as goal
 
-pub returns : goal.returns
-returns c = record {
-  has = record {
-    number = refl;
-    holds = subst (λ ds. Holds ds c.new-3.result created) (sym c.new-2.ensures) (subst (λ ts. Holds [] ts created) (sym c.new-3.ensures) holds_created);
-    evaluated = subst (AllByRecursion (IsEvaluated created)) (sym c.new-4.ensures) tt;
-  };
+pub returns-clause-holds : goal.returns-clause-holds
+returns-clause-holds c = record {
+  has = has_created _ refl c.new-2.ensures c.new-3.ensures c.new-4.ensures;
   places = c.in_ok-parts.ensures.places;
   closed = λ session. ap (λ p. p.opened) (c.in_ok-parts.ensures.parts session);
+}
+
+pub returns-clause-stands : goal.returns-clause-stands
+returns-clause-stands c = record {
+  has = has_created _ refl c.new-2.ensures c.new-3.ensures c.new-4.ensures;
+  places = c.in_ok-parts.ensures.places;
+  opened = λ session. sym (ap (λ p. option_map open_of p.opened) (c.in_ok-parts.ensures.parts session));
+  refused = λ session. sym (ap (λ p. p.refused) (c.in_ok-parts.ensures.parts session));
+  steps = refl;
 }

@@ -16,14 +16,14 @@ use Rattle.list_engine.specs.Held.{IsEvaluated}
 use Rattle.list_engine.proofs.EngineLemmas.{passed_over, not_ended, accepted_ends, held_number}
 use Rattle.list_engine.proofs.engine.ListEngine.run_insert.Goals as goal
 
-pub returns-then-self : goal.returns-then-self
-returns-then-self c = λ db i.
+pub returns-then-self-clause-ends : goal.returns-then-self-clause-ends
+returns-then-self-clause-ends c = λ db i.
     let m : Meaning = bound_meaning (insert c.args.table (map trees c.args.tuples.now)) db in
     if_ok c.refused.result (λ replies. replies ≡ reply.Error NoMemory ∷ []) (λ replies. EndsAs m db replies c.args.self.now)
     (λ replies e. passed_over m db replies c.args.self.now i e) c.refused.ensures
 
-pub returns-in-Ok : goal.returns-in-Ok
-returns-in-Ok c = λ db i.
+pub returns-in-Ok-clause-ends : goal.returns-in-Ok-clause-ends
+returns-in-Ok-clause-ends c = λ db i.
     let m : List (List Expr) → Meaning = λ ts. bound_meaning (insert c.args.table (map trees ts)) db in
     let done = c.in-Ok.ensures.ok db i.has.holds in
     let number : ℕ = next_number done.kept db.number in
@@ -41,8 +41,8 @@ returns-in-Ok c = λ db i.
     if_ok c.done.result (λ replies. replies ≡ reply.Done c.in-Ok.count ∷ reply.Commit c.next_number-self.result ∷ []) (λ replies. EndsAs (m c.args.tuples.now) db replies engine)
     (λ replies e. accepted_ends (m c.args.tuples.now) db replies engine c.in-Ok.count done.kept (ap m (sym c.as_slice.ensures) ∙ done.means) here e) c.done.ensures
 
-pub returns-in-Err : goal.returns-in-Err
-returns-in-Err c = λ db i.
+pub returns-in-Err-clause-ends : goal.returns-in-Err-clause-ends
+returns-in-Err-clause-ends c = λ db i.
     let m : List (List Expr) → Meaning = λ ts. bound_meaning (insert c.args.table (map trees ts)) db in
     let err = c.in-Err.ensures.err db i.has.holds in
     let engine : ListEngine = record { alloc = c.args.self.now.alloc; number = c.args.self.now.number; catalog = c.args.self.now.catalog; tables = c.insert.new.tables; views = c.new.result; parts = c.args.self.now.parts; steps = c.args.self.now.steps } in
