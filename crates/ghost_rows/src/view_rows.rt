@@ -167,6 +167,7 @@ impl ViewRows {
         ensures room { OnOk result (MovesRoom session self.old self.new) }
         ensures others { OnlyAt (place_of delta.now) self.old self.new }
         ensures stores { StoresOnlyAt (place_of delta.now) (M.maps maps.old) (M.maps maps.new) }
+        ensures spare { (i : ℕ) → M.spare maps.old i ≤ M.spare maps.new i }
         ensures seats { (s : ℕ) → HasSeat self.old (place_of delta.now) s → HasSeat self.new (place_of delta.now) s }
         ensures limit { M.limit maps.new ≡ M.limit maps.old }
     {
@@ -207,6 +208,7 @@ impl ViewRows {
         ensures room { MovesRoom session self.old self.new }
         ensures others { OnlyAt (place_of delta.now) self.old self.new }
         ensures stores { StoresOnlyAt (place_of delta.now) (M.maps maps.old) (M.maps maps.new) }
+        ensures spare { (i : ℕ) → M.spare maps.old i ≤ M.spare maps.new i }
         ensures seats { (s : ℕ) → HasSeat self.old (place_of delta.now) s → HasSeat self.new (place_of delta.now) s }
         ensures limit { M.limit maps.new ≡ M.limit maps.old }
     {

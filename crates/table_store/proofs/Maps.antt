@@ -1,22 +1,22 @@
 -- Maps as sorted lists: what an edit of the list does to the map.
-use Rattle.std.specs.Prelude.{◌≡◌, ◌≢◌, ℕ, zero, suc, ◌<◌, ◌≤◌, Bool, true, false, cond, not, T, List, Option, Some, None, IsSome, is_some, slice_get, slice_index_or, length, [], ◌∷◌}
+use Rattle.std.specs.Prelude.{◌≡◌, ◌≢◌, ℕ, zero, suc, ◌<◌, ◌≤◌, Bool, true, false, cond, not, T, List, Some, None, IsSome, is_some, slice_get, slice_index_or, length, [], ◌∷◌}
 use mathlib.Core.Path.{refl, sym, ap, subst, ◌∙◌}
 use Rattle.std.proofs.Common.{arith, set}
 use Rattle.std.proofs.lemmas.Bool.{cases_lt}
 use mathlib.Core.Logic.{inl, inr}
 use Rattle.std.specs.List as list
-use Rattle.std.specs.List.Sorted.{IsPartitionPoint, IsPartitionedBy}
-use Rattle.std.specs.FinMap.{FinMap, IsAntisymmetric, find, put, is_sorted, get, entries, insert, remove, from_sorted, empty, nat_cmp-IsAntisymmetric, slice_cmp-IsAntisymmetric}
-use Rattle.std.specs.FinMap.{get-entries, get-from_sorted, entries-from_sorted, entries-insert, get-remove, same_map, same_entries_map, entries_sorted, empty_of_len, len-empty, len-entries, get-empty}
-use Rattle.std.specs.FinMap.Entries.{where_key, is_sorted-put, is_sorted-where_key, find-where_key}
+use Rattle.std.specs.FinMap.{IsAntisymmetric, is_sorted, get, entries, insert, remove, from_sorted, empty, nat_cmp-IsAntisymmetric, slice_cmp-IsAntisymmetric}
+use Rattle.std.specs.FinMap.{get-entries, entries-from_sorted, entries_sorted, len-empty, len-entries, get-empty}
 use Rattle.std.specs.declared.cmp.Ordering.{Ordering}
 use Rattle.std.specs.declared.cmp.Ordering.TheVariants.{Less, Equal, Greater}
 use Rattle.std.specs.Ordering.{nat_cmp, eq_by_cmp, is_eq, is_lt, is_le, is_ge, is_gt}
-use Rattle.std.specs.Cmp.{IsTotalOrder, eq_by_cmp_equiv, tied_itself}
+use Rattle.std.specs.Cmp.{tied_itself}
 use Rattle.std.specs.Cmp.Lexicographic.{slice_cmp, nat_list_cmp_total}
 use Rattle.iv_types.specs.Maps.{Map, Entry, first_where, entry_at, entry_after}
-use Rattle.table_store.specs.Lists.{IsPlace, Listed, map_at, unheld}
-use Rattle.table_store.proofs.Places.{HasKey, place_from, first_at_place, parted_lt, parted_le, find_here, found_here, insert_here, set_here, remove_here, has_key_is, has_key_within, key_is, equal, find_from, from_key, value_at}
+use Rattle.table_store.specs.Lists.{IsPlace, Listed, map_at}
+use Rattle.table_store.proofs.Edits as edits
+use Rattle.table_store.proofs.Edits.{not_some}
+use Rattle.table_store.proofs.Places.{HasKey, first_at_place, has_key_is, has_key_within, key_is, equal, find_from, from_key, value_at}
 
 abbrev pub by_bytes : List ℕ → List ℕ → Ordering
 by_bytes = slice_cmp nat_cmp
@@ -34,20 +34,9 @@ gt_not_le Less = refl
 gt_not_le Equal = refl
 gt_not_le Greater = refl
 
-turned : {A : Type 0} (b : Bool) (x y : A) → cond (not b) x y ≡ cond b y x
-turned true x y = refl
-turned false x y = refl
-
-not_some : {A : Type 0} (v : Option A) → (IsSome v → ⊥) → v ≡ None
-not_some None f = refl
-not_some (Some x) f = absurd (f refl)
-
 -- the map of a sorted list
 abbrev pub made : List Entry → Map
 made es = from_sorted es
-
-same_test : (q k : List ℕ) → eq_by_cmp by_bytes k q ≡ eq_by_cmp by_bytes q k
-same_test q k = (eq_by_cmp_equiv nat_list_cmp_total).symm k q
 
 not_true : (b : Bool) → (b ≡ true → ⊥) → b ≡ false
 not_true true f = absurd (f refl)
@@ -72,10 +61,10 @@ module _ (es : List Entry) (sorted : T (is_sorted by_bytes es)) (k : List ℕ) (
   entry_after_place p = ap (first_where (λ x. is_gt (by_bytes x k))) same_list ∙ first_at_place _ _ (λ x. gt_not_le (by_bytes x k)) es i p
 
   pub get_found : IsPlaceOf k es i → (d : Entry) → i < length es → (slice_index_or es i d).0 ≡ k → get (made es) k ≡ Some (slice_index_or es i d).1
-  get_found p d l e = get-from_sorted by_bytes es k sorted ∙ find_here nat_list_cmp_total bytes_same k es i d p (has_key_is k es i d l e)
+  get_found p d l e = edits.get_here nat_list_cmp_total bytes_same es sorted k i p (has_key_is k es i d l e) d
 
   has_key : IsPlaceOf k es i → IsSome (get (made es) k) → HasKey k es i
-  has_key p some = found_here nat_list_cmp_total bytes_same k es i sorted p (subst IsSome (get-from_sorted by_bytes es k sorted) some)
+  has_key p some = edits.has_key nat_list_cmp_total bytes_same es sorted k i p some
 
   pub within : IsPlaceOf k es i → IsSome (get (made es) k) → i < length es
   within p some = has_key_within k es i (has_key p some)
@@ -85,50 +74,21 @@ module _ (es : List Entry) (sorted : T (is_sorted by_bytes es)) (k : List ℕ) (
 
   -- ---- edits
 
-  put_is : (v : List ℕ) → made (put by_bytes k v es) ≡ insert (made es) k v
-  put_is v = same_entries_map _ _ (entries-from_sorted by_bytes (put by_bytes k v es) (is_sorted-put by_bytes nat_list_cmp_total k v es sorted)
-      ∙ sym (entries-insert nat_list_cmp_total (made es) k v ∙ ap (put by_bytes k v) same_list))
-
   pub inserted : IsPlaceOf k es i → get (made es) k ≡ None → (v : List ℕ)
       → T (is_sorted by_bytes (list.insert es i (k, v))) × (made (list.insert es i (k, v)) ≡ insert (made es) k v)
-  inserted p none v =
-      let is : list.insert es i (k, v) ≡ put by_bytes k v es = insert_here nat_list_cmp_total bytes_same k v es i p (sym (get-from_sorted by_bytes es k sorted) ∙ none) in
-      (subst (λ (l : List Entry). T (is_sorted by_bytes l)) (sym is) (is_sorted-put by_bytes nat_list_cmp_total k v es sorted), ap made is ∙ put_is v)
+  inserted p none v = edits.inserted nat_list_cmp_total bytes_same es sorted k i p none v
 
   pub replaced : IsPlaceOf k es i → IsSome (get (made es) k) → (v : List ℕ) (d : Entry)
       → T (is_sorted by_bytes (set es i ((slice_index_or es i d).0, v))) × (made (set es i ((slice_index_or es i d).0, v)) ≡ insert (made es) k v)
-  replaced p some v d =
-      let is : set es i ((slice_index_or es i d).0, v) ≡ put by_bytes k v es = set_here nat_list_cmp_total bytes_same k v es i d p (has_key p some) in
-      (subst (λ (l : List Entry). T (is_sorted by_bytes l)) (sym is) (is_sorted-put by_bytes nat_list_cmp_total k v es sorted), ap made is ∙ put_is v)
-
-  without : List Entry
-  without = where_key by_bytes (λ x. not (eq_by_cmp by_bytes k x)) es
-
-  without_sorted : T (is_sorted by_bytes without)
-  unfolding without
-  without_sorted = is_sorted-where_key by_bytes (λ x. not (eq_by_cmp by_bytes k x)) es sorted
-
-  without_is : made without ≡ remove (made es) k
-  unfolding without
-  without_is = same_map nat_list_cmp_total bytes_same _ _ (λ q.
-      get-from_sorted by_bytes _ q without_sorted
-      ∙ (find-where_key by_bytes (λ x. not (eq_by_cmp by_bytes k x)) q (λ x e. ap (λ y. not (eq_by_cmp by_bytes k y)) (sym (bytes_same q x e))) es
-      ∙ (turned (eq_by_cmp by_bytes k q) _ _
-      ∙ (ap (λ b. cond b None (find by_bytes q es)) (same_test q k)
-      ∙ sym (get-remove nat_list_cmp_total (made es) k q ∙ ap (λ (v : Option (List ℕ)). cond (eq_by_cmp by_bytes q k) None v) (get-from_sorted by_bytes es q sorted))))))
+  replaced p some v d = edits.replaced nat_list_cmp_total bytes_same es sorted k i p (has_key p some) v d
 
   pub removed : IsPlaceOf k es i → IsSome (get (made es) k)
       → T (is_sorted by_bytes (list.remove es i)) × (made (list.remove es i) ≡ remove (made es) k)
-  unfolding without
-  removed p some =
-      let is : list.remove es i ≡ without = remove_here nat_list_cmp_total bytes_same k es i sorted p (has_key p some) in
-      (subst (λ (l : List Entry). T (is_sorted by_bytes l)) (sym is) without_sorted, ap made is ∙ without_is)
+  removed p some = edits.removed nat_list_cmp_total bytes_same es sorted k i p (has_key p some)
 
 -- no entries
 pub made_none : (es : List Entry) → es ≡ [] → made es ≡ empty
-made_none es e =
-    let sorted : T (is_sorted by_bytes es) = subst (λ (l : List Entry). T (is_sorted by_bytes l)) (sym e) tt in
-    empty_of_len (made es) (len-entries (made es) ∙ (ap length (entries-from_sorted by_bytes es sorted) ∙ ap length e))
+made_none es e = edits.made_none by_bytes es e
 
 -- ---- the entry at a place
 

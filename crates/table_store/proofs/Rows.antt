@@ -17,7 +17,7 @@ use Rattle.table_laws.proofs.Tables.{by_key, get-write_at, get-write_other}
 use Rattle.table_store.specs.Stored.{stored, table_of, StandsUnder, HoldsTable, Holds, SetsRow}
 use Rattle.table_store.proofs.Maps.{bytes_same}
 
-some_same : {A : Type 0} (x y : A) → Some x ≡ Some y → x ≡ y
+pub some_same : {A : Type 0} (x y : A) → Some x ≡ Some y → x ≡ y
 some_same x y e = cc
 
 of_some : {A : Type 0} (P : A → Type 0) (v : Option A) (x : A) → v ≡ Some x → IfSome v P → P x

@@ -10,4 +10,6 @@ pub use list_maps::ListMaps;
 pub use tables::Tables;
 
 #[cfg(test)]
+mod table_tests;
+#[cfg(test)]
 mod tests;

@@ -13,6 +13,7 @@ mod delta;
 mod fitting;
 pub mod law;
 
+pub use contribution::contribution_of;
 pub use delta::{deltas, needs};
 pub use fitting::rows_fit;
 

@@ -1,4 +1,3 @@
-use Rattle.std.proofs.Common.{rules}
 use Rattle.table_store.proofs.Maps.{made_none}
 use Rattle.table_store.proofs.entry_list.EntryList.new.Goals as goal
 

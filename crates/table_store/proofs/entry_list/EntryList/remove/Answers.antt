@@ -1,4 +1,4 @@
-use Rattle.std.proofs.Common.{List, T, IsSome, length, ap, ◌∙◌, sym, subst, set, arith, is_lt}
+use Rattle.std.proofs.Common.{List, T, IsSome, length, ap, ◌∙◌, sym, subst, arith}
 use Rattle.std.specs.FinMap as map
 use Rattle.std.specs.FinMap.{is_sorted}
 use Rattle.iv_types.specs.Maps.{Entry}
