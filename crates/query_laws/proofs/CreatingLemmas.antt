@@ -69,14 +69,14 @@ some_there (Some x) e = (x, refl)
 -- ---- the tables that a view reads
 
 -- the numbers of the tables
-abbrev sources_by : Schema → TableDef → Option (TableDef × List ℕ) → List ℕ
+abbrev pub sources_by : Schema → TableDef → Option (TableDef × List ℕ) → List ℕ
 sources_by objects first second = first.number ∷ elim (option_map (second_kept objects first) second) [ None ↦ [] | Some s ↦ s.table ∷ [] ]
 
 -- the tables that a view reads are those that its query sees
-record AreSources (objects : Schema) (numbers : List ℕ) (scope : List Visible) : Type 0 where
-  tables : AllByRecursion (IsTable objects) numbers
-  kinds : map (λ n. kinds_of_table (numbered objects n)) numbers ≡ kinds_seen scope
-  have : AllByRecursion HasKinds scope
+pub record AreSources (objects : Schema) (numbers : List ℕ) (scope : List Visible) : Type 0 where
+  pub tables : AllByRecursion (IsTable objects) numbers
+  pub kinds : map (λ n. kinds_of_table (numbered objects n)) numbers ≡ kinds_seen scope
+  pub have : AllByRecursion HasKinds scope
 
 of_seen : (objects : Schema) (v : Visible) (s : IsTableSeen objects v) → kinds_of_table (numbered objects s.of.number) ≡ v.kinds
 of_seen objects v s = ap kinds_of_table s.there ∙ sym s.kinds_are
@@ -103,7 +103,7 @@ second_source db sound relation join first e (Some second) f on many columns =
     (subst (λ (b : TableDef). AreSources db.schema (s.0.of.number ∷ b.number ∷ []) (visible db.schema relation ∷ visible db.schema join.relation ∷ [])) t.1
     (two_sources db.schema (visible db.schema relation) (visible db.schema join.relation) s.0 t.0))
 
-sources_are : (db : Database) → IsSound db → (relation : Relation) (joins : List JoinTree) (first : TableDef) → table_of (visible db.schema relation) ≡ Some first
+pub sources_are : (db : Database) → IsSound db → (relation : Relation) (joins : List JoinTree) (first : TableDef) → table_of (visible db.schema relation) ≡ Some first
     → is_many_to_one (map (visible db.schema) (relation ∷ map (λ (join : JoinTree). join.relation) joins)) joins ≡ true
     → AreSources db.schema (sources_by db.schema first (second_of (map (visible db.schema) (relation ∷ map (λ (join : JoinTree). join.relation) joins)) joins)) (map (visible db.schema) (relation ∷ map (λ (join : JoinTree). join.relation) joins))
 sources_are db sound relation [] first e many =

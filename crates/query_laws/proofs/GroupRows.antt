@@ -214,7 +214,7 @@ in_huge n y e = go (is_huge n) refl e
     go true is e = subst (Fits Huge) (some_same (Number n) y e) (huge_fits n is)
     go false is e = absurd (cc)
 
-value_again : (o : Option Value) → value_of (outcome_of o) ≡ o
+pub value_again : (o : Option Value) → value_of (outcome_of o) ≡ o
 value_again None = refl
 value_again (Some (Number n)) = refl
 value_again (Some (Word w)) = refl

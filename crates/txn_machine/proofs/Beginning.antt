@@ -19,6 +19,7 @@ empty_law number = record {
     objects = λ n o e. absurd (no_object n o e);
     rows = λ place row e. absurd (none-some row (sym (get-empty place_cmp place) ∙ e));
     joins = λ n v e. absurd (no_object n (view v) e);
+    typed = λ n v e. absurd (no_object n (view v) e);
   };
   rows = λ place column. ap (number_in_row column) (get-empty place_cmp place);
   in_range = λ place column. huge_zero;

@@ -1,35 +1,40 @@
 -- What a CREATE statement makes of a sound database is sound: a view of two tables joins them as it should.
-use Rattle.std.specs.Prelude.{◌≡◌, ℕ, suc, ◌+◌, ◌<◌, ◌==◌, ◌&&◌, ◌||◌, not, Bool, true, false, cond, List, [], ◌∷◌, ◌++◌, length, map, filter, slice_get, Option, Some, None, Ok}
+use Rattle.std.specs.Prelude.{◌≡◌, ◌≢◌, ℕ, suc, ◌+◌, ◌<◌, ◌==◌, ◌&&◌, ◌||◌, not, Bool, true, false, cond, List, [], ◌∷◌, ◌++◌, length, map, filter, slice_get, Option, Some, None, Result, Ok, Err}
 use Rattle.std.specs.List.{AllByRecursion, filter_map, cons_option, flat_map, list_any, list_all}
 use Rattle.std.specs.Option.{option_map, option_and_then, option_map_or, unwrap_or}
 use mathlib.Core.Path.{refl, sym, ap, subst, ◌∙◌}
 use Rattle.std.proofs.Common.{inl, inr, eq-eqb, eqb-true}
 use Rattle.std.proofs.lemmas.List.{length-map}
-use Rattle.std.proofs.lemmas.List.Elements.{All-from_recursion}
+use Rattle.std.proofs.lemmas.List.Elements.{All-from_recursion, recursion_from_All}
 use Rattle.iv_types.specs.declared.value.Kind.{Kind}
 use Rattle.iv_types.specs.declared.value.Kind.TheVariants.{Int, Huge, Text}
 use Rattle.iv_types.specs.declared.refusal.Refusal.{Refusal}
-use Rattle.iv_types.specs.declared.refusal.Refusal.TheVariants.{NeedsIndex}
+use Rattle.iv_types.specs.declared.refusal.Refusal.TheVariants.{NeedsIndex, UnknownName, WrongType}
+use Rattle.iv_types.specs.declared.expression.ColumnAt.{ColumnAt}
+use Rattle.iv_types.specs.declared.expression.Op.TheVariants as op
+use Rattle.iv_types.specs.declared.expression.Ref.{Ref}
 use Rattle.iv_types.specs.declared.statement.ColumnDef.{ColumnDef}
 use Rattle.iv_types.specs.declared.statement.Relation.{Relation}
 use Rattle.iv_types.specs.declared.catalog.TableDef.{TableDef}
 use Rattle.iv_types.specs.declared.catalog.IndexDef.{IndexDef}
 use Rattle.iv_types.specs.declared.catalog.Second.{Second}
 use Rattle.iv_types.specs.Definitions.{kinds_of}
+use Rattle.iv_types.specs.Syntax as tree
 use Rattle.iv_types.specs.Syntax.{Tree, StatementTree, QueryTree, JoinTree, create_table, create_index, create_view, insert, update, delete, select}
-use Rattle.iv_meaning.specs.Schema.{Schema, Object, table, index, view, ViewTree, numbered, named, as_table, as_index, items_at, indexes_of}
+use Rattle.iv_meaning.specs.Schema.{Schema, Object, table, index, view, ViewTree, numbered, named, as_table, as_index, items_at, indexes_of, sources_of}
 use Rattle.iv_meaning.specs.Database.{Database}
-use Rattle.iv_meaning.specs.Names.{bound, visible, scope_of, how_many, name_faults}
-use Rattle.iv_meaning.specs.Shape.{terms, joins_by, joins_key, same_kind, both_kinds, rules_of, limits_of, table_of, is_empty, is_many_to_one, joins_tables}
+use Rattle.iv_meaning.specs.Names.{Visible, bound, visible, scope_of, resolve, how_many, ref_faults, condition_faults, view_item_faults, relation_faults, join_faults, object_taken, name_faults}
+use Rattle.iv_meaning.specs.Types.{family, family_in, is_truth, condition_typed, item_typed, query_typed}
+use Rattle.iv_meaning.specs.Shape.{has_arithmetic, resolved, group_of, terms, joins_by, joins_key, same_kind, both_kinds, rules_of, limits_of, table_of, is_empty, is_many_to_one, joins_tables}
 use Rattle.iv_meaning.specs.Binding.{bind, unless, faults, type_faults, shape_faults, limit_faults, index_faults, joined_with, begins_with, first_index, join_index, bound_to, made_view, first_of, second_of, second_kept}
 use Rattle.iv_meaning.specs.Statement as statement
 use Rattle.iv_meaning.specs.Statement.{BoundTree}
-use Rattle.iv_meaning.specs.Sound.{IsSound}
+use Rattle.iv_meaning.specs.Sound.{IsSound, IsTable}
 use Rattle.query_laws.proofs.Fitting.{inside}
 use Rattle.query_laws.proofs.GroupRows.{some_same}
-use Rattle.query_laws.proofs.SoundLemmas.{Keeps, rules_hold, named_numbered, numbered_more, numbered_cases}
-use Rattle.query_laws.proofs.CreatingLemmas.{created_law}
-use Rattle.txn_machine.specs.ViewLaws.{BeginsWith, primary, secondary, IsJoin, IsJoined}
+use Rattle.query_laws.proofs.SoundLemmas.{Keeps, rules_hold, named_numbered, numbered_more, numbered_cases, same_kinds, kinds_seen, nothing_first, nothing_second}
+use Rattle.query_laws.proofs.CreatingLemmas.{sources_are, created_law}
+use Rattle.txn_machine.specs.ViewLaws.{BeginsWith, primary, secondary, IsJoin, IsJoined, IsTyped}
 use Rattle.txn_machine.specs.Laws.{CreatesSound}
 
 and_both : (a b : Bool) → (a && b) ≡ true → (a ≡ true) × (b ≡ true)
@@ -252,11 +257,57 @@ module _ (db : Database) (sound : IsSound db) (v : ViewTree) (first : TableDef) 
       second_joins join (table_of (visible db.schema join.relation)) refl on (ap (λ o. joins_tables o (table_of (visible db.schema join.relation)) on) (sym e) ∙ many) none
   view_joins relation (join ∷ other ∷ joins) e many none = absurd (cc)
 
--- ---- what is created
+-- ---- the condition of a view, and its groups
 
-nothing_second : {X : Type 0} (xs ys : List X) → xs ++ ys ≡ [] → ys ≡ []
-nothing_second [] ys e = e
-nothing_second (x ∷ xs) ys e = absurd (cc)
+-- names have no arithmetic
+bound_arithmetic : (scope : List Visible) (e : Tree) → has_arithmetic (bound scope e) ≡ has_arithmetic e
+bound_arithmetic scope (tree.number n) = refl
+bound_arithmetic scope (tree.word w) = refl
+bound_arithmetic scope (tree.named ref) = go (resolve scope ref)
+  where
+    go : (r : Result ColumnAt (List ℕ)) → has_arithmetic (elim r [ Ok place ↦ tree.at place | Err name ↦ tree.named ref ]) ≡ false
+    go (Ok place) = refl
+    go (Err name) = refl
+bound_arithmetic scope (tree.at place) = refl
+bound_arithmetic scope (tree.not e) = bound_arithmetic scope e
+bound_arithmetic scope (tree.minus e) = refl
+bound_arithmetic scope (tree.pair op.Add a b) = refl
+bound_arithmetic scope (tree.pair op.Subtract a b) = refl
+bound_arithmetic scope (tree.pair op.Multiply a b) = refl
+bound_arithmetic scope (tree.pair op.Or a b) = λ i. bound_arithmetic scope a i || bound_arithmetic scope b i
+bound_arithmetic scope (tree.pair op.And a b) = λ i. bound_arithmetic scope a i || bound_arithmetic scope b i
+bound_arithmetic scope (tree.pair op.Equal a b) = λ i. bound_arithmetic scope a i || bound_arithmetic scope b i
+bound_arithmetic scope (tree.pair op.NotEqual a b) = λ i. bound_arithmetic scope a i || bound_arithmetic scope b i
+bound_arithmetic scope (tree.pair op.Less a b) = λ i. bound_arithmetic scope a i || bound_arithmetic scope b i
+bound_arithmetic scope (tree.pair op.AtMost a b) = λ i. bound_arithmetic scope a i || bound_arithmetic scope b i
+bound_arithmetic scope (tree.pair op.Greater a b) = λ i. bound_arithmetic scope a i || bound_arithmetic scope b i
+bound_arithmetic scope (tree.pair op.AtLeast a b) = λ i. bound_arithmetic scope a i || bound_arithmetic scope b i
+
+-- a group column that is named has its place
+grouped_there : (scope : List Visible) (refs : List Ref) → is_empty refs ≡ false → flat_map (ref_faults scope) refs ≡ [] → flat_map (resolved scope) refs ≢ []
+grouped_there scope [] some none e = absurd (cc)
+grouped_there scope (ref ∷ refs) some none e = go (resolve scope ref) (nothing_first (ref_faults scope ref) (flat_map (ref_faults scope) refs) none) e
+  where
+    go : (r : Result ColumnAt (List ℕ)) → elim r as (λ (r : Result ColumnAt (List ℕ)). List Refusal) [ Ok place ↦ [] | Err name ↦ UnknownName name ∷ [] ] ≡ []
+        → elim r as (λ (r : Result ColumnAt (List ℕ)). List ColumnAt) [ Ok place ↦ place ∷ [] | Err name ↦ [] ] ++ flat_map (resolved scope) refs ≡ [] → ⊥
+    go (Ok place) n e = cc
+    go (Err name) n e = cc
+
+-- a typed condition without arithmetic, as it is bound
+condition_is : (scope : List Visible) (condition : Option Tree) → condition_typed scope condition ≡ true → option_map_or has_arithmetic condition false ≡ false
+    → (e : Tree) → option_map (bound scope) condition ≡ Some e → (is_truth (family (kinds_seen scope) e) ≡ true) × (has_arithmetic e ≡ false)
+condition_is scope None t a e is = absurd (cc)
+condition_is scope (Some c) t a e is =
+    subst (λ (x : Tree). (is_truth (family (kinds_seen scope) x) ≡ true) × (has_arithmetic x ≡ false)) (some_same (bound scope c) e is) (t, bound_arithmetic scope c ∙ a)
+
+-- more objects leave a view typed
+typed_more : (objects : Schema) (o : Object) (v : ViewTree) → AllByRecursion (IsTable objects) (sources_of v) → IsTyped objects v → IsTyped (objects ++ o ∷ []) v
+typed_more objects o v tables t = record {
+  grouped = t.grouped;
+  condition = λ e is. let c = t.condition e is in (ap (λ (kinds : List (List Kind)). is_truth (family kinds e)) (same_kinds objects o (sources_of v) tables) ∙ c.0, c.1);
+}
+
+-- ---- what is created
 
 no_fault : (fs : List Refusal) (made what : BoundTree) → unless fs made ≡ Ok what → fs ≡ []
 no_fault [] made what e = refl
@@ -320,6 +371,69 @@ module _ (db : Database) (sound : IsSound db) where
   created_joins (select q order) v rules none e = absurd (cc)
   created_joins s v rules none e = absurd (cc)
 
+-- of a view that a query makes
+module _ (db : Database) (sound : IsSound db) where
+  -- it reads tables, and is typed
+  abbrev IsMade : ViewTree → Type 0
+  IsMade v = IsTyped db.schema v × AllByRecursion (IsTable db.schema) (sources_of v)
+
+  made_typed : (name : List ℕ) (q : QueryTree) (first : TableDef) → first_of (scope_of db.schema q) ≡ Some first → is_many_to_one (scope_of db.schema q) q.joins ≡ true
+      → group_of (scope_of db.schema q) q ≢ [] → ((e : Tree) → option_map (bound (scope_of db.schema q)) q.condition ≡ Some e → (is_truth (family (kinds_seen (scope_of db.schema q)) e) ≡ true) × (has_arithmetic e ≡ false))
+      → (v : ViewTree) → made_view db.schema name q (scope_of db.schema q) first ≡ view v → IsMade v
+  made_typed name q first e many grouped told v is =
+      let sources = sources_are db sound q.first q.joins first e many in
+      let w : ViewTree = record {
+        number = length db.schema + 1;
+        name = name;
+        names = _;
+        first = first.number;
+        second = option_map (second_kept db.schema first) (second_of (scope_of db.schema q) q.joins);
+        condition = option_map (bound (scope_of db.schema q)) q.condition;
+        group = group_of (scope_of db.schema q) q;
+        sums = _;
+      } in
+      subst IsMade (of_view w v is) (
+        record {
+          grouped = grouped;
+          condition = λ c h. let t = told c h in (ap (λ (kinds : List (List Kind)). is_truth (family kinds c)) sources.kinds ∙ t.0, t.1);
+        },
+        sources.tables,
+      )
+
+  typed_by_first : (name : List ℕ) (q : QueryTree) (f : Option TableDef) → first_of (scope_of db.schema q) ≡ f → is_many_to_one (scope_of db.schema q) q.joins ≡ true
+      → group_of (scope_of db.schema q) q ≢ [] → ((e : Tree) → option_map (bound (scope_of db.schema q)) q.condition ≡ Some e → (is_truth (family (kinds_seen (scope_of db.schema q)) e) ≡ true) × (has_arithmetic e ≡ false))
+      → (v : ViewTree) → elim f [ None ↦ statement.control | Some first ↦ statement.create (made_view db.schema name q (scope_of db.schema q) first) ] ≡ statement.create (view v) → IsMade v
+  typed_by_first name q None e many grouped told v is = absurd (cc)
+  typed_by_first name q (Some first) e many grouped told v is = made_typed name q first e many grouped told v (of_create (made_view db.schema name q (scope_of db.schema q) first) (view v) is)
+
+  created_typed : (s : StatementTree) (v : ViewTree) → AllByRecursion Keeps (rules_of db.schema s) → name_faults db.schema s ≡ [] → type_faults db.schema s ≡ [] → bound_to db.schema s ≡ statement.create (view v) → IsMade v
+  created_typed (create_view name q) v rules names types e =
+      let scope : List Visible = scope_of db.schema q in
+      let grouped : is_empty q.group ≡ false = or_first (is_empty q.group) _ rules.1.1.1.1.1.0 in
+      let behind = nothing_second (view_item_faults scope [] q.items) _ (nothing_second (object_taken db.schema name) _ names) in
+      let behind_joins = nothing_second (join_faults db.schema scope _ q.joins) _ (nothing_second (relation_faults db.schema [] q.first) _ behind) in
+      let group_named : flat_map (ref_faults scope) q.group ≡ [] = nothing_second (condition_faults scope q.condition) _ behind_joins in
+      let typed = and_both (list_all (item_typed scope) q.items && list_all (λ (join : JoinTree). is_truth (family_in scope join.on)) q.joins) (condition_typed scope q.condition) (typed_is (query_typed scope q) types) in
+      typed_by_first name q (first_of scope) refl (and_rest (is_empty q.group) (is_many_to_one scope q.joins) rules.1.1.1.1.0 grouped)
+      (grouped_there scope q.group grouped group_named) (condition_is scope q.condition typed.1 rules.1.1.1.1.1.1.0) v e
+    where
+      typed_is : (b : Bool) → cond b [] (WrongType ∷ []) ≡ [] → b ≡ true
+      typed_is true e = refl
+      typed_is false e = absurd (cc)
+  created_typed (create_table name columns keys) v rules names types e = absurd (cc)
+  created_typed (create_index name target columns) v rules names types e = absurd (cc)
+  created_typed (insert target tuples) v rules names types e = absurd (cc)
+  created_typed (update target sets condition) v rules names types e = absurd (cc)
+  created_typed (delete target condition) v rules names types e = absurd (cc)
+  created_typed (select q order) v rules names types e = absurd (cc)
+  created_typed s v rules names types e = absurd (cc)
+
+-- a statement that is bound has no fault of names or types
+no_early_fault : (objects : Schema) (s : StatementTree) (what : BoundTree) → bind objects s ≡ Ok what → (name_faults objects s ≡ []) × (type_faults objects s ≡ [])
+no_early_fault objects s what e =
+    let none = no_fault (faults objects s) (bound_to objects s) what e in
+    (nothing_first (name_faults objects s) _ none, nothing_first (type_faults objects s) _ (nothing_second (name_faults objects s) _ none))
+
 pub creates_sound : CreatesSound
 creates_sound db s o sound e =
     let plain : IsSound db = record { objects = sound.objects; rows = sound.rows } in
@@ -333,5 +447,14 @@ creates_sound db s o sound e =
             let bound_is : bind db.schema s ≡ Ok (statement.create (view v)) = e ∙ ap (λ x. Ok (statement.create x)) is.1 in
             let rules = rules_hold db.schema s (statement.create (view v)) bound_is in
             joined_more db.schema o v v.second (created_joins db plain s v rules.0 (has_index db.schema s (statement.create (view v)) bound_is) rules.1)
+      ];
+      typed = λ n v there. elim (numbered_cases db.schema o n (view v) there) [
+        | inl old ↦ typed_more db.schema o v (recursion_from_All (IsTable db.schema) (sources_of v) (sound.objects n (view v) old).1.tables) (sound.typed n v old)
+        | inr is ↦
+            let bound_is : bind db.schema s ≡ Ok (statement.create (view v)) = e ∙ ap (λ x. Ok (statement.create x)) is.1 in
+            let rules = rules_hold db.schema s (statement.create (view v)) bound_is in
+            let early = no_early_fault db.schema s (statement.create (view v)) bound_is in
+            let made = created_typed db plain s v rules.0 early.0 early.1 rules.1 in
+            typed_more db.schema o v made.1 made.0
       ];
     }

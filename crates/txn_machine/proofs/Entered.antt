@@ -8,6 +8,7 @@ use Rattle.iv_meaning.specs.Schema.{Schema}
 use Rattle.iv_meaning.specs.Database.{Row, Rows, Database}
 use Rattle.iv_meaning.specs.Statement.{Kept, sets, defines, keep, keep_all}
 use Rattle.iv_meaning.specs.History.{Entry, fold}
+pub use Rattle.iv_meaning.proofs.SerialLemmas.{fold_push, keep_append}
 use Rattle.iv_meaning.specs.Sound.{IsRow}
 use Rattle.txn_machine.specs.Deltas.{RowChange, rows_after}
 use Rattle.txn_machine.specs.ViewLaws.{AreSound, IsRight}
@@ -24,6 +25,7 @@ sound_after objects rows c s proper = record {
       (λ i. subst (λ x. IsRow objects x r) (sym i) (proper r (sym (written_at rows c.key c.after p i) ∙ e)))
       (λ n. s.rows p r (sym (written_other rows c.key c.after p n) ∙ e));
   joins = s.joins;
+  typed = s.typed;
 }
 
 abbrev pub AreProper : Schema → List RowChange → Type 0
@@ -52,17 +54,9 @@ abbrev pub IsHistoryOf : Database → List Entry → Type 0
 IsHistoryOf db [] = Unit {0}
 IsHistoryOf db (e ∷ es) = (e.number ≡ db.number + 1) × IsEntryOf db e.kept × IsHistoryOf (fold (e ∷ []) db) es
 
-pub fold_push : (es : List Entry) (e : Entry) (db : Database) → fold (es ++ e ∷ []) db ≡ fold (e ∷ []) (fold es db)
-fold_push [] e db = refl
-fold_push (x ∷ es) e db = fold_push es e (fold (x ∷ []) db)
-
 pub history_push : (es : List Entry) (e : Entry) (db : Database) → IsHistoryOf db es → e.number ≡ (fold es db).number + 1 → IsEntryOf (fold es db) e.kept → IsHistoryOf db (es ++ e ∷ [])
 history_push [] e db h n k = (n, k, tt)
 history_push (x ∷ es) e db h n k = (h.0, h.1, history_push es e (fold (x ∷ []) db) h.2 n k)
-
-keep_append : (xs ys : List Kept) (db : Database) → keep_all (xs ++ ys) db ≡ keep_all ys (keep_all xs db)
-keep_append [] ys db = refl
-keep_append (x ∷ xs) ys db = keep_append xs ys (keep x db)
 
 entry_append : (xs ys : List Kept) (db : Database) → IsEntryOf db xs → IsEntryOf (keep_all xs db) ys → IsEntryOf db (xs ++ ys)
 entry_append [] ys db h k = k
@@ -70,7 +64,7 @@ entry_append (sets c ∷ xs) ys db h k = (h.0, entry_append xs ys (keep (sets c)
 entry_append (defines o ∷ xs) ys db h k = (h.0, entry_append xs ys (keep (defines o) db) h.1 k)
 
 -- the changes as an entry keeps them, with the latest last
-entry_next : (c : RowChange) (cs : List RowChange) → map sets (reverse (c ∷ cs)) ≡ map sets (reverse cs) ++ sets c ∷ []
+pub entry_next : (c : RowChange) (cs : List RowChange) → map sets (reverse (c ∷ cs)) ≡ map sets (reverse cs) ++ sets c ∷ []
 entry_next c cs = ap (map sets) (reverse_onto cs c []) ∙ map-append sets (reverse cs) (c ∷ [])
 
 pub keep_changes : (cs : List RowChange) (db : Database) → keep_all (map sets (reverse cs)) db ≡ record db { rows = redo cs db.rows }

@@ -1,5 +1,5 @@
 -- What a session may read by its locks, no step of another session changes; and what it reads is its own.
-use Rattle.std.specs.Prelude.{◌≡◌, ◌≢◌, ℕ, List, [], ◌∷◌, ℤ, pos, ◌+ℤ◌, Option, Some, None}
+use Rattle.std.specs.Prelude.{◌≡◌, ◌≢◌, ℕ, true, List, [], ◌∷◌, ℤ, pos, ◌+ℤ◌, Option, Some, None}
 use mathlib.Core.Path.{refl, sym, ap, subst, ◌∙◌}
 use mathlib.Core.Logic.{inr}
 use Rattle.std.proofs.Common.{arith}
@@ -11,7 +11,7 @@ use Rattle.table_laws.specs.Kept.{redo, AreTrue}
 use Rattle.table_laws.proofs.Stored.{by_session}
 use Rattle.iv_meaning.specs.Schema.{Schema, Object, table, index, view, ViewTree, numbered}
 use Rattle.iv_meaning.specs.Database.{Row, Rows, Database}
-use Rattle.iv_meaning.specs.View.{object_rows, read}
+use Rattle.iv_meaning.specs.View.{lies_in, object_rows, read}
 use Rattle.iv_meaning.specs.Escrow.{IsSession, over_sessions}
 use Rattle.txn_machine.specs.Deltas.{RowChange, rows_after, due, owed}
 use Rattle.txn_machine.specs.Keeping.{KeptStep, Put, Pay, changes_of, IsSettled}
@@ -34,6 +34,7 @@ use Rattle.txn_machine.proofs.Keeps.{pays_none}
 use Rattle.txn_machine.proofs.Reading.{lies, IsTableIndex, first, secondary, read_same}
 use Rattle.txn_machine.proofs.Summing.{sum_law}
 use Rattle.txn_machine.proofs.Looking.{local_law, view_laws}
+use Rattle.txn_machine.proofs.Listing.{view_read}
 
 abbrev pub Fine : Database → Store → Type 0
 Fine = Good the_views fresh view_laws
@@ -117,16 +118,20 @@ reads_framed objects a b locks one other f so ss n interval may rows h = go (num
     go None e h = ap (λ x. object_rows (record { number = b; schema = objects; rows = other }) x interval) e ∙ (sym (ap (λ x. object_rows (record { number = a; schema = objects; rows = one }) x interval) e) ∙ h)
     go (Some (table t)) e h = sym (at_table (first t e)) ∙ h
     go (Some (index i)) e h = sym (at_table (secondary i e)) ∙ h
-    go (Some (view v)) e h = record {
-      view_rows = h.view_rows;
-      agree = λ key l column. h.agree key l column ∙ f.same v.number key (subst (λ m. MayRead locks m key) (sym (view_number objects one n v so e)) (may key (lies key interval l))) column;
-      listed = h.listed;
-    }
+    go (Some (view v)) e h =
+        let agrees : (key : List ℕ) → lies_in key interval ≡ true → (column : ℕ) → stored_number h.view_rows (v.number, key) column ≡ fresh objects other (v.number, key) column =
+        λ key l column. h.agree key l column ∙ f.same v.number key (subst (λ m. MayRead locks m key) (sym (view_number objects one n v so e)) (may key (lies key interval l))) column in
+        record {
+          view_rows = h.view_rows;
+          agree = agrees;
+          listed = h.listed;
+          is_read = view_read (record { number = b; schema = objects; rows = other }) ss n v e interval h.view_rows agrees rows h.listed;
+        }
 
 -- ---- a session's own reading
 
 -- the sum over the sessions where the others have none
-over_one : (f : ℕ → ℤ) (i : ℕ) → IsSession i → ((j : ℕ) → IsSession j → j ≢ i → f j ≡ pos 0) → over_sessions f ≡ f i
+pub over_one : (f : ℕ → ℤ) (i : ℕ) → IsSession i → ((j : ℕ) → IsSession j → j ≢ i → f j ≡ pos 0) → over_sessions f ≡ f i
 over_one f i is none =
     let zero_ : ℕ → ℤ = λ j. pos 0 in
     let same : over_sessions f ≡ over_sessions (λ j. with_one zero_ i (f i) j) = over_same f (λ j. with_one zero_ i (f i) j) (λ j js. by_session j i
@@ -174,8 +179,12 @@ module _ (base : Database) (s : Store) (good : Fine base s) (i : ℕ) (is : IsSe
       go None e h = ap (λ x. object_rows (record { number = b; schema = base.schema; rows = own }) x interval) e ∙ (sym (ap (λ x. object_rows (record { number = a; schema = base.schema; rows = s.rows }) x interval) e) ∙ h)
       go (Some (table t)) e h = sym (at_table (first t e)) ∙ h
       go (Some (index x)) e h = sym (at_table (secondary x e)) ∙ h
-      go (Some (view v)) e h = record {
-        view_rows = s.view;
-        agree = λ key l column. own_number v.number key (subst (λ m. MayRead (locks_of s i) m key) (sym (view_number base.schema s.rows n v so e)) (may key (lies key interval l))) column;
-        listed = h;
-      }
+      go (Some (view v)) e h =
+          let agrees : (key : List ℕ) → lies_in key interval ≡ true → (column : ℕ) → stored_number s.view (v.number, key) column ≡ fresh base.schema own (v.number, key) column =
+          λ key l column. own_number v.number key (subst (λ m. MayRead (locks_of s i) m key) (sym (view_number base.schema s.rows n v so e)) (may key (lies key interval l))) column in
+          record {
+            view_rows = s.view;
+            agree = agrees;
+            listed = h;
+            is_read = view_read (record { number = b; schema = base.schema; rows = own }) ss n v e interval s.view agrees rows h;
+          }

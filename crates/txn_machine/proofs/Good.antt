@@ -146,6 +146,7 @@ module _ (views : Views) (value : Schema → Rows → Place → ℕ → ℤ) (la
           (λ j is t. (own_sound j is).rows p r (sym (good.stored.own j p is t) ∙ e))
           (λ none. good.sound.rows p r (sym (good.stored.others p none) ∙ e));
       joins = good.sound.joins;
+      typed = good.sound.typed;
     }
 
     -- another session's changes touch no point that this session may read

@@ -68,7 +68,7 @@ exchanged_none xs ys e = ap (exchanged xs) (sym e) ∙ ap (λ b. cond b [] (map 
 
 -- ---- places of a table
 
-all_of_list : {X : Type 0} (P : X → Type 0) (xs : List X) → ((x : X) → Contains xs x → P x) → AllByRecursion P xs
+pub all_of_list : {X : Type 0} (P : X → Type 0) (xs : List X) → ((x : X) → Contains xs x → P x) → AllByRecursion P xs
 all_of_list P [] h = tt
 all_of_list P (x ∷ xs) h = (h x (contains_here x xs), all_of_list P xs (λ y c. h y (contains_next x xs y c)))
 
@@ -199,7 +199,7 @@ key_split (k ∷ ks) js (v ∷ vs) ws f =
     ap (λ l. key_value_bytes k v ++ l) (key_split ks js vs ws f.1) ∙ sym (append_assoc (key_value_bytes k v) (key_bytes ks vs) (key_bytes js ws))
 
 -- the values at places of a row that fits
-fits_at : (ks : List Kind) (vs : List Value) (p : ℕ) → FitAll ks vs → p < length ks → (k : Kind) × (v : Value) × (slice_get ks p ≡ Some k) × (slice_get vs p ≡ Some v) × Fits k v
+pub fits_at : (ks : List Kind) (vs : List Value) (p : ℕ) → FitAll ks vs → p < length ks → (k : Kind) × (v : Value) × (slice_get ks p ≡ Some k) × (slice_get vs p ≡ Some v) × Fits k v
 fits_at [] vs p f l = absurd (omega (arith, l))
 fits_at (k ∷ ks) [] p f l = absurd f
 fits_at (k ∷ ks) (v ∷ vs) zero f l = (k, v, refl, refl, f.0)

@@ -57,6 +57,7 @@ ArePlain n es = AllByRecursion (λ (e : Entry). nat_le e.number n ≡ false → 
 
 pub record SnapOk (mark : ℕ) (origin : Database) (history : List Entry) (number : ℕ) : Type 0 where
   pub marked : mark ≤ number
+  pub since : origin.number ≤ number
   pub below : number ≤ (fold history origin).number
   pub plain : ArePlain number history
 
@@ -159,7 +160,7 @@ pub mark_effect : (s : Store) (i : ℕ) (e : Effect) → Good' s → Can' s i e 
 mark_effect s i (Opens mode) g can m = record {
   marked = m.marked;
   each = λ j js. after_all s.open_of i (Some (begun mode (committed s).number)) (Ok s.mark s.origin s.history) j
-      (λ x. record { marked = m.marked; below = omega arith; plain = all_plain (committed s).number s.history (numbers_rise s.history s.origin g.history).1 })
+      (λ x. record { marked = m.marked; since = (numbers_rise s.history s.origin g.history).0; below = omega arith; plain = all_plain (committed s).number s.history (numbers_rise s.history s.origin g.history).1 })
       (λ n. m.each j js);
 }
 mark_effect s i (Takes wants) g can m = record { marked = m.marked; each = set_ok s i (record (now s i) { locks = wants ++ (now s i).locks }) m can.0 refl refl }
@@ -181,6 +182,7 @@ mark_effect s i Commits g can m =
       each = λ j js. after_all s.open_of i None (Ok s.mark s.origin (s.history ++ e ∷ [])) j (λ x. absurd (cc))
           (λ n x. let was = m.each j js x in record {
             marked = was.marked;
+            since = was.since;
             below = (let b = was.below in omega (arith, made, b));
             plain = plain_push (the_open (s.open_of j)).number s.history e was.plain (sets_only (reverse (changes_of (now s i).kept)));
           });
@@ -197,7 +199,7 @@ mark_effect s i (Defines o) g can m =
 mark_effect s i (Cleans p) g can m = record { marked = m.marked; each = m.each }
 mark_effect s i Prunes g can m = record {
   marked = least_below s.open_of 64 (committed s).number;
-  each = λ j js x. let was = m.each j js x in record { marked = least_own s.open_of 64 (committed s).number j js.0 js.1 x; below = was.below; plain = was.plain };
+  each = λ j js x. let was = m.each j js x in record { marked = least_own s.open_of 64 (committed s).number j js.0 js.1 x; since = was.since; below = was.below; plain = was.plain };
 }
 
 mark_run : (s : Store) (i : ℕ) (es : List Effect) → Good' s → CanAll the_views fresh view_laws s i es → MarkGood s → MarkGood (run the_views s i es)
@@ -215,11 +217,11 @@ mark_steps : (s : State) (ds : List Did) (after : State) → Good' s.store → M
 mark_steps s [] after g m r = subst (λ (z : State). MarkGood z.store) (sym r) m
 mark_steps s (d ∷ ds) after g m r = mark_steps r.0 ds after (step_good view_laws may_define s d.session d.act d.said r.0 g r.1) (mark_step s d r.0 g m r.1) r.2
 
-mark_reached : (s : State) → IsReached s → MarkGood s.store
+pub mark_reached : (s : State) → IsReached s → MarkGood s.store
 mark_reached s r = mark_steps _ r.steps s (opened_good the_views fresh view_laws r.db r.view r.was_opened.sound r.was_opened.rows r.was_opened.in_range)
     (record { marked = omega arith; each = λ j js x. absurd (cc) }) r.run
 
-snap_of : (s : State) → IsReached s → (i : ℕ) → (o : IsOpen s.store i) → o.transaction.mode ≡ Snapshot → SnapOk s.store.mark s.store.origin s.store.history o.transaction.number
+pub snap_of : (s : State) → IsReached s → (i : ℕ) → (o : IsOpen s.store i) → o.transaction.mode ≡ Snapshot → SnapOk s.store.mark s.store.origin s.store.history o.transaction.number
 snap_of s r i o m = subst (λ (x : Option Open). Ok s.store.mark s.store.origin s.store.history x) o.is_open ((mark_reached s r).each i o.of_session) m
 
 pub mark_law : MarkLaw
@@ -238,16 +240,16 @@ later_number (sets c ∷ ks) db p column h =
     omega (arith, ints)
 
 -- entries above the number
-abbrev AreAbove : ℕ → List Entry → Type 0
+abbrev pub AreAbove : ℕ → List Entry → Type 0
 AreAbove n es = AllByRecursion (λ (e : Entry). nat_le e.number n ≡ false) es
 
-rest_above : (n : ℕ) (es : List Entry) (db : Database) → suc n ≤ db.number → IsHistoryOf db es → AreAbove n es
+pub rest_above : (n : ℕ) (es : List Entry) (db : Database) → suc n ≤ db.number → IsHistoryOf db es → AreAbove n es
 rest_above n [] db l h = tt
 rest_above n (e ∷ es) db l h =
     let one : e.number ≡ db.number + 1 = h.0 in
     (above e.number n (omega (arith, l, one)), rest_above n es (fold (e ∷ []) db) (omega (arith, l, one)) h.2)
 
-none_kept : (n : ℕ) (es : List Entry) → AreAbove n es → filter (λ (e : Entry). nat_le e.number n) es ≡ []
+pub none_kept : (n : ℕ) (es : List Entry) → AreAbove n es → filter (λ (e : Entry). nat_le e.number n) es ≡ []
 none_kept n [] h = refl
 none_kept n (e ∷ es) h = ap (λ b. cond b (e ∷ filter (λ (x : Entry). nat_le x.number n) es) (filter (λ (x : Entry). nat_le x.number n) es)) h.0 ∙ none_kept n es h.1
 

@@ -59,11 +59,11 @@ pub record Changed (s t : Store) (locks : List Want) : Type 0 where
 unchanged : (s t : Store) (locks : List Want) → Good' s → committed t ≡ committed s → Changed s t locks
 unchanged s t locks g e = record { number = (committed s).number; rows = (committed s).rows; is = e; framed = framed_itself (schema_of s) locks (committed s).rows; sound = g.sound }
 
-same_pays : (s : Store) (i : ℕ) (ds : List GroupDelta) → committed (paid_first s i (now s i) ds) ≡ committed s
+pub same_pays : (s : Store) (i : ℕ) (ds : List GroupDelta) → committed (paid_first s i (now s i) ds) ≡ committed s
 same_pays s i [] = refl
 same_pays s i (d ∷ ds) = refl
 
-same_undoes : (s : Store) (i : ℕ) (ks : List KeptStep) → committed (undone s i (now s i) ks) ≡ committed s
+pub same_undoes : (s : Store) (i : ℕ) (ks : List KeptStep) → committed (undone s i (now s i) ks) ≡ committed s
 same_undoes s i [] = refl
 same_undoes s i (Put c ds ∷ ks) = refl
 same_undoes s i (Pay d ∷ ks) = refl

@@ -100,7 +100,7 @@ chosen_next x true f o ys kept h e = chosen_more x o ys kept h e
 chosen_next x false true o ys kept h e = h ys e
 chosen_next x false false o ys kept h e = absurd (none-some ys e)
 
-chosen_is : {X : Type 0} (test : X → Outcome) (xs ys : List X) → chosen test xs ≡ Some ys → ys ≡ filter (λ x. is_true (test x)) xs
+pub chosen_is : {X : Type 0} (test : X → Outcome) (xs ys : List X) → chosen test xs ≡ Some ys → ys ≡ filter (λ x. is_true (test x)) xs
 chosen_is test [] ys e = same_Some ys [] (sym e)
 chosen_is test (x ∷ xs) ys e = chosen_next x (is_true (test x)) (is_false (test x)) (chosen test xs) ys (filter (λ x. is_true (test x)) xs) (λ zs h. chosen_is test xs zs h) e
 
@@ -120,7 +120,7 @@ among_has g (x ∷ hs) = elim (row_cmp g x) as (λ o. row_cmp g x ≡ o → Cont
   | Greater ↦ λ e. contains_next x (among g hs) g (among_has g hs)
 ] refl
 
-group_there : {X : Type 0} (group : X → List Value) (xs : List X) (x : X) → Contains xs x → Contains (groups_of group xs) (group x)
+pub group_there : {X : Type 0} (group : X → List Value) (xs : List X) (x : X) → Contains xs x → Contains (groups_of group xs) (group x)
 group_there group [] x c = absurd (contains_none x c)
 group_there group (y ∷ xs) x c = by_contains y xs x c
     (λ e. subst (λ z. Contains (among (group y) (groups_of group xs)) (group z)) e (among_has (group y) (groups_of group xs)))
@@ -145,7 +145,7 @@ group_in_range v ms row column e = go column
     go (suc i) = sums_in_range ms v.sums i tail.1
 
 -- of a view without a group column nothing is listed where there is a combination
-not_listed : (sums : List ColumnAt) (c : Combination) (cs : List Combination) (rows : List Row) → all_of (map (row_by item_alone (count ∷ map sum sums)) (c ∷ cs)) ≡ Some rows → ⊥
+pub not_listed : (sums : List ColumnAt) (c : Combination) (cs : List Combination) (rows : List Row) → all_of (map (row_by item_alone (count ∷ map sum sums)) (c ∷ cs)) ≡ Some rows → ⊥
 not_listed sums c cs rows e =
     let p = all_of_cons (row_by item_alone (count ∷ map sum sums) c) (map (row_by item_alone (count ∷ map sum sums)) cs) rows e in
     let q = all_of_cons (value_of refused) (map (λ i. value_of (item_alone c i)) (map sum sums)) p.0.0 p.0.1 in

@@ -1,5 +1,7 @@
 -- What holds in every state that steps lead to.
 use Rattle.std.specs.Prelude.{◌≡◌, ℕ, cond, true, List, [], ◌∷◌, ◌++◌, pos, ◌+ℤ◌, Option, Some, None, is_some}
+use Rattle.std.specs.List.{AllByRecursion}
+use Rattle.std.proofs.lemmas.List.Elements.{recursion_from_All}
 use mathlib.Core.Path.{refl, sym, ap, ◌∙◌}
 use mathlib.Core.Logic.{inl, inr}
 use Rattle.std.proofs.Common.{arith}
@@ -7,11 +9,11 @@ use Rattle.std.proofs.lemmas.Int.{ints}
 use Rattle.iv_types.specs.Encoding.{IsHuge}
 use Rattle.iv_types.specs.declared.refusal.Refusal.TheVariants.{NumberRange}
 use Rattle.table_laws.specs.Place.{Place}
-use Rattle.table_laws.specs.Kept.{redo}
+use Rattle.table_laws.specs.Kept.{redo, redo_all}
 use Rattle.table_laws.proofs.Kept.{stored_back}
 use Rattle.table_laws.proofs.Place.{place_cmp_total, place_cmp-IsAntisymmetric}
 use Rattle.iv_meaning.specs.Schema.{Object, table, index, view, ViewTree}
-use Rattle.iv_meaning.specs.Database.{Row, Database}
+use Rattle.iv_meaning.specs.Database.{Row, Rows, Database}
 use Rattle.iv_meaning.specs.View.{view_rows}
 use Rattle.iv_meaning.specs.Statement.{Kept, defines, Refused, Accepted, create_meaning}
 use Rattle.iv_meaning.specs.Escrow.{IsSession, over_sessions, paid, lo}
@@ -24,9 +26,10 @@ use Rattle.txn_machine.specs.Ghosts.{the_views}
 use Rattle.txn_machine.specs.Steps.{NoneIsOpen}
 use Rattle.txn_machine.specs.State.{State}
 use Rattle.txn_machine.specs.ViewLaws.{AreSound}
-use Rattle.txn_machine.specs.Laws.{IsReached, CommittedLaw, StoredLaw, ShareLaw, BoundsLaw, LocksLaw, AbsentLaw}
+use Rattle.txn_machine.specs.Laws.{IsReached, CommittedLaw, SoundLaw, StoredLaw, ShareLaw, BoundsLaw, LocksLaw, AbsentLaw}
 use Rattle.txn_machine.proofs.Columns.{is_for_other, number_in_row, paid_in, owes_in, settled_sum}
 use Rattle.txn_machine.proofs.Bounds.{over_zero}
+use Rattle.txn_machine.proofs.Entered.{sound_redo}
 use Rattle.txn_machine.proofs.Good.{the_open, PaysOn, value-redo, base_sound, all_lo}
 use Rattle.txn_machine.proofs.Keeps.{shift}
 use Rattle.txn_machine.proofs.Runs.{IsGood, opened_good}
@@ -86,6 +89,13 @@ reached s r = run_good view_laws may_define _ r.steps s (opened_good the_views f
 
 pub committed_law : CommittedLaw
 committed_law s r sessions are = stored_back place_cmp_total place_cmp-IsAntisymmetric 64 (changes_by s.store) sessions (committed s.store).rows s.store.rows (reached s r).stored are
+
+sound_all : (s : Store) → Holds' s → (chosen : List ℕ) → AllByRecursion IsSession chosen → (rows : Rows) → AreSound (schema_of s) rows → AreSound (schema_of s) (redo_all (changes_by s) chosen rows)
+sound_all s g [] is rows sound = sound
+sound_all s g (i ∷ chosen) is rows sound = sound_all s g chosen is.1 (redo (changes_by s i) rows) (sound_redo (schema_of s) rows (changes_by s i) sound (g.each i is.0).proper)
+
+pub sound_law : SoundLaw
+sound_law s r chosen is = sound_all s.store (reached s r) chosen (recursion_from_All IsSession chosen is) (committed s.store).rows (reached s r).sound
 
 pub stored_law : StoredLaw
 stored_law s r p column = (reached s r).view p column

@@ -140,7 +140,7 @@ table_fits objects rows sound n t = rows_fit (kinds_of_table (numbered objects n
     let row : IsRow objects k r = sound.rows k r e in
     subst (λ ks. FitAll ks r) (sym (ap kinds_of_table (sym (ap (numbered objects) g) ∙ row.table_is))) row.fits))
 
-fitted_value : (kinds : List (List Kind)) (rows : Combination) (source place : ℕ) (kind : Kind) → FitRows kinds rows
+pub fitted_value : (kinds : List (List Kind)) (rows : Combination) (source place : ℕ) (kind : Kind) → FitRows kinds rows
     → option_and_then (λ ks. slice_get ks place) (slice_get kinds source) ≡ Some kind
     → (x : Value) × (option_and_then (λ row. slice_get row place) (slice_get rows source) ≡ Some x) × Fits kind x
 fitted_value [] rows source place kind f e = absurd (cc)
@@ -154,7 +154,7 @@ fitted_value (ks ∷ kinds) (row ∷ rows) zero place kind f e = in_row ks row p
     in_row (k ∷ ks) (v ∷ row) (suc place) kind f e = in_row ks row place kind f.1 e
 fitted_value (ks ∷ kinds) (row ∷ rows) (suc source) place kind f e = fitted_value kinds rows source place kind f.1 e
 
-kind_at_is : (kinds : List (List Kind)) (place : ColumnAt) → kind_at kinds place ≡ option_and_then (λ ks. slice_get ks place.column) (slice_get kinds place.source)
+pub kind_at_is : (kinds : List (List Kind)) (place : ColumnAt) → kind_at kinds place ≡ option_and_then (λ ks. slice_get ks place.column) (slice_get kinds place.source)
 kind_at_is kinds place = go (slice_get kinds place.source)
   where
     go : (o : Option (List Kind)) → elim o [ None ↦ None | Some ks ↦ slice_get ks place.column ] ≡ option_and_then (λ ks. slice_get ks place.column) o
@@ -174,19 +174,24 @@ values_fit kinds rows (place ∷ group) f h =
 abbrev pub counted_combinations : Schema → Rows → ViewTree → List Combination
 counted_combinations objects rows v = filter (is_counted objects v) (combinations (map (rows_of rows) (sources_of v)))
 
-pub groups_fit : (objects : Schema) (rows : Rows) → AreSound objects rows → (n : ℕ) (v : ViewTree) → numbered objects n ≡ Some (view v) → AllByRecursion (λ c. FitAll (group_kinds objects v) (values_at v.group c)) (counted_combinations objects rows v)
-groups_fit objects rows sound n v e =
-    let is = (sound.objects n (view v) e).1 in
-    let kinds : List (List Kind) = map (λ m. kinds_of_table (numbered objects m)) (sources_of v) in
-    let fit : AllByRecursion (FitRows kinds) (combinations (map (rows_of rows) (sources_of v))) =
-    combinations_fit (λ m. kinds_of_table (numbered objects m)) (rows_of rows) (sources_of v) (each_same (sources_of v) (recursion_from_All (IsTable objects) (sources_of v) is.tables)) in
-    each_filter (λ c. FitAll (group_kinds objects v) (values_at v.group c)) (is_counted objects v) (combinations (map (rows_of rows) (sources_of v)))
-    (each_all kinds (combinations (map (rows_of rows) (sources_of v))) fit (recursion_from_All (λ place. (kind : Kind) × (kind_at kinds place ≡ Some kind)) v.group is.group))
+-- the kinds of the rows that a view reads
+abbrev pub source_kinds : Schema → ViewTree → List (List Kind)
+source_kinds objects v = map (λ m. kinds_of_table (numbered objects m)) (sources_of v)
+
+pub all_fit : (objects : Schema) (rows : Rows) → AreSound objects rows → (n : ℕ) (v : ViewTree) → numbered objects n ≡ Some (view v) → AllByRecursion (FitRows (source_kinds objects v)) (combinations (map (rows_of rows) (sources_of v)))
+all_fit objects rows sound n v e =
+    combinations_fit (λ m. kinds_of_table (numbered objects m)) (rows_of rows) (sources_of v) (each_same (sources_of v) (recursion_from_All (IsTable objects) (sources_of v) (sound.objects n (view v) e).1.tables))
   where
     each_same : (ns : List ℕ) → AllByRecursion (IsTable objects) ns → AllByRecursion (λ m. AllByRecursion (FitAll (kinds_of_table (numbered objects m))) (rows_of rows m)) ns
     each_same [] h = tt
     each_same (m ∷ ns) h = (table_fits objects rows sound m h.0, each_same ns h.1)
 
+pub groups_fit : (objects : Schema) (rows : Rows) → AreSound objects rows → (n : ℕ) (v : ViewTree) → numbered objects n ≡ Some (view v) → AllByRecursion (λ c. FitAll (group_kinds objects v) (values_at v.group c)) (counted_combinations objects rows v)
+groups_fit objects rows sound n v e =
+    let kinds : List (List Kind) = source_kinds objects v in
+    each_filter (λ c. FitAll (group_kinds objects v) (values_at v.group c)) (is_counted objects v) (combinations (map (rows_of rows) (sources_of v)))
+    (each_all kinds (combinations (map (rows_of rows) (sources_of v))) (all_fit objects rows sound n v e) (recursion_from_All (λ place. (kind : Kind) × (kind_at kinds place ≡ Some kind)) v.group (sound.objects n (view v) e).1.group))
+  where
     each_all : (kinds : List (List Kind)) (cs : List Combination) → AllByRecursion (FitRows kinds) cs → AllByRecursion (λ place. (kind : Kind) × (kind_at kinds place ≡ Some kind)) v.group → AllByRecursion (λ c. FitAll (filter_map (kind_at kinds) v.group) (values_at v.group c)) cs
     each_all kinds [] h k = tt
     each_all kinds (c ∷ cs) h k = (values_fit kinds c v.group h.0 k, each_all kinds cs h.1 k)

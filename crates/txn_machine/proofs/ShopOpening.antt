@@ -14,14 +14,14 @@ use Rattle.iv_meaning.specs.Schema.{Object, table, view, ViewTree, numbered}
 use Rattle.iv_meaning.specs.Database.{Row}
 use Rattle.iv_meaning.specs.Query.{combinations}
 use Rattle.iv_meaning.specs.Sound.{IsObject, IsTable}
+use Rattle.iv_meaning.proofs.SaleLemmas.{no_entries}
 use Rattle.query_laws.proofs.GroupRows.{some_same, IsKnown}
 use Rattle.txn_machine.specs.Deltas.{contribution, is_counted, due}
 use Rattle.txn_machine.specs.Fresh.{fresh}
-use Rattle.txn_machine.specs.ViewLaws.{IsJoined}
+use Rattle.txn_machine.specs.ViewLaws.{IsJoined, IsTyped}
 use Rattle.txn_machine.specs.Example.{sale, by_shop, shop_database, ShopOpened}
 use Rattle.txn_machine.proofs.Columns.{number_in_row}
 use Rattle.txn_machine.proofs.Ranging.{huge_zero}
-use Rattle.txn_machine.proofs.Inserting.{no_entries}
 
 -- a view of no rows has zeros
 all_zero : (place : Place) (column : ℕ) → fresh shop_database.schema empty place column ≡ pos 0
@@ -54,12 +54,22 @@ joins_are (suc zero) v e = absurd (cc)
 joins_are (suc (suc zero)) v e = subst (IsJoined shop_database.schema) (same_view by_shop v (some_same (view by_shop) (view v) e)) tt
 joins_are (suc (suc (suc n))) v e = absurd (none-some (view v) e)
 
+by_shop_typed : IsTyped shop_database.schema by_shop
+by_shop_typed = record { grouped = λ e. absurd (cc); condition = λ c e. absurd (cc) }
+
+typed_are : (n : ℕ) (v : ViewTree) → numbered shop_database.schema n ≡ Some (view v) → IsTyped shop_database.schema v
+typed_are zero v e = absurd (none-some (view v) e)
+typed_are (suc zero) v e = absurd (cc)
+typed_are (suc (suc zero)) v e = subst (IsTyped shop_database.schema) (same_view by_shop v (some_same (view by_shop) (view v) e)) by_shop_typed
+typed_are (suc (suc (suc n))) v e = absurd (none-some (view v) e)
+
 pub shop_opened : ShopOpened
 shop_opened = record {
   sound = record {
     objects = objects_are;
     rows = λ place row e. absurd (none-some row (sym (get-empty place_cmp place) ∙ e));
     joins = joins_are;
+    typed = typed_are;
   };
   rows = λ place column. ap (number_in_row column) (get-empty place_cmp place) ∙ sym (all_zero place column);
   in_range = λ place column. subst IsHuge (sym (all_zero place column)) huge_zero;

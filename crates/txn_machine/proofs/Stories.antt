@@ -32,7 +32,7 @@ use Rattle.txn_machine.specs.State.{State}
 use Rattle.txn_machine.specs.May.{IsReady, MayLock, MayAct}
 use Rattle.txn_machine.specs.Steps.{asked, IsFree, Finds, note_of, CommitsAs, Says, Step, Did}
 use Rattle.txn_machine.specs.Alone.{Told, Found, WasThere, TookBack, told_after, Story, story_after, Tells, Reads, with_changes, IsTrueIn, IsReadIn, Program, Fetch, Change, Undo, Next, Goes, without_latest}
-use Rattle.txn_machine.specs.Laws.{IsReachedStory, FetchLaw, RepliesLaw, SnapshotRepliesLaw}
+use Rattle.txn_machine.specs.Laws.{IsReached, IsReachedStory, RepliesLaw, SnapshotRepliesLaw}
 use Rattle.txn_machine.proofs.Basics.{one_same, one_other, holds_new}
 use Rattle.txn_machine.proofs.Good.{the_open}
 use Rattle.txn_machine.proofs.Runs.{CanAll, keeps, opened_good}
@@ -268,8 +268,9 @@ snapshot_replies_law story r i o m p q cs led =
     let note : NoteFor story.state.store.origin story.state.store.history o.transaction (story.told i) = subst (λ (x : Option Open). NoteOf story.state.store.origin story.state.store.history x (story.told i)) o.is_open (g.noted i o.of_session) in
     goes_so (IsReadIn (state_at story.state.store.origin story.state.store.history o.transaction.number)) p (story.told i) q cs (note.snapshot m).notes led
 
-pub fetch_law : FetchLaw
-fetch_law s r i number interval mode rows after step = elim step.does [
+pub fetched : (s : State) → IsReached s → (i number : ℕ) (interval : Interval) (mode : LockMode) (rows : List Row) (after : State) → Step s i (act.Fetch number interval mode) (answer.Rows rows) after
+    → Reads (with_changes (changes_by s.store i) (committed s.store)) number interval rows
+fetched s r i number interval mode rows after step = elim step.does [
   | inl x ↦
       let g = reached s r in
       let may : MayAct s.store i (act.Fetch number interval mode) = elim step.may.1 [ inl stopped ↦ absurd (some_not_none s.stop stopped x.runs) | inr m ↦ m ] in

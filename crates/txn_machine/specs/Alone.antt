@@ -6,7 +6,7 @@ use Rattle.table_laws.specs.Place.{Place}
 use Rattle.table_laws.specs.Kept.{redo}
 use Rattle.iv_meaning.specs.Schema.{Object, view, ViewTree, numbered}
 use Rattle.iv_meaning.specs.Database.{Row, Database}
-use Rattle.iv_meaning.specs.View.{read, lies_in}
+use Rattle.iv_meaning.specs.View.{object_rows, read, lies_in}
 use Rattle.txn_machine.specs.Acts as act
 use Rattle.txn_machine.specs.Acts.{Act}
 use Rattle.txn_machine.specs.Answers as answer
@@ -62,11 +62,13 @@ story_after story d after = record {
 abbrev pub with_changes : List RowChange → Database → Database
 with_changes changes db = record db { rows = redo changes db.rows }
 
--- the rows are those that a view's groups have when it is evaluated afresh
+-- the rows are those that a view's groups have when it is evaluated afresh, and so what is read of its meaning, if that is not
+-- refused
 pub record AreFresh (db : Database) (v : ViewTree) (interval : Interval) (rows : List Row) : Type 0 where
   pub view_rows : ViewRows
   pub agree : (key : List ℕ) → lies_in key interval ≡ true → (column : ℕ) → stored_number view_rows (v.number, key) column ≡ fresh db.schema db.rows (v.number, key) column
   pub listed : Lists db.schema v interval view_rows rows
+  pub is_read : (found : List Row) → object_rows db (Some (view v)) interval ≡ Some found → found ≡ rows
 
 abbrev pub ReadsFrom : Database → Option Object → ℕ → Interval → List Row → Type 0
 ReadsFrom db (Some (view v)) number interval rows = AreFresh db v interval rows

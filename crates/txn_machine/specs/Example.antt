@@ -1,51 +1,27 @@
--- Runs that the step relation allows: an insert that makes a new group of a view, and two open inserts into one group.
-use Rattle.std.specs.Prelude.{ℕ, ℤ, pos, List, [], ◌∷◌, codes, Some, None}
+-- Runs that the step relation allows, and answers that it refuses, of a shop's sales and a view of them.
+use Rattle.std.specs.Prelude.{ℕ, zero, suc, ◌-◌, ◌^◌, ℤ, pos, List, [], ◌∷◌, replicate, Some, None}
 use Rattle.std.specs.FinMap.{empty}
-use Rattle.iv_types.specs.declared.statement.Mode.TheVariants.{Serial}
+use Rattle.iv_types.specs.declared.statement.Mode.TheVariants.{Serial, Snapshot}
 use Rattle.iv_types.specs.declared.lock.LockMode.TheVariants.{Share, Exclusive}
 use Rattle.iv_types.specs.declared.lock.GroupDelta.{GroupDelta}
-use Rattle.iv_types.specs.declared.value.Kind.TheVariants.{Int, Huge}
+use Rattle.iv_types.specs.declared.session.Cycle.{Cycle}
 use Rattle.iv_types.specs.declared.value.Value.TheVariants.{Number}
-use Rattle.iv_types.specs.declared.catalog.TableDef.{TableDef}
 use Rattle.iv_types.specs.declared.value.Interval.{Interval}
+use Rattle.iv_types.specs.Encoding.{key_bytes}
 use Rattle.iv_types.specs.Intervals.{point}
-use Rattle.iv_meaning.specs.Schema.{table, view, ViewTree}
-use Rattle.iv_meaning.specs.Database.{Row, Database, key_of}
+use Rattle.iv_meaning.specs.Schema.{group_kinds}
+use Rattle.iv_meaning.specs.Database.{Row, key_of}
+pub use Rattle.iv_meaning.specs.SerialExample.{sale, by_shop, shop_database}
 use Rattle.iv_types.specs.declared.refusal.EngineRefusal.TheVariants as refusal
 use Rattle.txn_machine.specs.Acts as act
 use Rattle.txn_machine.specs.Acts.{Act}
 use Rattle.txn_machine.specs.Answers as answer
 use Rattle.txn_machine.specs.Answers.{Answer}
-use Rattle.txn_machine.specs.Deltas.{contribution}
+use Rattle.txn_machine.specs.Deltas.{contribution, negated}
 use Rattle.txn_machine.specs.Store.{opened}
 use Rattle.txn_machine.specs.State.{State, opened_state}
 use Rattle.txn_machine.specs.Steps.{Did, Run, Step}
 use Rattle.txn_machine.specs.Laws.{IsOpened}
-
--- CREATE TABLE sale (id INT, shop INT, amount HUGE, PRIMARY KEY (id))
-abbrev pub sale : TableDef
-sale = record {
-  number = 1;
-  name = codes "sale";
-  columns = record { name = codes "id"; kind = Int } ∷ record { name = codes "shop"; kind = Int } ∷ record { name = codes "amount"; kind = Huge } ∷ [];
-  primary = 0 ∷ [];
-}
-
--- SELECT shop, COUNT(*) AS n, SUM(amount) AS total FROM sale GROUP BY shop
-abbrev pub by_shop : ViewTree
-by_shop = record {
-  number = 2;
-  name = codes "by_shop";
-  names = codes "shop" ∷ codes "n" ∷ codes "total" ∷ [];
-  first = 1;
-  second = None;
-  condition = None;
-  group = record { source = 0; column = 1 } ∷ [];
-  sums = record { source = 0; column = 2 } ∷ [];
-}
-
-abbrev pub shop_database : Database
-shop_database = record { number = 2; schema = table sale ∷ view by_shop ∷ []; rows = empty }
 
 -- it is one to begin from
 abbrev pub ShopOpened : Type 0
@@ -139,6 +115,130 @@ one_undoes more = both_insert (did 1 act.UndoOne (answer.Undone 1) ∷ did 1 act
 -- and the other's sale stays
 abbrev pub OneRollsBack : Type 0
 OneRollsBack = (after : State) × Run (opened_state (opened shop_database empty)) (one_undoes (shows 3 (pos 1) (pos 5))) after
+
+-- ---- longer runs, by what sessions do in them
+
+abbrev pub MayRun : List Did → Type 0
+MayRun steps = (after : State) × Run (opened_state (opened shop_database empty)) steps after
+
+-- a sale by its number, its shop and its amount
+abbrev pub sale_row : ℕ → ℕ → ℕ → Row
+sale_row id shop amount = Number (pos id) ∷ Number (pos shop) ∷ Number (pos amount) ∷ []
+
+-- what it adds to the group of its shop
+abbrev pub delta_of : Row → GroupDelta
+delta_of row = contribution shop_database.schema by_shop (row ∷ [])
+
+-- a row of the view: a shop, its count and its sum
+abbrev pub shop_row : ℕ → ℕ → ℕ → Row
+shop_row shop count total = Number (pos shop) ∷ Number (pos count) ∷ Number (pos total) ∷ []
+
+-- the key of a shop in the view
+abbrev pub shop_point : ℕ → Interval
+shop_point shop = point (key_bytes (group_kinds shop_database.schema by_shop) (Number (pos shop) ∷ []))
+
+-- a session begins at this number
+abbrev pub starts : ℕ → ℕ → List Did → List Did
+starts session number more = did session (act.Begin Serial) (answer.Begun number 2) ∷ more
+
+abbrev pub commits : ℕ → ℕ → List Did → List Did
+commits session number more = did session act.Commit (answer.Committed number) ∷ more
+
+-- it puts a sale that was not there
+abbrev pub puts : ℕ → Row → List Did → List Did
+puts session row more =
+    did session (act.Fetch 1 (point (key_of sale row)) Exclusive) (answer.Rows [])
+    ∷ did session (act.Put 1 (key_of sale row) (Some row)) (answer.Changed None (delta_of row ∷ []))
+    ∷ more
+
+-- and pays, to a row of the view that is stored
+abbrev pub inserts : ℕ → Row → List Did → List Did
+inserts session row more = puts session row (did session act.Pay (answer.Paid 0) ∷ more)
+
+-- or to one that it makes
+abbrev pub inserts_first : ℕ → Row → List Did → List Did
+inserts_first session row more = puts session row (did session act.Pay answer.NeedsGhost ∷ did session act.Ghost answer.Ghosted ∷ did session act.Pay (answer.Paid 0) ∷ more)
+
+-- it deletes a sale, and pays what that owes
+abbrev pub deletes : ℕ → Row → List Did → List Did
+deletes session row more =
+    did session (act.Fetch 1 (point (key_of sale row)) Exclusive) (answer.Rows (row ∷ []))
+    ∷ did session (act.Put 1 (key_of sale row) None) (answer.Changed (Some row) (negated (delta_of row) ∷ []))
+    ∷ did session act.Pay (answer.Paid 0)
+    ∷ more
+
+-- it reads these rows of the view
+abbrev pub reads : ℕ → Interval → List Row → List Did → List Did
+reads session interval rows more = did session (act.Fetch 2 interval Share) (answer.Rows rows) ∷ more
+
+-- it takes back all of so many kept steps, and ends
+abbrev pub takes_back : ℕ → ℕ → List Did → List Did
+takes_back session zero more = did session act.End answer.Ended ∷ more
+takes_back session (suc n) more = did session act.UndoOne (answer.Undone n) ∷ takes_back session n more
+
+-- ---- a deleted row comes back
+
+-- The only sale of a shop is deleted. Its group is not cleaned before that is committed, and it is read again once it is taken
+-- back.
+abbrev pub DeletedComesBack : Type 0
+DeletedComesBack = MayRun (starts 1 2 (inserts_first 1 one_sale (commits 1 3 (
+    starts 1 3 (deletes 1 one_sale (did 0 act.Clean (answer.Cleaned 0) ∷ reads 1 all_keys [] (takes_back 1 2 (
+    starts 2 3 (reads 2 all_keys (shop_row 7 1 10 ∷ []) (commits 2 3 []))))))))))
+
+-- ---- bounds cover what undo passes through
+
+-- the greatest number of a sum
+abbrev pub most : ℕ
+most = 2 ^ 127 - 1
+
+abbrev pub small_sale : Row
+small_sale = sale_row 2 7 8
+
+abbrev pub refused_sale : Row
+refused_sale = sale_row 3 7 5
+
+-- The first session inserted 8 and deleted it again: it may still take the deletion back, so that the second may not insert 5
+-- before it commits.
+abbrev pub UndoIsCovered : Type 0
+UndoIsCovered = MayRun (starts 1 2 (inserts_first 1 (sale_row 1 7 (most - 10)) (commits 1 3 (
+    starts 1 3 (inserts 1 small_sale (deletes 1 small_sale (
+    starts 2 3 (puts 2 refused_sale (did 2 act.Pay (answer.Refused (refusal.Escrow 1 (pos (most - 10)) (pos (most - 2)))) ∷
+    commits 1 4 (takes_back 2 1 (starts 2 4 (inserts 2 refused_sale (commits 2 5 [])))))))))))))
+
+-- ---- two readers that insert for each other
+
+-- the second session waits for the first, which waits for the second
+abbrev pub two_one : Cycle
+two_one = record { length = 2; members = 2 ∷ 1 ∷ replicate 62 0 }
+
+-- Each reads a shop's row and inserts into the other's: the first waits, and the second is refused. Once that one took back
+-- all, the first goes on.
+abbrev pub RingIsRefused : Type 0
+RingIsRefused = MayRun (starts 1 2 (inserts_first 1 (sale_row 1 1 10) (inserts_first 1 (sale_row 2 2 20) (commits 1 3 (
+    starts 1 3 (starts 2 3 (reads 1 (shop_point 1) (shop_row 1 1 10 ∷ []) (reads 2 (shop_point 2) (shop_row 2 1 20 ∷ []) (
+    puts 1 (sale_row 3 2 5) (did 1 act.Pay (answer.Blocked (record { bits = 2 })) ∷
+    puts 2 (sale_row 4 1 5) (did 2 act.Pay (answer.Refused (refusal.Deadlock two_one)) ∷
+    takes_back 2 1 (did 1 act.Pay (answer.Paid 0) ∷ commits 1 4 []))))))))))))
+
+-- ---- a snapshot reads what was committed as it began
+
+abbrev pub ninth_sale : Row
+ninth_sale = sale_row 2 9 4
+
+-- two shops, of which a snapshot knows, and what is committed after it began
+abbrev pub around_snapshot : List Did → List Did
+around_snapshot more = starts 1 2 (inserts_first 1 one_sale (inserts_first 1 ninth_sale (commits 1 3 (
+    did 2 (act.Begin Snapshot) (answer.Begun 3 2) ∷
+    starts 1 3 (inserts 1 (sale_row 3 7 1) (commits 1 4 (
+    starts 1 4 (deletes 1 ninth_sale (commits 1 5 more)))))))))
+
+-- While the snapshot is open the group of the deleted sale is kept for it; then it is cleaned. A third session's sale, which is
+-- not committed, is neither seen nor in the way.
+abbrev pub SnapshotIsKept : Type 0
+SnapshotIsKept = MayRun (around_snapshot (starts 3 5 (inserts 3 (sale_row 4 7 100) (
+    did 0 act.Prune answer.Pruned ∷ did 0 act.Clean (answer.Cleaned 0) ∷
+    did 2 (act.Peek 2 all_keys) (answer.Rows (shop_row 7 1 10 ∷ shop_row 9 1 4 ∷ [])) ∷ commits 2 3 (
+    did 0 act.Prune answer.Pruned ∷ did 0 act.Clean (answer.Cleaned 1) ∷ takes_back 3 2 [])))))
 
 -- ---- near misses
 

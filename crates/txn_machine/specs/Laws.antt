@@ -12,12 +12,13 @@ use Rattle.iv_types.specs.Syntax.{StatementTree}
 use Rattle.iv_meaning.specs.Schema.{Schema, Object, view, ViewTree, numbered, group_kinds}
 use Rattle.iv_meaning.specs.Binding.{bind}
 use Rattle.iv_meaning.specs.Statement.{Kept, sets, defines, create}
-use Rattle.iv_meaning.specs.View.{view_rows, share}
+use Rattle.iv_meaning.specs.View.{view_rows, read, share}
 use Rattle.iv_meaning.specs.Database.{Row, Rows, Database}
 use Rattle.iv_meaning.specs.History.{Entry, state_at}
 use Rattle.iv_meaning.specs.Waits.{AreDifferent}
 use Rattle.iv_types.specs.declared.value.Interval.{Interval}
 use Rattle.iv_types.specs.declared.lock.LockMode.{LockMode}
+use Rattle.iv_types.specs.declared.lock.LockMode.TheVariants.{Increment}
 use Rattle.iv_types.specs.declared.reply.Reply.{Reply}
 use Rattle.iv_types.specs.declared.statement.Mode.TheVariants.{Serial, Snapshot}
 use Rattle.txn_machine.specs.Acts as act
@@ -29,16 +30,16 @@ use Rattle.iv_types.specs.declared.session.Cycle.{Cycle}
 use Rattle.iv_types.specs.declared.refusal.EngineRefusal.TheVariants as refusal
 use Rattle.iv_types.specs.Replies.{members}
 use Rattle.txn_machine.specs.Alone.{Story, Program, begun_story, Tells, with_changes, Reads, IsLed, RunsAlone, ReadsAlone}
-use Rattle.txn_machine.specs.May.{IsOpen, IsReady}
+use Rattle.txn_machine.specs.May.{GoesOn, IsOpen, IsReady, MayPeek, Owes}
 use Rattle.iv_meaning.specs.Escrow.{IsSession, over_sessions, paid, inf, sup, value}
 use Rattle.txn_machine.specs.Locks.{Meet}
 use Rattle.txn_machine.specs.Waiting.{WaitsOn, IsRing}
-use Rattle.txn_machine.specs.Deltas.{RowChange, due}
+use Rattle.txn_machine.specs.Deltas.{RowChange, due, place_of}
 use Rattle.txn_machine.specs.Keeping.{KeptStep, increments}
 use Rattle.txn_machine.specs.Stored.{ViewRows, stored_number}
 use Rattle.txn_machine.specs.Fresh.{fresh}
 use Rattle.txn_machine.specs.Store.{Store, opened, committed, schema_of, now, changes_by, locks_of, deltas_above}
-use Rattle.txn_machine.specs.Ghosts.{MayReadIn, the_views, account_of, versions}
+use Rattle.txn_machine.specs.Ghosts.{Holds, MayReadIn, the_views, account_of, versions}
 use Rattle.txn_machine.specs.State.{State, opened_state}
 use Rattle.txn_machine.specs.Steps.{Did, Run, Step}
 use Rattle.txn_machine.specs.ViewLaws.{AreSound, ViewLaws}
@@ -73,6 +74,11 @@ FreshLaw = (db : Database) → AreSound db.schema db.rows → (n : ℕ) (v : Vie
     → (g : Row) → FitAll (group_kinds db.schema v) g → (column : ℕ)
     → fresh db.schema db.rows (v.number, key_bytes (group_kinds db.schema v) g) column ≡ get_or (share db.schema db.rows v g) column (pos 0)
 
+-- no view's meaning is refused where the numbers are in range
+abbrev pub ReadableLaw : Type 0
+ReadableLaw = (db : Database) → AreSound db.schema db.rows → AreInRange db.schema db.rows → (n : ℕ) (v : ViewTree) → numbered db.schema n ≡ Some (view v)
+    → IsSome (view_rows db.schema db.rows v)
+
 -- ---- states
 
 -- a database as it is opened: sound, with its views' rows as they are evaluated afresh
@@ -101,6 +107,11 @@ abbrev pub CommittedLaw : Type 0
 CommittedLaw = (s : State) → IsReached s → (sessions : List ℕ) → AreSessions 64 sessions
     → take_back_all (changes_by s.store) sessions s.store.rows ≡ (committed s.store).rows
 
+-- what is committed is sound, and it is with the changes of any sessions
+abbrev pub SoundLaw : Type 0
+SoundLaw = (s : State) → IsReached s → (chosen : List ℕ) → All IsSession chosen
+    → AreSound (schema_of s.store) (redo_all (changes_by s.store) chosen (committed s.store).rows)
+
 -- ---- views
 
 -- a stored number is the committed one, evaluated afresh, and what open transactions paid
@@ -126,6 +137,11 @@ abbrev pub BoundsLaw : Type 0
 BoundsLaw = (s : State) → IsReached s → (place : Place) (column : ℕ)
     → IsHuge (inf (account_of s.store place column)) × IsHuge (sup (account_of s.store place column))
 
+-- the numbers that are committed are in range, and they are with the changes of a session that owes nothing
+abbrev pub InRangeLaw : Type 0
+InRangeLaw = (s : State) → IsReached s → AreInRange (schema_of s.store) (committed s.store).rows
+    × ((session : ℕ) → IsSession session → (now s.store session).owed ≡ [] → AreInRange (schema_of s.store) (redo (changes_by s.store session) (committed s.store).rows))
+
 -- ---- locks
 
 -- no two sessions hold locks that conflict
@@ -137,13 +153,24 @@ LocksLaw = (s : State) → IsReached s → (one other : ℕ) → IsSession one �
 abbrev pub WaitsLaw : Type 0
 WaitsLaw = (s : State) → IsReached s → (first : ℕ) (others : List ℕ) → IsRing (WaitsOn (locks_of s.store) s.waiting) first others → ⊥
 
+-- a ghost that is asked for is stored; a row stays stored while a session holds an Increment lock on it; and where the row of the
+-- first owed delta is stored, its pay is not answered by NeedsGhost
+abbrev pub GhostedLaw : Type 0
+GhostedLaw =
+    ((s : State) (d : Did) (after : State) → Step s d.session d.act d.said after → (session : ℕ) → IsSession session
+    → (place : Place) → Holds (locks_of s.store session) Increment place.0 place.1 → IsSome (get s.store.view place) → IsSome (get after.store.view place))
+    × ((s : State) (session : ℕ) (after : State) → (o : Owes s.store session) → IsSome (get s.store.view (place_of o.first)) → Step s session act.Pay answer.NeedsGhost after → ⊥)
+    × ((s : State) (session : ℕ) (after : State) → (o : Owes s.store session) → Step s session act.Ghost answer.Ghosted after → IsSome (get after.store.view (place_of o.first)))
+
 -- ---- readings
 
--- what a Fetch answers is what the interval has in the committed database with the session's own changes
+-- what a Fetch answers is what the interval has in the committed database with the session's own changes, a view's as it is read
+-- of its meaning
 abbrev pub FetchLaw : Type 0
 FetchLaw = (s : State) → IsReached s → (session number : ℕ) (interval : Interval) (mode : LockMode) (rows : List Row) (after : State)
     → Step s session (act.Fetch number interval mode) (answer.Rows rows) after
     → Reads (with_changes (changes_by s.store session) (committed s.store)) number interval rows
+    × (read (with_changes (changes_by s.store session) (committed s.store)) number interval ≡ Some rows)
 
 -- what is read is the same in both
 abbrev pub IsSameReading : Database → Database → ℕ → Interval → Type 0
@@ -162,10 +189,13 @@ pub record SamePart (s after : State) (session : ℕ) : Type 0 where
   pub waiting : after.waiting session ≡ s.waiting session
   pub seat : after.seat_of session ≡ s.seat_of session
 
--- a step leaves the part of every other session, and what was opened
+-- A step leaves the part of every other session and what was opened; what the cleaner did is session 0's part; and where another
+-- session's transaction is open, the schema stays.
 abbrev pub PartLaw : Type 0
 PartLaw = (s : State) (d : Did) (after : State) → Step s d.session d.act d.said after
     → ((other : ℕ) → other ≢ d.session → SamePart s after other) × (after.store.origin ≡ s.store.origin)
+    × (d.session ≢ 0 → after.cleaner ≡ s.cleaner)
+    × ((other : ℕ) → other ≢ d.session → IsOpen s.store other → schema_of after.store ≡ schema_of s.store)
 
 -- ---- transactions alone
 
@@ -247,6 +277,33 @@ changes_above number (e ∷ es) = changes_above number es ++ (if nat_le e.number
 abbrev pub RowsAtLaw : Type 0
 RowsAtLaw = (s : State) → IsReached s → (number : ℕ)
     → take_back (changes_above number s.store.history) (committed s.store).rows ≡ (state_at s.store.origin s.store.history number).rows
+
+-- the database of a commit number: it has that number, it is sound, its views' numbers are in range, and none of its views is
+-- refused
+pub record IsReadableAt (number : ℕ) (db : Database) : Type 0 where
+  pub number_is : db.number ≡ number
+  pub sound : AreSound db.schema db.rows
+  pub in_range : AreInRange db.schema db.rows
+  pub views : (n : ℕ) (v : ViewTree) → numbered db.schema n ≡ Some (view v) → IsSome (view_rows db.schema db.rows v)
+
+-- There is one at each number from the opened database's up to what is committed. So there is at the number of each open
+-- snapshot, and its objects are those that are defined now.
+abbrev pub SnapshotReadableLaw : Type 0
+SnapshotReadableLaw = (s : State) → IsReached s
+    → ((number : ℕ) → s.store.origin.number ≤ number → number ≤ (committed s.store).number → IsReadableAt number (state_at s.store.origin s.store.history number))
+    × ((session : ℕ) → (o : IsOpen s.store session) → o.transaction.mode ≡ Snapshot →
+    let at_number : Database = state_at s.store.origin s.store.history o.transaction.number in
+    IsReadableAt o.transaction.number at_number × (at_number.schema ≡ schema_of s.store))
+
+-- What a Peek is answered is what is read of the meaning at the number of the session's snapshot, and it changes nothing that is
+-- stored. Whatever a snapshot may peek at, it can be answered so: no view is refused.
+abbrev pub PeekLaw : Type 0
+PeekLaw = (s : State) → IsReached s → (session number : ℕ) (interval : Interval)
+    → ((rows : List Row) (after : State) → Step s session (act.Peek number interval) (answer.Rows rows) after
+    → (o : IsOpen s.store session) × (o.transaction.mode ≡ Snapshot)
+    × (read (state_at s.store.origin s.store.history o.transaction.number) number interval ≡ Some rows) × (after.store ≡ s.store))
+    × (s.stop ≡ None → GoesOn s.store session Snapshot → MayPeek (numbered (schema_of s.store) number)
+    → (rows : List Row) × (after : State) × Step s session (act.Peek number interval) (answer.Rows rows) after)
 
 -- ---- answers
 

@@ -1,12 +1,15 @@
 -- What is asked of views: the machine is proved for all that keep these laws.
-use Rattle.std.specs.Prelude.{◌≡◌, ◌≢◌, ℕ, ℤ, pos, ◌+ℤ◌, List, [], ◌∷◌, ◌++◌, length, Some, None}
+use Rattle.std.specs.Prelude.{◌≡◌, ◌≢◌, ℕ, ℤ, pos, ◌+ℤ◌, List, [], ◌∷◌, ◌++◌, length, map, true, false, Some, None}
 use Rattle.std.specs.FinMap.{get}
 use Rattle.table_laws.specs.Place.{Place}
 use Rattle.iv_types.specs.declared.catalog.TableDef.{TableDef}
 use Rattle.iv_types.specs.declared.catalog.IndexDef.{IndexDef}
 use Rattle.iv_types.specs.declared.catalog.Second.{Second}
 use Rattle.iv_types.specs.Definitions.{kinds_of}
-use Rattle.iv_meaning.specs.Schema.{Schema, Object, table, index, view, ViewTree, numbered, items_at, key_kinds}
+use Rattle.iv_types.specs.Syntax.{Tree}
+use Rattle.iv_meaning.specs.Schema.{Schema, Object, table, index, view, ViewTree, numbered, items_at, key_kinds, sources_of, kinds_of_table}
+use Rattle.iv_meaning.specs.Shape.{has_arithmetic}
+use Rattle.iv_meaning.specs.Types.{family, is_truth}
 use Rattle.iv_meaning.specs.Database.{Row, Rows}
 use Rattle.iv_meaning.specs.Sound.{AreColumns, IsObject, IsRow}
 use Rattle.txn_machine.specs.Deltas.{RowChange, rows_after, due}
@@ -33,11 +36,17 @@ pub record IsJoin (objects : Schema) (v : ViewTree) (second : Second) : Type 0 w
 abbrev pub IsJoined : Schema → ViewTree → Type 0
 IsJoined objects v = elim v.second [ None ↦ Unit {0} | Some second ↦ IsJoin objects v second ]
 
--- the rows of a database as statements leave it: sound, and each view of two tables joins them as it should
+-- a view has a group column, and its condition, if it has one, is a truth of its tables' columns without arithmetic
+pub record IsTyped (objects : Schema) (v : ViewTree) : Type 0 where
+  pub grouped : v.group ≢ []
+  pub condition : (e : Tree) → v.condition ≡ Some e → (is_truth (family (map (λ n. kinds_of_table (numbered objects n)) (sources_of v)) e) ≡ true) × (has_arithmetic e ≡ false)
+
+-- the rows of a database as statements leave it: sound, each view of two tables joins them as it should, and each is typed
 pub record AreSound (schema : Schema) (table_rows : Rows) : Type 0 where
   pub objects : (n : ℕ) (o : Object) → numbered schema n ≡ Some o → IsObject schema n o
   pub rows : (place : Place) (row : Row) → get table_rows place ≡ Some row → IsRow schema place row
   pub joins : (n : ℕ) (v : ViewTree) → numbered schema n ≡ Some (view v) → IsJoined schema v
+  pub typed : (n : ℕ) (v : ViewTree) → numbered schema n ≡ Some (view v) → IsTyped schema v
 
 -- a change of sound rows that leaves sound rows, and was told the row that was there
 pub record IsRight (objects : Schema) (rows : Rows) (c : RowChange) : Type 0 where

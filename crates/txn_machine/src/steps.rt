@@ -1,6 +1,6 @@
 //! Laws of the machine over every list of steps. Each function is there for its contract.
-ghost use Rattle.txn_machine.specs.Laws.{AbsentLaw, BoundsLaw, CommittedLaw, LocksLaw, ShareLaw, StoredLaw};
-ghost use Rattle.txn_machine.specs.Laws.{AnySubsetLaw, BlockedLaw, CanCommitLaw, CommitLaw, DeadlockLaw, EmptyLaw, FetchLaw, FrameLaw, MarkLaw, PartLaw, PruneLaw, RepliesLaw, RollBackLaw, RowsAtLaw, SnapshotLaw, SnapshotRepliesLaw, WaitsLaw};
+ghost use Rattle.txn_machine.specs.Laws.{AbsentLaw, BoundsLaw, CommittedLaw, LocksLaw, ShareLaw, SoundLaw, StoredLaw};
+ghost use Rattle.txn_machine.specs.Laws.{AnySubsetLaw, BlockedLaw, CanCommitLaw, CommitLaw, DeadlockLaw, EmptyLaw, FetchLaw, FrameLaw, GhostedLaw, InRangeLaw, MarkLaw, PartLaw, PeekLaw, PruneLaw, RepliesLaw, RollBackLaw, RowsAtLaw, SnapshotLaw, SnapshotReadableLaw, SnapshotRepliesLaw, WaitsLaw};
 
 /// There is a database to begin from: one that defines nothing.
 pub fn empty_law()
@@ -10,6 +10,11 @@ pub fn empty_law()
 /// The stored rows with what is kept taken back are what was opened and then committed.
 pub fn committed_law()
     ensures { CommittedLaw }
+{}
+
+/// What is committed is sound, and it is with the changes of any sessions.
+pub fn sound_law()
+    ensures { SoundLaw }
 {}
 
 /// A stored view row is what is committed, evaluated afresh, and what open transactions paid.
@@ -32,6 +37,11 @@ pub fn bounds_law()
     ensures { BoundsLaw }
 {}
 
+/// The numbers of views are in range, in what is committed and for a session that owes nothing.
+pub fn in_range_law()
+    ensures { InRangeLaw }
+{}
+
 /// No two sessions hold locks that conflict.
 pub fn locks_law()
     ensures { LocksLaw }
@@ -40,6 +50,11 @@ pub fn locks_law()
 /// Recorded waits have no cycle: a grant closes none, and a wait is recorded only where it closes none.
 pub fn waits_law()
     ensures { WaitsLaw }
+{}
+
+/// A ghost that is asked for is stored, and stays so while an Increment lock is held on it, so that its pay needs none again.
+pub fn ghosted_law()
+    ensures { GhostedLaw }
 {}
 
 /// What a Fetch answers is what its interval has in the committed database with the session's own changes.
@@ -52,7 +67,7 @@ pub fn frame_law()
     ensures { FrameLaw }
 {}
 
-/// A step leaves the part of every other session.
+/// A step leaves the part of every other session, and the schema that an open transaction sees.
 pub fn part_law()
     ensures { PartLaw }
 {}
@@ -95,6 +110,16 @@ pub fn snapshot_law()
 /// The rows at a number are those of today with later changes taken back.
 pub fn rows_at_law()
     ensures { RowsAtLaw }
+{}
+
+/// At each number from the opened database's up to what is committed, and so at an open snapshot's, no view is refused.
+pub fn snapshot_readable_law()
+    ensures { SnapshotReadableLaw }
+{}
+
+/// What a Peek is answered is what is read of the meaning at its snapshot's number, and it can always be answered so.
+pub fn peek_law()
+    ensures { PeekLaw }
 {}
 
 /// Where a step is blocked it is answered so, unless memory is wanting.

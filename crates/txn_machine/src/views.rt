@@ -1,5 +1,5 @@
 //! Laws of views as they are defined. Each function is there for its contract.
-ghost use Rattle.txn_machine.specs.Laws.{CreatesSound, FreshLaw, KeysTell, RangeLaw, ViewsLaw};
+ghost use Rattle.txn_machine.specs.Laws.{CreatesSound, FreshLaw, KeysTell, RangeLaw, ReadableLaw, ViewsLaw};
 
 /// What a change owes is what it changes, of views of one table and of two; a group of no combinations adds up to zeros; what
 /// is owed depends on what is looked up alone; and a new view leaves those that were there.
@@ -26,4 +26,9 @@ pub fn create_law()
 /// A view can be read only where its numbers are in range.
 pub fn range_law()
     ensures { RangeLaw }
+{}
+
+/// No view's meaning is refused where its numbers are in range.
+pub fn readable_law()
+    ensures { ReadableLaw }
 {}

@@ -1,4 +1,4 @@
-use Rattle.txn_machine.proofs.Together.{both_commit}
+use Rattle.txn_machine.proofs.Replays.{both_commit}
 use Rattle.txn_machine.proofs.example.both_commit.Goals as goal
 
 pub returns : goal.returns

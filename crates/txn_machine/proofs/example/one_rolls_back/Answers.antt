@@ -1,4 +1,4 @@
-use Rattle.txn_machine.proofs.Together.{one_rolls_back}
+use Rattle.txn_machine.proofs.Replays.{one_rolls_back}
 use Rattle.txn_machine.proofs.example.one_rolls_back.Goals as goal
 
 pub returns : goal.returns

@@ -1,0 +1,481 @@
+-- Moves of one session that pass their tests are steps.
+use Rattle.std.specs.Prelude.{◌≡◌, ◌≢◌, ◌⊎◌, ℕ, ◌+◌, ◌≤◌, ◌==◌, nat_le, Bool, true, not, ◌&&◌, T, List, [], ◌∷◌, ◌++◌, map, reverse, length, ℤ, pos, negsuc, Option, Some, None, is_some}
+use Rattle.std.specs.List.{AllZip}
+use Rattle.std.specs.Option.{unwrap_or}
+use mathlib.Core.Path.{refl, sym, ap, subst, ◌∙◌}
+use mathlib.Core.List.{map-append}
+use mathlib.Core.Logic.{inl, inr}
+use Rattle.std.proofs.Common.{arith, leb-true}
+use Rattle.std.proofs.lemmas.Option.{none-some}
+use Rattle.std.specs.Int.{w64}
+use Rattle.std.specs.Int.RustNames.{FitsSigned}
+use Rattle.std.specs.Str.{bytes_eq}
+use Rattle.std.proofs.lemmas.Slice.Eq.{bytes_eq-Decides}
+use Rattle.std.specs.FinMap.{find, is_sorted}
+use Rattle.iv_types.specs.declared.statement.Mode.{Mode}
+use Rattle.iv_types.specs.declared.statement.Mode.TheVariants.{Serial, Snapshot}
+use Rattle.iv_types.specs.declared.lock.LockMode.{LockMode}
+use Rattle.iv_types.specs.declared.lock.LockMode.TheVariants.{Share, Exclusive, Increment}
+use Rattle.iv_types.specs.declared.lock.GroupDelta.{GroupDelta}
+use Rattle.iv_types.specs.declared.lock.Want.{Want}
+use Rattle.iv_types.specs.declared.value.Kind.{Kind}
+use Rattle.iv_types.specs.declared.value.Kind.TheVariants.{Int, Huge, Text}
+use Rattle.iv_types.specs.declared.value.Value.{Value}
+use Rattle.iv_types.specs.declared.value.Value.TheVariants.{Number, Word}
+use Rattle.iv_types.specs.declared.value.Interval.{Interval}
+use Rattle.iv_types.specs.Encoding.{Fits, FitAll, key_bytes}
+use Rattle.iv_types.specs.Definitions.{kinds_of}
+use Rattle.iv_types.specs.Intervals.{point}
+use Rattle.table_laws.specs.Place.{Place, place_cmp}
+use Rattle.table_laws.specs.Table.{rows_where}
+use Rattle.iv_meaning.specs.Schema.{table, numbered}
+use Rattle.iv_meaning.specs.Database.{Row, Rows, Database, key_of}
+use Rattle.iv_meaning.specs.History.{Entry}
+use Rattle.iv_meaning.specs.Values.{is_huge}
+use Rattle.iv_meaning.specs.View.{lies_in}
+use Rattle.iv_meaning.specs.Escrow.{Account, IsAllowed, IsSession, with_increment, over_sessions, paid}
+use Rattle.txn_machine.specs.Acts as act
+use Rattle.txn_machine.specs.Acts.{Act}
+use Rattle.txn_machine.specs.Answers as answer
+use Rattle.txn_machine.specs.Answers.{Answer}
+use Rattle.txn_machine.specs.Locks.{with_one}
+use Rattle.txn_machine.specs.Deltas.{RowChange, columns_of, worth, place_of, negated, owed}
+use Rattle.txn_machine.specs.Fresh.{fresh}
+use Rattle.txn_machine.specs.Keeping.{KeptStep, Put, Pay, changes_of, increments, Open, begun, idle}
+use Rattle.txn_machine.specs.Stored.{ViewRows, zeros, IsShown, is_shown}
+use Rattle.txn_machine.specs.Store.{Store, committed, with_txn, entry_changes, change_at, now, locks_of, run, paid_first, undone, Effect, Opens, Takes, Writes, Pays, Ghosts, Undoes, Commits, Ends}
+use Rattle.txn_machine.specs.Ghosts.{the_views, account_of, Holds}
+use Rattle.txn_machine.specs.Counts.{fetch_size, put_size, transaction_size, most_of_transaction, entry_size, kept_change_size, history_size, most_of_history}
+use Rattle.txn_machine.specs.State.{State, counted}
+use Rattle.txn_machine.specs.May.{GoesOn, IsReady, Owes, FitsUnder, MayLock, MayAct}
+use Rattle.txn_machine.specs.Steps.{Step, Says, MayBegin, FindsIn, IsFree, CommitsAs, group_want, put_wants, first_want, waits_after, definitions_after}
+use Rattle.txn_machine.specs.Example.{sale, by_shop}
+use Rattle.txn_machine.proofs.Basics.{one_same}
+use Rattle.txn_machine.proofs.Playing.{shop_schema, table_of, entry_of, Plain, state_of, base, number_of, txn, found_in, shown_in, int_fits, fit, fit_all, are_shown, owed_in, is_session, is_serial, is_nil, is_free, goes_on, is_ready, fits_txn, fits_history, fits_under, differ, account_in, inf_in, sup_in, allows, all_below, row_want, view_want, seen, change_in, put_wants_in, number_left, said_of, owes, lacks_first, pays_first, holds_in, makes_first, rest, is_increment, test, after_makes, locked, paid_txn, after_pays, after_undoes, after, is_in_order, begins, fetches, views, puts, lacks, undoes, ends, commits, leaves}
+use Rattle.txn_machine.proofs.Tabled.{InOrder, entries_are, get_is, write_is, add_is, plain_db, base_sorted, committed_is, read_is, owed_is, fresh_is}
+use Rattle.txn_machine.proofs.Testing.{is_true, left_one, right_one, at_most, equal, there_is, none_is_there, serial_is, nil_is, not_nil, false_is, session_is, below_so, some_is, huge_is, free_is, lies_is}
+
+-- the tables are in order, and the engine is not stopped
+pub record Sorted (p : Plain) : Type 0 where
+  pub rows : InOrder p.rows
+  pub view : InOrder p.view
+  pub runs : p.of.stop ≡ None
+
+pub in_order : (p : Plain) → T (is_in_order p) → Sorted p
+in_order p h =
+    let more = right_one (is_sorted place_cmp p.rows) (is_sorted place_cmp p.view && not (is_some p.of.stop)) h in
+    record {
+      rows = left_one (is_sorted place_cmp p.rows) (is_sorted place_cmp p.view && not (is_some p.of.stop)) h;
+      view = left_one (is_sorted place_cmp p.view) (not (is_some p.of.stop)) more;
+      runs = none_is_there p.of.stop (right_one (is_sorted place_cmp p.view) (not (is_some p.of.stop)) more);
+    }
+
+bytes_same : (xs ys : List ℕ) → T (bytes_eq xs ys) → xs ≡ ys
+bytes_same xs ys h = (bytes_eq-Decides xs ys).0 (is_true (bytes_eq xs ys) h)
+
+increment_is : (m : LockMode) → T (is_increment m) → m ≡ Increment
+increment_is Increment h = refl
+increment_is Share h = absurd h
+increment_is Exclusive h = absurd h
+
+int_pos : (n : ℕ) → nat_le n 9223372036854775807 ≡ true → FitsSigned w64 (pos n)
+int_pos n e = let le : n ≤ 9223372036854775807 = leb-true n 9223372036854775807 e in record { sfits = omega arith }
+
+int_neg : (n : ℕ) → nat_le n 9223372036854775807 ≡ true → FitsSigned w64 (negsuc n)
+int_neg n e = let le : n ≤ 9223372036854775807 = leb-true n 9223372036854775807 e in record { sfits = omega arith }
+
+int_is : (n : ℤ) → T (int_fits n) → FitsSigned w64 n
+int_is (pos n) h = int_pos n (is_true (nat_le n 9223372036854775807) h)
+int_is (negsuc n) h = int_neg n (is_true (nat_le n 9223372036854775807) (left_one (nat_le n 9223372036854775807) true h))
+
+fit_is : (kind : Kind) (value : Value) → T (fit kind value) → Fits kind value
+fit_is Int (Number n) h = int_is n h
+fit_is Huge (Number n) h = huge_is n h
+fit_is Text (Number n) h = absurd h
+fit_is Int (Word w) h = absurd h
+fit_is Huge (Word w) h = absurd h
+fit_is Text (Word w) h = absurd h
+
+fit_all_is : (kinds : List Kind) (values : List Value) → T (fit_all kinds values) → FitAll kinds values
+fit_all_is [] [] h = tt
+fit_all_is [] (v ∷ vs) h = absurd h
+fit_all_is (k ∷ ks) [] h = absurd h
+fit_all_is (k ∷ ks) (v ∷ vs) h = (fit_is k v (left_one (fit k v) (fit_all ks vs) h), fit_all_is ks vs (right_one (fit k v) (fit_all ks vs) h))
+
+under_is : (key : List ℕ) (new : Option Row) → T (fits_under key new) → FitsUnder sale key new
+under_is key None h = tt
+under_is key (Some row) h =
+    let same : Bool = bytes_eq key (key_of sale row) in
+    let fits : Bool = fit_all (kinds_of sale) row in
+    (bytes_same key (key_of sale row) (left_one same fits h), fit_all_is (kinds_of sale) row (right_one same fits h))
+
+differ_is : (old new : Option Row) → T (differ old new) → old ≢ new
+differ_is None None h e = h
+differ_is None (Some new) h e = none-some new e
+differ_is (Some old) None h e = none-some old (sym e)
+differ_is (Some old) (Some new) h e = h
+
+-- the rows of stored groups
+shown_lists : (es : List (Place × List ℤ)) (shops : List ℤ) → T (are_shown es shops) → AllZip (IsShown shop_schema by_shop) es (shown_in es shops)
+shown_lists [] [] h = tt
+shown_lists [] (n ∷ ns) h = absurd h
+shown_lists (e ∷ es) [] h = absurd h
+shown_lists (e ∷ es) (n ∷ ns) h =
+    let same : Bool = bytes_eq (key_bytes (Int ∷ []) (Number n ∷ [])) e.0.1 in
+    let more = right_one (int_fits n) (same && are_shown es ns) h in (
+      record {
+        group = Number n ∷ [];
+        fits = (int_is n (left_one (int_fits n) (same && are_shown es ns) h), tt);
+        key = bytes_same (key_bytes (Int ∷ []) (Number n ∷ [])) e.0.1 (left_one same (are_shown es ns) more);
+        row_is = refl;
+      },
+      shown_lists es ns (right_one same (are_shown es ns) more),
+    )
+
+module _ (p : Plain) (i : ℕ) (sorted : Sorted p) (session : i ≤ 64) where
+  abbrev pub here : State
+  here = state_of p
+
+  pub step : (a : Act) (said : Answer) (es : List Effect) (to : State) → MayAct here.store i a → Says here i a said es
+      → to ≡ counted here i a said (run the_views here.store i es) (waits_after here.store i a said) (definitions_after here.definitions a said) → Step here i a said to
+  step a said es to may says left = record { may = (session, inr may); does = inl (record { runs = sorted.runs; effects = es; says = says; left = left }) }
+
+  -- what is said of the committed database
+  pub of_db : (P : Database → Type 0) → P (plain_db p) → P (committed here.store)
+  of_db P h = subst P (sym (committed_is p)) h
+
+  pub number_is : number_of p ≡ (committed here.store).number
+  number_is = sym (ap (λ (db : Database). db.number) (committed_is p))
+
+  -- ---- a session that goes on
+
+  abbrev pub going : (mode : Mode) → T (goes_on p i) → (txn p i).mode ≡ mode → GoesOn here.store i mode
+  going mode h e =
+      let more = right_one (is_session i) (is_some (p.of.store.open_of i) && not (txn p i).is_lost) h in
+      record {
+        of_session = session_is i (left_one (is_session i) (is_some (p.of.store.open_of i) && not (txn p i).is_lost) h);
+        transaction = txn p i;
+        is_open = there_is (p.of.store.open_of i) idle (left_one (is_some (p.of.store.open_of i)) (not (txn p i).is_lost) more);
+        mode_is = e;
+        not_lost = false_is (txn p i).is_lost (right_one (is_some (p.of.store.open_of i)) (not (txn p i).is_lost) more);
+      }
+
+  pub ready : T (is_ready p i) → IsReady here.store i Serial
+  ready h =
+      let more = right_one (goes_on p i) (is_serial (txn p i).mode && is_nil (txn p i).owed) h in
+      record {
+        goes_on = going Serial (left_one (goes_on p i) (is_serial (txn p i).mode && is_nil (txn p i).owed) h) (serial_is (txn p i).mode (left_one (is_serial (txn p i).mode) (is_nil (txn p i).owed) more));
+        owes_nothing = nil_is (txn p i).owed (right_one (is_serial (txn p i).mode) (is_nil (txn p i).owed) more);
+      }
+
+  pub free : (wants : List Want) → T (is_free p i wants) → IsFree here.store i wants
+  free wants h = free_is (locks_of here.store) i wants h
+
+  room : (need : Database → ℕ) → T (fits_txn p i (need (plain_db p))) → transaction_size (committed here.store).schema (now here.store i) + need (committed here.store) ≤ most_of_transaction
+  room need h = of_db (λ db. transaction_size db.schema (now here.store i) + need db ≤ most_of_transaction) (at_most (transaction_size shop_schema (txn p i) + need (plain_db p)) most_of_transaction h)
+
+  history_room : (need : Database → ℕ) → T (fits_history p (need (plain_db p))) → history_size (committed here.store).schema here.store.history here.definitions here.store.open_of + need (committed here.store) ≤ most_of_history
+  history_room need h = of_db (λ db. history_size db.schema here.store.history here.definitions here.store.open_of + need db ≤ most_of_history)
+      (at_most (history_size shop_schema (map entry_of p.sold) p.of.definitions p.of.store.open_of + need (plain_db p)) most_of_history h)
+
+  -- ---- Begin
+
+  begin_room : (mode : Mode) → T (test p i (begins mode)) → MayBegin here mode
+  begin_room Serial h =
+      history_room (λ db. entry_size) (right_one (not (is_some (p.of.store.open_of i))) (fits_history p entry_size) (right_one (is_session i) (not (is_some (p.of.store.open_of i)) && fits_history p entry_size) h))
+  begin_room Snapshot h = tt
+
+  begin_may : (mode : Mode) → T (test p i (begins mode)) → IsSession i × (here.store.open_of i ≡ None)
+  begin_may Serial h = (
+    session_is i (left_one (is_session i) (not (is_some (p.of.store.open_of i)) && fits_history p entry_size) h),
+    none_is_there (p.of.store.open_of i) (left_one (not (is_some (p.of.store.open_of i))) (fits_history p entry_size) (right_one (is_session i) (not (is_some (p.of.store.open_of i)) && fits_history p entry_size) h)),
+  )
+  begin_may Snapshot h =
+      (session_is i (left_one (is_session i) (not (is_some (p.of.store.open_of i))) h), none_is_there (p.of.store.open_of i) (right_one (is_session i) (not (is_some (p.of.store.open_of i))) h))
+
+  pub begins_so : (mode : Mode) → T (test p i (begins mode)) → Step here i (act.Begin mode) (answer.Begun (number_of p) 2) (state_of (after p i (begins mode)))
+  begins_so mode h = step (act.Begin mode) (answer.Begun (number_of p) 2) (Opens mode ∷ []) (state_of (after p i (begins mode)))
+      (begin_may mode h)
+      (record { room = begin_room mode h; number_is = number_is; defs_are = of_db (λ db. 2 ≡ length db.schema) refl; effects = refl })
+      (ap (λ n. counted here i (act.Begin mode) (answer.Begun (number_of p) 2) (with_txn here.store i (Some (begun mode n))) [] here.definitions) number_is)
+
+  -- ---- Fetch
+
+  pub fetches_so : (key : List ℕ) → T (test p i (fetches key)) → Step here i (act.Fetch 1 (point key) Exclusive) (said_of p i (fetches key)) (state_of (after p i (fetches key)))
+  fetches_so key h =
+      let rows : List Row = found_in p.rows (point key) in
+      let fits : Bool = fits_txn p i (fetch_size shop_schema 1 (point key) rows) in
+      let more = right_one (is_ready p i) (is_free p i (row_want key) && fits) h in
+      step (act.Fetch 1 (point key) Exclusive) (said_of p i (fetches key)) (_ ∷ _ ∷ []) (state_of (after p i (fetches key)))
+      (ready (left_one (is_ready p i) (is_free p i (row_want key) && fits) h), of_db (λ db. MayLock Exclusive (numbered db.schema 1)) tt)
+      (record {
+        free = free (row_want key) (left_one (is_free p i (row_want key)) fits more);
+        found = of_db (λ db. FindsIn (record db { rows = table_of p.rows }) (table_of p.view) (numbered db.schema 1) 1 (point key) rows) (read_is (number_of p) p.rows (point key) sorted.rows);
+        room = room (λ db. fetch_size db.schema 1 (point key) rows) (right_one (is_free p i (row_want key)) fits more);
+        effects = refl;
+      })
+      refl
+
+  pub views_so : (interval : Interval) (shops : List ℤ) → T (test p i (views interval shops)) → Step here i (act.Fetch 2 interval Share) (said_of p i (views interval shops)) (state_of (after p i (views interval shops)))
+  views_so interval shops h =
+      let rows : List Row = shown_in (seen p interval) shops in
+      let fits : Bool = fits_txn p i (fetch_size shop_schema 2 interval rows) in
+      let shown : Bool = are_shown (seen p interval) shops in
+      let more = right_one (is_ready p i) (is_free p i (view_want interval) && (shown && fits)) h in
+      let last = right_one (is_free p i (view_want interval)) (shown && fits) more in
+      step (act.Fetch 2 interval Share) (said_of p i (views interval shops)) (_ ∷ _ ∷ []) (state_of (after p i (views interval shops)))
+      (ready (left_one (is_ready p i) (is_free p i (view_want interval) && (shown && fits)) h), of_db (λ db. MayLock Share (numbered db.schema 2)) refl)
+      (record {
+        free = free (view_want interval) (left_one (is_free p i (view_want interval)) (shown && fits) more);
+        found = of_db (λ db. FindsIn (record db { rows = table_of p.rows }) (table_of p.view) (numbered db.schema 2) 2 interval rows)
+            (subst (λ (es : List (Place × List ℤ)). AllZip (IsShown shop_schema by_shop) (rows_where (is_shown 2 interval) es) rows) (sym (entries_are p.view sorted.view)) (shown_lists (seen p interval) shops (left_one shown fits last)));
+        room = room (λ db. fetch_size db.schema 2 interval rows) (right_one shown fits last);
+        effects = refl;
+      })
+      refl
+
+  -- ---- Put
+
+  module _ (key : List ℕ) (new : Option Row) where
+    abbrev place : Place
+    place = (1, key)
+
+    abbrev put : Act
+    put = act.Put 1 key new
+
+    abbrev change_here : RowChange
+    change_here = change_at here.store place new
+
+    change_is : change_here ≡ change_in p key new
+    change_is = ap (λ (b : Option Row). record { key = place; before = b; after = new }) (get_is p.rows place sorted.rows)
+
+    abbrev wants_here : List Want
+    wants_here = put_wants (committed here.store).schema (numbered (committed here.store).schema 1) change_here
+
+    wants_are : wants_here ≡ put_wants_in p key new
+    wants_are = ap (λ (db : Database). put_wants db.schema (numbered db.schema 1) change_here) (committed_is p) ∙ ap (put_wants shop_schema (Some (table sale))) change_is
+
+    abbrev owed_here : List GroupDelta
+    owed_here = owed (committed here.store).schema (table_of p.rows) change_here
+
+    owes_shop : owed shop_schema (table_of p.rows) change_here ≡ owed_in p.rows place new
+    owes_shop = owed_is p.rows change_here sorted.rows
+
+    owes_here : owed_here ≡ owed_in p.rows place new
+    owes_here = ap (λ (db : Database). owed db.schema (table_of p.rows) change_here) (committed_is p) ∙ owes_shop
+
+    abbrev wrote_as : List Want → RowChange → List GroupDelta → Rows → Store
+    wrote_as wants c ds m = record (locked here.store i wants) {
+      rows = m;
+      open_of = with_one (locked here.store i wants).open_of i (Some (record (now (locked here.store i wants) i) { kept = Put c ds ∷ (now (locked here.store i wants) i).kept; owed = ds; back = 0 }));
+    }
+
+    put_size_is : put_size shop_schema change_here (owed shop_schema (table_of p.rows) change_here) ≡ put_size shop_schema (change_in p key new) (owed_in p.rows place new)
+    put_size_is = λ j. put_size shop_schema (change_is j) (owes_shop j)
+
+    pub puts_so : T (test p i (puts key new)) → Step here i put (said_of p i (puts key new)) (state_of (after p i (puts key new)))
+    puts_so h =
+        let is_free_here : Bool = is_free p i (put_wants_in p key new) in
+        let fits : Bool = fits_under key new in
+        let differs : Bool = differ (find place_cmp place p.rows) new in
+        let has_room : Bool = fits_txn p i (put_size shop_schema (change_in p key new) (owed_in p.rows place new)) in
+        let has_history : Bool = fits_history p (kept_change_size shop_schema (change_in p key new)) in
+        let h1 = right_one (is_ready p i) (is_free_here && (fits && (differs && (has_room && has_history)))) h in
+        let h2 = right_one is_free_here (fits && (differs && (has_room && has_history))) h1 in
+        let h3 = right_one fits (differs && (has_room && has_history)) h2 in
+        let h4 = right_one differs (has_room && has_history) h3 in
+        step put (said_of p i (puts key new)) (Takes wants_here ∷ Writes place new ∷ []) (state_of (after p i (puts key new))) (
+          ready (left_one (is_ready p i) (is_free_here && (fits && (differs && (has_room && has_history)))) h),
+          record {
+            of = sale;
+            table_is = of_db (λ db. numbered db.schema 1 ≡ Some (table sale)) refl;
+            fits = under_is key new (left_one fits (differs && (has_room && has_history)) h2);
+            changes = λ e. differ_is (find place_cmp place p.rows) new (left_one differs (has_room && has_history) h3) (sym (get_is p.rows place sorted.rows) ∙ e);
+          },
+        )
+        (record {
+          free = subst (IsFree here.store i) (sym wants_are) (free (put_wants_in p key new) (left_one is_free_here (fits && (differs && (has_room && has_history))) h1));
+          room = room (λ db. put_size db.schema change_here (owed db.schema (table_of p.rows) change_here)) (subst (λ n. T (fits_txn p i n)) (sym put_size_is) (left_one has_room has_history h4));
+          history_room = history_room (λ db. kept_change_size db.schema change_here) (subst (λ (c : RowChange). T (fits_history p (kept_change_size shop_schema c))) (sym change_is) (right_one has_room has_history h4));
+          before_is = sym (get_is p.rows place sorted.rows);
+          owed_is = sym owes_here;
+          effects = refl;
+        })
+        (ap (λ (t : Store). counted here i put (said_of p i (puts key new)) t [] here.definitions)
+        (λ j. wrote_as (sym wants_are j) (sym change_is j) (sym owes_here j) (sym (write_is place new p.rows sorted.rows) j)))
+
+  -- ---- Pay and Ghost
+
+  abbrev pub owes_so : T (owes p i) → (d : GroupDelta) (ds : List GroupDelta) → (txn p i).owed ≡ d ∷ ds → Owes here.store i
+  owes_so h d ds e =
+      let more = right_one (goes_on p i) (is_serial (txn p i).mode && ((txn p i).back == 0)) h in
+      record {
+        goes_on = going Serial (left_one (goes_on p i) (is_serial (txn p i).mode && ((txn p i).back == 0)) h) (serial_is (txn p i).mode (left_one (is_serial (txn p i).mode) ((txn p i).back == 0) more));
+        first = d;
+        others = ds;
+        owed_is = e;
+        none_back = equal (txn p i).back 0 (right_one (is_serial (txn p i).mode) ((txn p i).back == 0) more);
+      }
+
+  abbrev pub view_at : GroupDelta → Option (List ℤ)
+  view_at d = find place_cmp (place_of d) p.view
+
+  pub lacks_by : T (owes p i) → (l : List GroupDelta) → (txn p i).owed ≡ l → T (lacks_first p i l) → Step here i act.Pay answer.NeedsGhost (state_of (after p i lacks))
+  lacks_by o [] e h = absurd h
+  lacks_by o (d ∷ ds) e h = step act.Pay answer.NeedsGhost (Takes (first_want (txn p i).owed) ∷ []) (state_of (after p i lacks))
+      (owes_so o d ds e)
+      (record {
+        pays = record {
+          free = subst (λ (l : List GroupDelta). IsFree here.store i (first_want l)) (sym e) (free (group_want d ∷ []) (left_one (is_free p i (group_want d ∷ [])) (not (is_some (view_at d))) h));
+          first = d;
+          others = ds;
+          owed_is = e;
+        };
+        absent = get_is p.view (place_of d) sorted.view ∙ none_is_there (view_at d) (right_one (is_free p i (group_want d ∷ [])) (not (is_some (view_at d))) h);
+        effects = refl;
+      })
+      refl
+
+  pub holds_so : (locks : List Want) (k : Place) → T (holds_in locks k) → Holds locks Increment k.0 k.1
+  holds_so locks k h =
+      let f : Want → Bool = λ l. is_increment l.mode && ((l.index == k.0) && lies_in k.1 l.interval) in
+      let a = some_is f locks h in
+      let more = right_one (is_increment a.one.mode) ((a.one.index == k.0) && lies_in k.1 a.one.interval) a.so in
+      record {
+        lock = a.one;
+        held = a.there;
+        mode_is = increment_is a.one.mode (left_one (is_increment a.one.mode) ((a.one.index == k.0) && lies_in k.1 a.one.interval) a.so);
+        index_is = equal a.one.index k.0 (left_one (a.one.index == k.0) (lies_in k.1 a.one.interval) more);
+        covers = lies_is k.1 a.one.interval (right_one (a.one.index == k.0) (lies_in k.1 a.one.interval) more);
+      }
+
+  pub makes_by : T (owes p i) → (l : List GroupDelta) → (txn p i).owed ≡ l → T (makes_first p i l) → Step here i act.Ghost answer.Ghosted (state_of (after_makes p i l))
+  makes_by o [] e h = absurd h
+  makes_by o (d ∷ ds) e h =
+      let n : ℕ = length (columns_of d) in
+      step act.Ghost answer.Ghosted (Ghosts (place_of d) n ∷ []) (state_of (after_makes p i (d ∷ ds)))
+      (owes_so o d ds e, holds_so (txn p i).locks (place_of d) (right_one (not (is_some (view_at d))) (holds_in (txn p i).locks (place_of d)) h))
+      (record {
+        first = d;
+        others = ds;
+        owed_is = e;
+        effects = inl (get_is p.view (place_of d) sorted.view ∙ none_is_there (view_at d) (left_one (not (is_some (view_at d))) (holds_in (txn p i).locks (place_of d)) h), refl);
+      })
+      (ap (λ (v : ViewRows). counted here i act.Ghost answer.Ghosted (record here.store { view = v }) [] here.definitions) (sym (write_is (place_of d) (Some (zeros n)) p.view sorted.view)))
+
+  -- ---- the account of a column
+
+  pub account_is : (k : Place) (column : ℕ) → account_of here.store k column ≡ account_in p k column
+  account_is k column = ap (λ (x : ℤ). record { committed = x; kept = λ j. increments k column (txn p j).kept })
+      (ap (λ (db : Database). fresh db.schema db.rows k column) (committed_is p) ∙ fresh_is (base p) k column (base_sorted p))
+
+  pub allows_so : (d : GroupDelta) (column : ℕ) → T (allows p i d column) → IsAllowed (account_in p (place_of d) column) i (worth column d)
+  unfolding over_sessions
+  allows_so d column h =
+      let a : Account = account_in p (place_of d) column in
+      let b : Account = with_increment a i (worth column d) in
+      let more = right_one (is_huge (inf_in b)) (is_huge (sup_in b) && is_huge (paid (worth column d ∷ a.kept i))) h in
+      record {
+        inf = huge_is (inf_in b) (left_one (is_huge (inf_in b)) (is_huge (sup_in b) && is_huge (paid (worth column d ∷ a.kept i))) h);
+        sup = huge_is (sup_in b) (left_one (is_huge (sup_in b)) (is_huge (paid (worth column d ∷ a.kept i))) more);
+        sum = huge_is (paid (worth column d ∷ a.kept i)) (right_one (is_huge (sup_in b)) (is_huge (paid (worth column d ∷ a.kept i))) more);
+      }
+
+  pub locked_is : (wants : List Want) → now (locked here.store i wants) i ≡ record (txn p i) { locks = wants ++ (txn p i).locks }
+  locked_is wants = ap (λ (o : Option Open). unwrap_or o idle) (one_same here.store.open_of i (Some (record (txn p i) { locks = wants ++ (txn p i).locks })) i refl)
+
+  pub pays_by : T (owes p i) → (l : List GroupDelta) → (txn p i).owed ≡ l → T (pays_first p i l) → Step here i act.Pay (answer.Paid (length (rest l))) (state_of (after_pays p i l))
+  pays_by o [] e h = absurd h
+  pays_by o (d ∷ ds) e h =
+      let enough : Bool = all_below (length (columns_of d)) (allows p i d) in
+      let more = right_one (is_free p i (group_want d ∷ [])) (is_some (view_at d) && enough) h in
+      let wants : List Want = first_want (txn p i).owed in
+      let paid_as : List Want → ViewRows → Store = λ w v. record (locked here.store i w) { view = v; open_of = with_one (locked here.store i w).open_of i (Some (paid_txn (now (locked here.store i w) i) d ds)) } in
+      step act.Pay (answer.Paid (length ds)) (Takes wants ∷ Pays ∷ []) (state_of (after_pays p i (d ∷ ds)))
+      (owes_so o d ds e)
+      (record {
+        pays = record {
+          free = subst (λ (l : List GroupDelta). IsFree here.store i (first_want l)) (sym e) (free (group_want d ∷ []) (left_one (is_free p i (group_want d ∷ [])) (is_some (view_at d) && enough) h));
+          first = d;
+          others = ds;
+          owed_is = e;
+        };
+        there = ap is_some (get_is p.view (place_of d) sorted.view) ∙ is_true (is_some (view_at d)) (left_one (is_some (view_at d)) enough more);
+        allowed = λ column l. subst (λ (a : Account). IsAllowed a i (worth column d)) (sym (account_is (place_of d) column)) (allows_so d column (below_so (length (columns_of d)) (allows p i d) column (right_one (is_some (view_at d)) enough more) l));
+        left_is = refl;
+        effects = refl;
+      })
+      (ap (λ (t : Store). counted here i act.Pay (answer.Paid (length ds)) t [] here.definitions)
+      (sym (ap (paid_first (locked here.store i wants) i (now (locked here.store i wants) i)) (ap (λ (t : Open). t.owed) (locked_is wants) ∙ e)
+      ∙ (λ j. paid_as (first_want (e j)) (add_is d p.view sorted.view j)))))
+
+  -- ---- UndoOne and End
+
+  open_so : T (is_session i && is_some (p.of.store.open_of i)) → IsSession i × (here.store.open_of i ≡ Some (txn p i))
+  open_so h = (session_is i (left_one (is_session i) (is_some (p.of.store.open_of i)) h), there_is (p.of.store.open_of i) idle (right_one (is_session i) (is_some (p.of.store.open_of i)) h))
+
+  undoes_by : IsSession i → here.store.open_of i ≡ Some (txn p i) → (l : List KeptStep) → (txn p i).kept ≡ l → T (not (is_nil l)) → Step here i act.UndoOne (answer.Undone (length (rest l))) (state_of (after_undoes p i l))
+  undoes_by is o [] e h = absurd h
+  undoes_by is o (Put c ds ∷ ks) e h = step act.UndoOne (answer.Undone (length ks)) (Undoes ∷ []) (state_of (after_undoes p i (Put c ds ∷ ks)))
+      (record { of_session = is; transaction = txn p i; is_open = o }, λ none. not_nil (Put c ds ∷ ks) tt (sym e ∙ none))
+      (record { latest = Put c ds; earlier = ks; kept_is = e; left_is = refl; effects = refl })
+      (ap (λ (t : Store). counted here i act.UndoOne (answer.Undone (length ks)) t [] here.definitions)
+      (sym (ap (undone here.store i (txn p i)) e
+      ∙ ap (λ (m : Rows). record (undone here.store i (txn p i) (Put c ds ∷ ks)) { rows = m }) (write_is c.key c.before p.rows sorted.rows))))
+  undoes_by is o (Pay d ∷ ks) e h = step act.UndoOne (answer.Undone (length ks)) (Undoes ∷ []) (state_of (after_undoes p i (Pay d ∷ ks)))
+      (record { of_session = is; transaction = txn p i; is_open = o }, λ none. not_nil (Pay d ∷ ks) tt (sym e ∙ none))
+      (record { latest = Pay d; earlier = ks; kept_is = e; left_is = refl; effects = refl })
+      (ap (λ (t : Store). counted here i act.UndoOne (answer.Undone (length ks)) t [] here.definitions)
+      (sym (ap (undone here.store i (txn p i)) e
+      ∙ ap (λ (v : ViewRows). record (undone here.store i (txn p i) (Pay d ∷ ks)) { view = v }) (add_is (negated d) p.view sorted.view))))
+
+  pub undoes_so : T (test p i undoes) → Step here i act.UndoOne (said_of p i undoes) (state_of (after p i undoes))
+  undoes_so h =
+      let is_open : Bool = is_some (p.of.store.open_of i) in
+      let more = right_one (is_session i) (is_open && not (is_nil (txn p i).kept)) h in
+      undoes_by (session_is i (left_one (is_session i) (is_open && not (is_nil (txn p i).kept)) h)) (there_is (p.of.store.open_of i) idle (left_one is_open (not (is_nil (txn p i).kept)) more)) (txn p i).kept refl (right_one is_open (not (is_nil (txn p i).kept)) more)
+
+  pub ends_so : T (test p i ends) → Step here i act.End answer.Ended (state_of (after p i ends))
+  ends_so h =
+      let is_open : Bool = is_some (p.of.store.open_of i) in
+      let more = right_one (is_session i) (is_open && is_nil (txn p i).kept) h in
+      step act.End answer.Ended (Ends ∷ []) (state_of (after p i ends)) (
+        record {
+          of_session = session_is i (left_one (is_session i) (is_open && is_nil (txn p i).kept) h);
+          transaction = txn p i;
+          is_open = there_is (p.of.store.open_of i) idle (left_one is_open (is_nil (txn p i).kept) more);
+        },
+        nil_is (txn p i).kept (right_one is_open (is_nil (txn p i).kept) more),
+      )
+      refl refl
+
+  -- ---- Commit
+
+  changed : (l : List RowChange) (es : List Effect) → T (not (is_nil l)) → es ≡ Commits ∷ [] → CommitsAs here.store i l (number_of p + 1) es
+  changed [] es h e = absurd h
+  changed (c ∷ cs) es h e = (ap (λ n. n + 1) number_is, e)
+
+  pub commits_so : T (test p i commits) → Step here i act.Commit (answer.Committed (number_of p + 1)) (state_of (after p i commits))
+  commits_so h =
+      let some : Bool = not (is_nil (changes_of (txn p i).kept)) in
+      let entry : ℕ → Entry = λ n. record { number = n + 1; session = i; kept = entry_changes (txn p i).kept } in
+      step act.Commit (answer.Committed (number_of p + 1)) (Commits ∷ []) (state_of (after p i commits))
+      (inl (ready (left_one (is_ready p i) some h)))
+      (changed (changes_of (txn p i).kept) (Commits ∷ []) (right_one (is_ready p i) some h) refl)
+      (ap (λ (l : List Entry). counted here i act.Commit (answer.Committed (number_of p + 1)) (record (with_txn here.store i None) { history = l }) [] here.definitions)
+      (map-append entry_of p.sold (record { number = number_of p + 1; session = i; changes = reverse (changes_of (txn p i).kept) } ∷ [])
+      ∙ ap (λ n. map entry_of p.sold ++ entry n ∷ []) number_is))
+
+  left_may : (m : Mode) → (txn p i).mode ≡ m → T (goes_on p i) → (txn p i).owed ≡ [] → IsReady here.store i Serial ⊎ IsReady here.store i Snapshot
+  left_may Serial e h o = inl (record { goes_on = going Serial h e; owes_nothing = o })
+  left_may Snapshot e h o = inr (record { goes_on = going Snapshot h e; owes_nothing = o })
+
+  pub leaves_so : T (test p i leaves) → Step here i act.Commit (answer.Committed (number_left p i)) (state_of (after p i leaves))
+  leaves_so h =
+      let none : Bool = is_nil (changes_of (txn p i).kept) in
+      let more = right_one (goes_on p i) (is_nil (txn p i).owed && none) h in
+      step act.Commit (answer.Committed (number_left p i)) (Ends ∷ []) (state_of (after p i leaves))
+      (left_may (txn p i).mode refl (left_one (goes_on p i) (is_nil (txn p i).owed && none) h) (nil_is (txn p i).owed (left_one (is_nil (txn p i).owed) none more)))
+      (subst (λ (l : List RowChange). CommitsAs here.store i l (number_left p i) (Ends ∷ [])) (sym (nil_is (changes_of (txn p i).kept) (right_one (is_nil (txn p i).owed) none more)))
+      (ap (λ (n : ℕ). elim (txn p i).mode [ Serial ↦ n | Snapshot ↦ (txn p i).number ]) number_is, refl))
+      refl

@@ -1,0 +1,58 @@
+-- Each move that passes its test is a step, and moves one after the other are a run.
+use Rattle.std.specs.Prelude.{◌≡◌, ℕ, ◌≤◌, nat_le, ◌&&◌, T, List, [], ◌∷◌}
+use mathlib.Core.Path.{refl, sym, subst}
+use Rattle.std.specs.FinMap.{empty}
+use Rattle.txn_machine.specs.Store.{opened}
+use Rattle.txn_machine.specs.State.{State, opened_state}
+use Rattle.txn_machine.specs.Steps.{Step, Run}
+use Rattle.txn_machine.specs.Example.{shop_database}
+use Rattle.txn_machine.proofs.Playing.{put_in, Plain, state_of, start, txn, owes, lacks_first, makes_first, pays_first, refuses_first, Move, act_of, said_of, test, after, is_in_order, Turn, fine, told, played, begins, fetches, views, puts, lacks, makes, pays, undoes, ends, commits, leaves, refuses, blocks, deadlocks, peeks, cleans_none, cleans, prunes}
+use Rattle.txn_machine.proofs.Tabled.{none_is}
+use Rattle.txn_machine.proofs.Testing.{left_one, right_one, at_most}
+use Rattle.txn_machine.proofs.MovesAlone.{Sorted, in_order, begins_so, fetches_so, views_so, puts_so, lacks_by, makes_by, pays_by, undoes_so, ends_so, commits_so, leaves_so}
+use Rattle.txn_machine.proofs.MovesWaiting.{refuses_by, blocks_so, deadlocks_so}
+use Rattle.txn_machine.proofs.MovesCleaning.{peeks_so, cleans_none_so, cleans_so, prunes_so}
+
+module _ (p : Plain) (i : ℕ) (sorted : Sorted p) (session : i ≤ 64) where
+  pub sound : (m : Move) → T (test p i m) → Step (state_of p) i (act_of m) (said_of p i m) (state_of (after p i m))
+  sound (begins mode) h = begins_so p i sorted session mode h
+  sound (fetches key) h = fetches_so p i sorted session key h
+  sound (views interval shops) h = views_so p i sorted session interval shops h
+  sound (puts key new) h = puts_so p i sorted session key new h
+  sound lacks h = lacks_by p i sorted session (left_one (owes p i) (lacks_first p i (txn p i).owed) h) (txn p i).owed refl (right_one (owes p i) (lacks_first p i (txn p i).owed) h)
+  sound makes h = makes_by p i sorted session (left_one (owes p i) (makes_first p i (txn p i).owed) h) (txn p i).owed refl (right_one (owes p i) (makes_first p i (txn p i).owed) h)
+  sound pays h = pays_by p i sorted session (left_one (owes p i) (pays_first p i (txn p i).owed) h) (txn p i).owed refl (right_one (owes p i) (pays_first p i (txn p i).owed) h)
+  sound undoes h = undoes_so p i sorted session h
+  sound ends h = ends_so p i sorted session h
+  sound commits h = commits_so p i sorted session h
+  sound leaves h = leaves_so p i sorted session h
+  sound (refuses column) h = refuses_by p i sorted session column (left_one (owes p i) (refuses_first p i (txn p i).owed column) h) (txn p i).owed refl (right_one (owes p i) (refuses_first p i (txn p i).owed column) h)
+  sound (blocks sessions) h = blocks_so p i sorted session sessions h
+  sound (deadlocks other mine theirs) h = deadlocks_so p i sorted session other mine theirs h
+  sound (peeks interval) h = peeks_so p i sorted session interval h
+  sound cleans_none h = cleans_none_so p i sorted session h
+  sound (cleans place) h = cleans_so p i sorted session place h
+  sound prunes h = prunes_so p i sorted session h
+
+-- ---- moves one after the other
+
+pub runs : (p : Plain) (ts : List Turn) → T (fine p ts) → Run (state_of p) (told p ts) (state_of (played p ts))
+runs p [] h = refl
+runs p (t ∷ ts) h =
+    let next : Plain = after p t.session t.move in
+    let h1 = right_one (is_in_order p) (nat_le t.session 64 && (test p t.session t.move && fine next ts)) h in
+    let h2 = right_one (nat_le t.session 64) (test p t.session t.move && fine next ts) h1 in (
+      state_of next,
+      sound p t.session (in_order p (left_one (is_in_order p) (nat_le t.session 64 && (test p t.session t.move && fine next ts)) h)) (at_most t.session 64 (left_one (nat_le t.session 64) (test p t.session t.move && fine next ts) h1)) t.move (left_one (test p t.session t.move) (fine next ts) h2),
+      runs next ts (right_one (test p t.session t.move) (fine next ts) h2),
+    )
+
+-- the moves begin where the example does
+pub start_is : state_of start ≡ opened_state (opened shop_database empty)
+start_is = λ j. put_in (opened_state (opened shop_database empty)) [] (sym none_is j) (sym none_is j)
+
+pub run_to : (ts : List Turn) → T (fine start ts) → Run (opened_state (opened shop_database empty)) (told start ts) (state_of (played start ts))
+run_to ts h = subst (λ (s : State). Run s (told start ts) (state_of (played start ts))) start_is (runs start ts h)
+
+pub run_of : (ts : List Turn) → T (fine start ts) → (after : State) × Run (opened_state (opened shop_database empty)) (told start ts) after
+run_of ts h = (state_of (played start ts), run_to ts h)

@@ -1,0 +1,287 @@
+-- What the tests of moves tell.
+use Rattle.std.specs.Prelude.{◌≡◌, ◌≢◌, ◌⊎◌, ℕ, zero, suc, ◌≤◌, ◌<◌, ◌-◌, ◌^◌, ◌==◌, nat_le, cond, Bool, true, false, not, ◌&&◌, ◌||◌, T, List, [], ◌∷◌, ℤ, pos, negsuc, Option, Some, None, is_some, IfSome}
+use Rattle.std.specs.List.{Contains}
+use Rattle.std.specs.Option.{unwrap_or, option_map_or}
+use mathlib.Core.Path.{refl, sym, subst}
+use mathlib.Core.Logic.{inl, inr}
+use Rattle.std.proofs.Common.{arith, leb-true, eqb-true, eq-eqb}
+use Rattle.std.specs.declared.cmp.Ordering.{Ordering}
+use Rattle.std.specs.declared.cmp.Ordering.TheVariants.{Less, Equal, Greater}
+use Rattle.std.specs.Ordering.{nat_cmp, is_gt, is_lt}
+use Rattle.std.specs.Cmp.Lexicographic.{slice_cmp}
+use Rattle.iv_types.specs.declared.statement.Mode.{Mode}
+use Rattle.iv_types.specs.declared.statement.Mode.TheVariants.{Serial, Snapshot}
+use Rattle.iv_types.specs.declared.lock.LockMode.{LockMode}
+use Rattle.iv_types.specs.declared.lock.LockMode.TheVariants.{Share, Exclusive, Increment}
+use Rattle.iv_types.specs.declared.lock.Want.{Want}
+use Rattle.iv_types.specs.declared.value.Interval.{Interval}
+use Rattle.iv_types.specs.Encoding.{IsHuge}
+use Rattle.iv_types.specs.Intervals.{IsBelow, LiesIn, HaveCommonKey}
+use Rattle.row_codec.specs.Ranges.{IsGreater}
+use Rattle.row_codec.proofs.RangeLaws.{greater_is_a, greater_is_b, common_key, common_before_a, common_before_b}
+use Rattle.table_laws.proofs.Stored.{by_session}
+use Rattle.iv_meaning.specs.Escrow.{IsSession}
+use Rattle.iv_meaning.specs.Values.{is_huge}
+use Rattle.iv_meaning.specs.View.{lies_in}
+use Rattle.txn_machine.specs.Locks.{Agree, Conflict, Meet, IsInTheWay}
+use Rattle.txn_machine.proofs.Holding.{by_contains, contains_here, contains_next, contains_none}
+use Rattle.txn_machine.proofs.Playing.{is_session, each_to, each_of, some_of, is_serial, is_nil, agree, greater_low, is_below, have_common, clash, clash_any, in_way, all_below}
+
+-- ---- two tests
+
+pub is_true : (b : Bool) → T b → b ≡ true
+is_true true h = refl
+is_true false h = absurd h
+
+pub holds : (b : Bool) → b ≡ true → T b
+holds b e = subst T (sym e) tt
+
+pub left_one : (a b : Bool) → T (a && b) → T a
+left_one true b h = tt
+left_one false b h = h
+
+pub right_one : (a b : Bool) → T (a && b) → T b
+right_one true b h = h
+right_one false b h = absurd h
+
+pub both : (a b : Bool) → T a → T b → T (a && b)
+both true b h k = k
+both false b h k = h
+
+pub either : (a b : Bool) → T (a || b) → T a ⊎ T b
+either true b h = inl tt
+either false b h = inr h
+
+pub or_left : (a b : Bool) → T a → T (a || b)
+or_left true b h = tt
+or_left false b h = absurd h
+
+pub or_right : (a b : Bool) → T b → T (a || b)
+or_right true b h = tt
+or_right false b h = h
+
+pub not_so : (b : Bool) → T (not b) → T b → ⊥
+not_so true h k = h
+not_so false h k = k
+
+pub not_that : (b : Bool) → (T b → ⊥) → T (not b)
+not_that true h = h tt
+not_that false h = tt
+
+pub at_most : (a b : ℕ) → T (nat_le a b) → a ≤ b
+at_most a b h = leb-true a b (is_true (nat_le a b) h)
+
+pub equal : (a b : ℕ) → T (a == b) → a ≡ b
+equal a b h = eqb-true a b (is_true (a == b) h)
+
+pub not_equal : (a b : ℕ) → T (not (a == b)) → a ≢ b
+not_equal a b h e = not_so (a == b) h (holds (a == b) (eq-eqb a b e))
+
+pub differ_so : (a b : ℕ) → a ≢ b → T (not (a == b))
+differ_so a b n = not_that (a == b) (λ h. n (equal a b h))
+
+pub there_is : {X : Type 0} (o : Option X) (x : X) → T (is_some o) → o ≡ Some (unwrap_or o x)
+there_is None x h = absurd h
+there_is (Some y) x h = refl
+
+pub none_is_there : {X : Type 0} (o : Option X) → T (not (is_some o)) → o ≡ None
+none_is_there None h = refl
+none_is_there (Some y) h = absurd h
+
+pub serial_is : (m : Mode) → T (is_serial m) → m ≡ Serial
+serial_is Serial h = refl
+serial_is Snapshot h = absurd h
+
+pub nil_is : {X : Type 0} (xs : List X) → T (is_nil xs) → xs ≡ []
+nil_is [] h = refl
+nil_is (x ∷ xs) h = absurd h
+
+pub not_nil : {X : Type 0} (xs : List X) → T (not (is_nil xs)) → xs ≢ []
+not_nil [] h e = h
+not_nil (x ∷ xs) h e = absurd (cc)
+
+pub false_is : (b : Bool) → T (not b) → b ≡ false
+false_is true h = absurd h
+false_is false h = refl
+
+pub session_is : (i : ℕ) → T (is_session i) → IsSession i
+session_is i h = (at_most 1 i (left_one (nat_le 1 i) (nat_le i 64) h), at_most i 64 (right_one (nat_le 1 i) (nat_le i 64) h))
+
+-- ---- each and some
+
+pub each_so : (n : ℕ) (f : ℕ → Bool) (i : ℕ) → T (each_to n f) → 1 ≤ i → i ≤ n → T (f i)
+each_so zero f i h l m = absurd (omega (arith, l, m))
+each_so (suc n) f i h l m = by_session i (suc n)
+    (λ e. subst (λ x. T (f x)) (sym e) (left_one (f (suc n)) (each_to n f) h))
+    (λ differ. each_so n f i (right_one (f (suc n)) (each_to n f) h) l (omega (arith, m, differ)))
+
+pub below_so : (n : ℕ) (f : ℕ → Bool) (i : ℕ) → T (all_below n f) → i < n → T (f i)
+below_so zero f i h l = absurd (omega (arith, l))
+below_so (suc n) f i h l = by_session i n
+    (λ e. subst (λ x. T (f x)) (sym e) (left_one (f n) (all_below n f) h))
+    (λ differ. below_so n f i (right_one (f n) (all_below n f) h) (omega (arith, l, differ)))
+
+pub each_in : {X : Type 0} (f : X → Bool) (xs : List X) (x : X) → T (each_of f xs) → Contains xs x → T (f x)
+each_in f [] x h c = absurd (contains_none x c)
+each_in f (y ∷ xs) x h c = by_contains y xs x c (λ e. subst (λ z. T (f z)) e (left_one (f y) (each_of f xs) h)) (λ d. each_in f xs x (right_one (f y) (each_of f xs) h) d)
+
+pub some_in : {X : Type 0} (f : X → Bool) (xs : List X) (x : X) → Contains xs x → T (f x) → T (some_of f xs)
+some_in f [] x c h = absurd (contains_none x c)
+some_in f (y ∷ xs) x c h = by_contains y xs x c (λ e. or_left (f y) (some_of f xs) (subst (λ z. T (f z)) (sym e) h)) (λ d. or_right (f y) (some_of f xs) (some_in f xs x d h))
+
+pub record Among {X : Type 0} (f : X → Bool) (xs : List X) : Type 0 where
+  pub one : X
+  pub there : Contains xs one
+  pub so : T (f one)
+
+pub some_is : {X : Type 0} (f : X → Bool) (xs : List X) → T (some_of f xs) → Among f xs
+some_is f [] h = absurd h
+some_is f (x ∷ xs) h = elim (either (f x) (some_of f xs) h) [
+  | inl k ↦ record { one = x; there = contains_here x xs; so = k }
+  | inr k ↦ let a = some_is f xs k in record { one = a.one; there = contains_next x xs a.one a.there; so = a.so }
+]
+
+-- ---- numbers in range
+
+huge_pos : (n : ℕ) → nat_le n (2 ^ 127 - 1) ≡ true → IsHuge (pos n)
+huge_pos n e = let le : n ≤ 2 ^ 127 - 1 = leb-true n (2 ^ 127 - 1) e in (record { sfits = omega arith }, λ f. absurd (cc))
+
+huge_neg : (n : ℕ) → nat_le n (2 ^ 127 - 2) ≡ true → IsHuge (negsuc n)
+huge_neg n e =
+    let le : n ≤ 2 ^ 127 - 2 = leb-true n (2 ^ 127 - 2) e in
+    (record { sfits = omega arith }, λ f. let g : n ≡ 2 ^ 127 - 1 = cc in omega (arith, g))
+
+pub huge_is : (n : ℤ) → T (is_huge n) → IsHuge n
+huge_is (pos n) h = huge_pos n (is_true (nat_le n (2 ^ 127 - 1)) h)
+huge_is (negsuc n) h = huge_neg n (is_true (nat_le n (2 ^ 127 - 2)) (left_one (nat_le n (2 ^ 127 - 2)) true h))
+
+-- ---- keys and intervals
+
+not_greater : (o : Ordering) → T (cond (is_gt o) false true) → o ≢ Greater
+not_greater Less h e = absurd (cc)
+not_greater Equal h e = absurd (cc)
+not_greater Greater h e = h
+
+not_greater_so : (o : Ordering) → o ≢ Greater → T (cond (is_gt o) false true)
+not_greater_so Less n = tt
+not_greater_so Equal n = tt
+not_greater_so Greater n = n refl
+
+less_is : (o : Ordering) → T (is_lt o) → o ≡ Less
+less_is Less h = refl
+less_is Equal h = absurd h
+less_is Greater h = absurd h
+
+less_so : (o : Ordering) → o ≡ Less → T (is_lt o)
+less_so o e = subst (λ x. T (is_lt x)) (sym e) tt
+
+below_is : (low : List ℕ) (high : Option (List ℕ)) → T (is_below low high) → IfSome high (λ end. IsBelow low end)
+below_is low None h = tt
+below_is low (Some end) h = less_is (slice_cmp nat_cmp low end) h
+
+below_holds : (low : List ℕ) (high : Option (List ℕ)) → IfSome high (λ end. IsBelow low end) → T (is_below low high)
+below_holds low None h = tt
+below_holds low (Some end) h = less_so (slice_cmp nat_cmp low end) h
+
+greater_is : (a b : List ℕ) → IsGreater a b (greater_low a b)
+greater_is a b = go (is_lt (slice_cmp nat_cmp a b)) refl
+  where
+    go : (t : Bool) → is_lt (slice_cmp nat_cmp a b) ≡ t → IsGreater a b (cond t b a)
+    go true e = greater_is_b a b (less_is (slice_cmp nat_cmp a b) (holds (is_lt (slice_cmp nat_cmp a b)) e))
+    go false e = greater_is_a a b (λ l. subst T e (less_so (slice_cmp nat_cmp a b) l))
+
+pub common_is : (a b : Interval) → T (have_common a b) → HaveCommonKey a b
+common_is a b h =
+    let low : List ℕ = greater_low a.low b.low in
+    common_key a b low (greater_is a.low b.low) (below_is low a.high (left_one (is_below low a.high) (is_below low b.high) h)) (below_is low b.high (right_one (is_below low a.high) (is_below low b.high) h))
+
+pub common_so : (a b : Interval) → HaveCommonKey a b → T (have_common a b)
+common_so a b k =
+    let low : List ℕ = greater_low a.low b.low in
+    both (is_below low a.high) (is_below low b.high)
+    (below_holds low a.high (common_before_a a b low (greater_is a.low b.low) k))
+    (below_holds low b.high (common_before_b a b low (greater_is a.low b.low) k))
+
+-- ---- locks
+
+agree_is : (a b : LockMode) → T (not (agree a b)) → Agree a b → ⊥
+agree_is Share Share h g = h
+agree_is Share Exclusive h g = g
+agree_is Share Increment h g = g
+agree_is Exclusive Share h g = g
+agree_is Exclusive Exclusive h g = g
+agree_is Exclusive Increment h g = g
+agree_is Increment Share h g = g
+agree_is Increment Exclusive h g = g
+agree_is Increment Increment h g = h
+
+agree_so : (a b : LockMode) → (Agree a b → ⊥) → T (not (agree a b))
+agree_so Share Share h = h tt
+agree_so Share Exclusive h = tt
+agree_so Share Increment h = tt
+agree_so Exclusive Share h = tt
+agree_so Exclusive Exclusive h = tt
+agree_so Exclusive Increment h = tt
+agree_so Increment Share h = tt
+agree_so Increment Exclusive h = tt
+agree_so Increment Increment h = h tt
+
+clash_is : (l w : Want) → T (clash l w) → Conflict l w
+clash_is l w h =
+    let more = right_one (l.index == w.index) (have_common l.interval w.interval && not (agree l.mode w.mode)) h in
+    record {
+      one_index = equal l.index w.index (left_one (l.index == w.index) (have_common l.interval w.interval && not (agree l.mode w.mode)) h);
+      common_key = common_is l.interval w.interval (left_one (have_common l.interval w.interval) (not (agree l.mode w.mode)) more);
+      modes = agree_is l.mode w.mode (right_one (have_common l.interval w.interval) (not (agree l.mode w.mode)) more);
+    }
+
+clash_so : (l w : Want) → Conflict l w → T (clash l w)
+clash_so l w c =
+    both (l.index == w.index) (have_common l.interval w.interval && not (agree l.mode w.mode))
+    (holds (l.index == w.index) (eq-eqb l.index w.index c.one_index))
+    (both (have_common l.interval w.interval) (not (agree l.mode w.mode)) (common_so l.interval w.interval c.common_key) (agree_so l.mode w.mode c.modes))
+
+pub meet_is : (locks wants : List Want) → T (clash_any locks wants) → Meet locks wants
+meet_is locks wants h =
+    let a = some_is (λ l. some_of (clash l) wants) locks h in
+    let b = some_is (clash a.one) wants a.so in
+    record { lock = a.one; held = a.there; want = b.one; wanted = b.there; conflict = clash_is a.one b.one b.so }
+
+pub meet_so : (locks wants : List Want) → Meet locks wants → T (clash_any locks wants)
+meet_so locks wants m = some_in (λ l. some_of (clash l) wants) locks m.lock m.held (some_in (clash m.lock) wants m.want m.wanted (clash_so m.lock m.want m.conflict))
+
+pub in_way_is : (locks : ℕ → List Want) (i : ℕ) (wants : List Want) (j : ℕ) → IsSession j → T (in_way locks i wants j) → IsInTheWay locks i wants j
+in_way_is locks i wants j is h = record {
+  of_session = is;
+  not_itself = not_equal j i (left_one (not (j == i)) (clash_any (locks j) wants) h);
+  meet = meet_is (locks j) wants (right_one (not (j == i)) (clash_any (locks j) wants) h);
+}
+
+pub in_way_so : (locks : ℕ → List Want) (i : ℕ) (wants : List Want) (j : ℕ) → IsInTheWay locks i wants j → T (in_way locks i wants j)
+in_way_so locks i wants j w = both (not (j == i)) (clash_any (locks j) wants) (differ_so j i w.not_itself) (meet_so (locks j) wants w.meet)
+
+-- nobody is in the way
+pub free_is : (locks : ℕ → List Want) (i : ℕ) (wants : List Want) → T (each_to 64 (λ j. not (in_way locks i wants j))) → (j : ℕ) → IsInTheWay locks i wants j → ⊥
+free_is locks i wants h j w = not_so (in_way locks i wants j) (each_so 64 (λ j. not (in_way locks i wants j)) j h w.of_session.0 w.of_session.1) (in_way_so locks i wants j w)
+
+-- ---- keys in intervals
+
+high_is : (key : List ℕ) (high : Option (List ℕ)) → T (option_map_or (λ end. is_lt (slice_cmp nat_cmp key end)) high true) → IfSome high (λ end. IsBelow key end)
+high_is key None h = tt
+high_is key (Some end) h = less_is (slice_cmp nat_cmp key end) h
+
+high_so : (key : List ℕ) (high : Option (List ℕ)) → IfSome high (λ end. IsBelow key end) → T (option_map_or (λ end. is_lt (slice_cmp nat_cmp key end)) high true)
+high_so key None h = tt
+high_so key (Some end) h = less_so (slice_cmp nat_cmp key end) h
+
+pub lies_is : (key : List ℕ) (interval : Interval) → T (lies_in key interval) → LiesIn key interval
+lies_is key interval h =
+    let low : Bool = cond (is_gt (slice_cmp nat_cmp interval.low key)) false true in
+    let high : Bool = option_map_or (λ end. is_lt (slice_cmp nat_cmp key end)) interval.high true in
+    (not_greater (slice_cmp nat_cmp interval.low key) (left_one low high h), high_is key interval.high (right_one low high h))
+
+pub lies_so : (key : List ℕ) (interval : Interval) → LiesIn key interval → T (lies_in key interval)
+lies_so key interval h =
+    let low : Bool = cond (is_gt (slice_cmp nat_cmp interval.low key)) false true in
+    let high : Bool = option_map_or (λ end. is_lt (slice_cmp nat_cmp key end)) interval.high true in
+    both low high (not_greater_so (slice_cmp nat_cmp interval.low key) h.0) (high_so key interval.high h.1)
