@@ -21,8 +21,8 @@ mod selecting;
 mod told;
 mod tuples;
 
-pub use engine::ListEngine;
 pub use copying::{add, copied_catalog};
+pub use engine::ListEngine;
 pub use evaluating::{has_rows, look_at, view_afresh};
 pub use fetching::fetch;
 pub use reading::lies_in;
