@@ -38,7 +38,7 @@ huge_so (negsuc n) f =
     let differ : n ≢ 2 ^ 127 - 1 = λ e. f.1 (ap negsuc e) in
     both (nat_le n (2 ^ 127 - 2)) true (holds (nat_le n (2 ^ 127 - 2)) (le-leb n (2 ^ 127 - 2) (omega (arith, lt, differ)))) tt
 
-inf_is : (a : Account) → inf_in a ≡ inf a
+pub inf_is : (a : Account) → inf_in a ≡ inf a
 unfolding over_sessions
 inf_is a = refl
 
@@ -72,7 +72,7 @@ owed_some (d ∷ ds) h = record { first = d; others = ds; is = refl }
 
 module _ (p : Plain) (i : ℕ) (sorted : Sorted p) (session : i ≤ 64) where
   -- the test tells whether a column allows a delta
-  allows_back : (d : GroupDelta) (column : ℕ) → IsAllowed (account_in p (place_of d) column) i (worth column d) → T (allows p i d column)
+  pub allows_back : (d : GroupDelta) (column : ℕ) → IsAllowed (account_in p (place_of d) column) i (worth column d) → T (allows p i d column)
   allows_back d column a =
       let k : Account = account_in p (place_of d) column in
       let b : Account = with_increment k i (worth column d) in

@@ -63,26 +63,47 @@ one_rolls_back = run_of (one_undoing showing) tt
 
 -- ---- longer runs
 
-pub deleted_comes_back : DeletedComesBack
-deleted_comes_back = run_of (
-    turn 1 (begins Serial) ∷ inserting_first 1 one_sale (turn 1 commits ∷
-    turn 1 (begins Serial) ∷ deleting 1 one_sale (turn 0 cleans_none ∷ turn 1 (views all_keys []) ∷ taking_back 1 2 (
-    turn 2 (begins Serial) ∷ turn 2 (views all_keys (pos 7 ∷ [])) ∷ turn 2 leaves ∷ [])))) tt
+-- the only sale of a shop is deleted
+abbrev pub one_deleting : List Turn → List Turn
+one_deleting more = turn 1 (begins Serial) ∷ inserting_first 1 one_sale (turn 1 commits ∷ turn 1 (begins Serial) ∷ deleting 1 one_sale more)
 
-pub undo_is_covered : UndoIsCovered
-undo_is_covered = run_of (
+pub deleted_comes_back : DeletedComesBack
+deleted_comes_back = run_of (one_deleting (
+    turn 0 cleans_none ∷ turn 1 (views all_keys []) ∷ taking_back 1 2 (
+    turn 2 (begins Serial) ∷ turn 2 (views all_keys (pos 7 ∷ [])) ∷ turn 2 leaves ∷ []))) tt
+
+-- the second session's pay is too near to the end of the range
+abbrev pub other_near : List Turn → List Turn
+other_near more =
     turn 1 (begins Serial) ∷ inserting_first 1 (sale_row 1 7 (most - 10)) (turn 1 commits ∷
     turn 1 (begins Serial) ∷ inserting 1 small_sale (deleting 1 small_sale (
-    turn 2 (begins Serial) ∷ putting 2 refused_sale (turn 2 (refuses 1) ∷
-    turn 1 commits ∷ taking_back 2 1 (turn 2 (begins Serial) ∷ inserting 2 refused_sale (turn 2 commits ∷ []))))))) tt
+    turn 2 (begins Serial) ∷ putting 2 refused_sale more)))
+
+pub undo_is_covered : UndoIsCovered
+undo_is_covered = run_of (other_near (turn 2 (refuses 1) ∷
+    turn 1 commits ∷ taking_back 2 1 (turn 2 (begins Serial) ∷ inserting 2 refused_sale (turn 2 commits ∷ [])))) tt
+
+abbrev two_selling : List Turn → List Turn
+two_selling more = turn 1 (begins Serial) ∷ inserting_first 1 (sale_row 1 1 10) (inserting_first 1 (sale_row 2 2 20) (turn 1 commits ∷ more))
+
+-- reads the row of a shop
+abbrev viewing : ℕ → ℕ → Turn
+viewing i shop = turn i (views (shop_point shop) (pos shop ∷ []))
+
+abbrev pub one_crossing : List Turn → List Turn
+one_crossing more = two_selling (turn 1 (begins Serial) ∷ turn 2 (begins Serial) ∷ viewing 1 1 ∷ viewing 2 2 ∷ putting 1 (sale_row 3 2 5) more)
 
 pub ring_is_refused : RingIsRefused
-ring_is_refused = run_of (
-    turn 1 (begins Serial) ∷ inserting_first 1 (sale_row 1 1 10) (inserting_first 1 (sale_row 2 2 20) (turn 1 commits ∷
-    turn 1 (begins Serial) ∷ turn 2 (begins Serial) ∷ turn 1 (views (shop_point 1) (pos 1 ∷ [])) ∷ turn 2 (views (shop_point 2) (pos 2 ∷ [])) ∷
-    putting 1 (sale_row 3 2 5) (turn 1 (blocks (record { bits = 2 })) ∷
+ring_is_refused = run_of (one_crossing (turn 1 (blocks (record { bits = 2 })) ∷
     putting 2 (sale_row 4 1 5) (turn 2 (deadlocks 1 (record { bits = 1 }) (record { bits = 2 })) ∷
-    taking_back 2 1 (turn 1 pays ∷ turn 1 commits ∷ [])))))) tt
+    taking_back 2 1 (turn 1 pays ∷ turn 1 commits ∷ [])))) tt
+
+abbrev pub three_crossing : List Turn → List Turn
+three_crossing more = two_selling (
+    turn 1 (begins Serial) ∷ turn 2 (begins Serial) ∷ turn 3 (begins Serial) ∷ viewing 1 1 ∷ viewing 2 2 ∷ viewing 3 1 ∷
+    putting 3 (sale_row 5 1 5) (turn 3 (blocks (record { bits = 1 })) ∷
+    putting 1 (sale_row 3 2 5) (turn 1 (blocks (record { bits = 2 })) ∷
+    putting 2 (sale_row 4 1 5) more)))
 
 pub snapshot_is_kept : SnapshotIsKept
 snapshot_is_kept = run_of (

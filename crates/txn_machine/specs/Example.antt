@@ -1,16 +1,18 @@
 -- Runs that the step relation allows, and answers that it refuses, of a shop's sales and a view of them.
-use Rattle.std.specs.Prelude.{ℕ, zero, suc, ◌-◌, ◌^◌, ℤ, pos, List, [], ◌∷◌, replicate, Some, None}
+use Rattle.std.specs.Prelude.{ℕ, zero, suc, ◌+◌, ◌-◌, ◌^◌, pos, List, [], ◌∷◌, replicate, Some, None}
 use Rattle.std.specs.FinMap.{empty}
 use Rattle.iv_types.specs.declared.statement.Mode.TheVariants.{Serial, Snapshot}
 use Rattle.iv_types.specs.declared.lock.LockMode.TheVariants.{Share, Exclusive}
 use Rattle.iv_types.specs.declared.lock.GroupDelta.{GroupDelta}
 use Rattle.iv_types.specs.declared.session.Cycle.{Cycle}
+use Rattle.iv_types.specs.declared.session.Sessions.{Sessions}
 use Rattle.iv_types.specs.declared.value.Value.TheVariants.{Number}
 use Rattle.iv_types.specs.declared.value.Interval.{Interval}
 use Rattle.iv_types.specs.Encoding.{key_bytes}
 use Rattle.iv_types.specs.Intervals.{point}
 use Rattle.iv_meaning.specs.Schema.{group_kinds}
 use Rattle.iv_meaning.specs.Database.{Row, key_of}
+use Rattle.iv_meaning.specs.Waits.{nobody}
 pub use Rattle.iv_meaning.specs.SerialExample.{sale, by_shop, shop_database}
 use Rattle.iv_types.specs.declared.refusal.EngineRefusal.TheVariants as refusal
 use Rattle.txn_machine.specs.Acts as act
@@ -27,99 +29,14 @@ use Rattle.txn_machine.specs.Laws.{IsOpened}
 abbrev pub ShopOpened : Type 0
 ShopOpened = IsOpened shop_database empty
 
--- the sale 1 of shop 7, of 10
-abbrev pub one_sale : Row
-one_sale = Number (pos 1) ∷ Number (pos 7) ∷ Number (pos 10) ∷ []
+-- these steps may come one after another, from the shop as it is opened
+abbrev pub MayRun : List Did → Type 0
+MayRun steps = (after : State) × Run (opened_state (opened shop_database empty)) steps after
 
-abbrev pub sale_key : List ℕ
-sale_key = key_of sale one_sale
-
--- what it adds to the group of shop 7
-abbrev pub one_delta : GroupDelta
-one_delta = contribution shop_database.schema by_shop (one_sale ∷ [])
-
-abbrev pub insert_steps : List Did
-insert_steps =
-    record { session = 1; act = act.Begin Serial; said = answer.Begun 2 2 }
-    ∷ record { session = 1; act = act.Fetch 1 (point sale_key) Exclusive; said = answer.Rows [] }
-    ∷ record { session = 1; act = act.Put 1 sale_key (Some one_sale); said = answer.Changed None (one_delta ∷ []) }
-    ∷ record { session = 1; act = act.Pay; said = answer.NeedsGhost }
-    ∷ record { session = 1; act = act.Ghost; said = answer.Ghosted }
-    ∷ record { session = 1; act = act.Pay; said = answer.Paid 0 }
-    ∷ record { session = 1; act = act.Commit; said = answer.Committed 3 }
-    ∷ []
-
-abbrev pub InsertRuns : Type 0
-InsertRuns = (after : State) × Run (opened_state (opened shop_database empty)) insert_steps after
-
--- ---- two open inserts into one group
-
--- the sale 2 of shop 7, of 5
-abbrev pub other_sale : Row
-other_sale = Number (pos 2) ∷ Number (pos 7) ∷ Number (pos 5) ∷ []
-
-abbrev pub other_key : List ℕ
-other_key = key_of sale other_sale
-
--- what it adds to the group of shop 7
-abbrev pub other_delta : GroupDelta
-other_delta = contribution shop_database.schema by_shop (other_sale ∷ [])
+-- ---- what sessions do
 
 abbrev pub did : ℕ → Act → Answer → Did
 did session act said = record { session = session; act = act; said = said }
-
--- two sessions begin, and the first puts the sale 1
-abbrev pub one_puts : List Did → List Did
-one_puts more =
-    did 1 (act.Begin Serial) (answer.Begun 2 2)
-    ∷ did 2 (act.Begin Serial) (answer.Begun 2 2)
-    ∷ did 1 (act.Fetch 1 (point sale_key) Exclusive) (answer.Rows [])
-    ∷ did 1 (act.Put 1 sale_key (Some one_sale)) (answer.Changed None (one_delta ∷ []))
-    ∷ more
-
--- and pays what it owes
-abbrev pub one_pays : List Did → List Did
-one_pays more = one_puts (did 1 act.Pay answer.NeedsGhost ∷ did 1 act.Ghost answer.Ghosted ∷ did 1 act.Pay (answer.Paid 0) ∷ more)
-
--- the second inserts the sale 2 beside it
-abbrev pub both_pay : List Did → List Did
-both_pay more = one_pays (
-    did 2 (act.Fetch 1 (point other_key) Exclusive) (answer.Rows [])
-    ∷ did 2 (act.Put 1 other_key (Some other_sale)) (answer.Changed None (other_delta ∷ []))
-    ∷ did 2 act.Pay (answer.Paid 0)
-    ∷ more)
-
--- and commits
-abbrev pub both_insert : List Did → List Did
-both_insert more = both_pay (did 2 act.Commit (answer.Committed 3) ∷ more)
-
-abbrev pub all_keys : Interval
-all_keys = record { low = []; high = None }
-
--- the third session reads the view at this number: the group of shop 7 alone, with this count and sum
-abbrev pub shows : ℕ → ℤ → ℤ → List Did
-shows number count total =
-    did 3 (act.Begin Serial) (answer.Begun number 2)
-    ∷ did 3 (act.Fetch 2 all_keys Share) (answer.Rows ((Number (pos 7) ∷ Number count ∷ Number total ∷ []) ∷ []))
-    ∷ did 3 act.Commit (answer.Committed number)
-    ∷ []
-
--- the first commits too
-abbrev pub BothCommit : Type 0
-BothCommit = (after : State) × Run (opened_state (opened shop_database empty)) (both_insert (did 1 act.Commit (answer.Committed 4) ∷ shows 4 (pos 2) (pos 15))) after
-
--- or it takes back what it did
-abbrev pub one_undoes : List Did → List Did
-one_undoes more = both_insert (did 1 act.UndoOne (answer.Undone 1) ∷ did 1 act.UndoOne (answer.Undone 0) ∷ did 1 act.End answer.Ended ∷ more)
-
--- and the other's sale stays
-abbrev pub OneRollsBack : Type 0
-OneRollsBack = (after : State) × Run (opened_state (opened shop_database empty)) (one_undoes (shows 3 (pos 1) (pos 5))) after
-
--- ---- longer runs, by what sessions do in them
-
-abbrev pub MayRun : List Did → Type 0
-MayRun steps = (after : State) × Run (opened_state (opened shop_database empty)) steps after
 
 -- a sale by its number, its shop and its amount
 abbrev pub sale_row : ℕ → ℕ → ℕ → Row
@@ -156,8 +73,11 @@ abbrev pub inserts : ℕ → Row → List Did → List Did
 inserts session row more = puts session row (did session act.Pay (answer.Paid 0) ∷ more)
 
 -- or to one that it makes
+abbrev pub makes_and_pays : ℕ → List Did → List Did
+makes_and_pays session more = did session act.Pay answer.NeedsGhost ∷ did session act.Ghost answer.Ghosted ∷ did session act.Pay (answer.Paid 0) ∷ more
+
 abbrev pub inserts_first : ℕ → Row → List Did → List Did
-inserts_first session row more = puts session row (did session act.Pay answer.NeedsGhost ∷ did session act.Ghost answer.Ghosted ∷ did session act.Pay (answer.Paid 0) ∷ more)
+inserts_first session row more = puts session row (makes_and_pays session more)
 
 -- it deletes a sale, and pays what that owes
 abbrev pub deletes : ℕ → Row → List Did → List Did
@@ -166,6 +86,9 @@ deletes session row more =
     ∷ did session (act.Put 1 (key_of sale row) None) (answer.Changed (Some row) (negated (delta_of row) ∷ []))
     ∷ did session act.Pay (answer.Paid 0)
     ∷ more
+
+abbrev pub all_keys : Interval
+all_keys = record { low = []; high = None }
 
 -- it reads these rows of the view
 abbrev pub reads : ℕ → Interval → List Row → List Did → List Did
@@ -176,14 +99,65 @@ abbrev pub takes_back : ℕ → ℕ → List Did → List Did
 takes_back session zero more = did session act.End answer.Ended ∷ more
 takes_back session (suc n) more = did session act.UndoOne (answer.Undone n) ∷ takes_back session n more
 
+-- ---- an insert
+
+-- the sale 1 of shop 7, of 10
+abbrev pub one_sale : Row
+one_sale = sale_row 1 7 10
+
+-- it makes a new group of the view
+abbrev pub InsertRuns : Type 0
+InsertRuns = MayRun (starts 1 2 (inserts_first 1 one_sale (commits 1 3 [])))
+
+-- ---- two open inserts into one group
+
+-- the sale 2 of shop 7, of 5
+abbrev pub other_sale : Row
+other_sale = sale_row 2 7 5
+
+-- two sessions begin, and the first puts the sale 1
+abbrev pub one_puts : List Did → List Did
+one_puts more = starts 1 2 (starts 2 2 (puts 1 one_sale more))
+
+-- and pays what it owes
+abbrev pub one_pays : List Did → List Did
+one_pays more = one_puts (makes_and_pays 1 more)
+
+-- the second inserts the sale 2 beside it
+abbrev pub both_pay : List Did → List Did
+both_pay more = one_pays (inserts 2 other_sale more)
+
+-- and commits
+abbrev pub both_insert : List Did → List Did
+both_insert more = both_pay (commits 2 3 more)
+
+-- the third session reads the view at this number: the group of shop 7 alone, with this count and sum
+abbrev pub shows : ℕ → ℕ → ℕ → List Did
+shows number count total = starts 3 number (reads 3 all_keys (shop_row 7 count total ∷ []) (commits 3 number []))
+
+-- the first commits too
+abbrev pub BothCommit : Type 0
+BothCommit = MayRun (both_insert (commits 1 4 (shows 4 2 15)))
+
+-- or it takes back what it did
+abbrev pub one_undoes : List Did → List Did
+one_undoes more = both_insert (takes_back 1 2 more)
+
+-- and the other's sale stays
+abbrev pub OneRollsBack : Type 0
+OneRollsBack = MayRun (one_undoes (shows 3 1 5))
+
 -- ---- a deleted row comes back
 
--- The only sale of a shop is deleted. Its group is not cleaned before that is committed, and it is read again once it is taken
--- back.
+-- the only sale of a shop is deleted
+abbrev pub one_deletes : List Did → List Did
+one_deletes more = starts 1 2 (inserts_first 1 one_sale (commits 1 3 (starts 1 3 (deletes 1 one_sale more))))
+
+-- Its group is not cleaned before that is committed, and it is read again once it is taken back.
 abbrev pub DeletedComesBack : Type 0
-DeletedComesBack = MayRun (starts 1 2 (inserts_first 1 one_sale (commits 1 3 (
-    starts 1 3 (deletes 1 one_sale (did 0 act.Clean (answer.Cleaned 0) ∷ reads 1 all_keys [] (takes_back 1 2 (
-    starts 2 3 (reads 2 all_keys (shop_row 7 1 10 ∷ []) (commits 2 3 []))))))))))
+DeletedComesBack = MayRun (one_deletes (
+    did 0 act.Clean (answer.Cleaned 0) ∷ reads 1 all_keys [] (takes_back 1 2 (
+    starts 2 3 (reads 2 all_keys (shop_row 7 1 10 ∷ []) (commits 2 3 []))))))
 
 -- ---- bounds cover what undo passes through
 
@@ -197,13 +171,16 @@ small_sale = sale_row 2 7 8
 abbrev pub refused_sale : Row
 refused_sale = sale_row 3 7 5
 
--- The first session inserted 8 and deleted it again: it may still take the deletion back, so that the second may not insert 5
--- before it commits.
-abbrev pub UndoIsCovered : Type 0
-UndoIsCovered = MayRun (starts 1 2 (inserts_first 1 (sale_row 1 7 (most - 10)) (commits 1 3 (
+-- the first session inserts 8 and deletes it again, and the second puts 5
+abbrev pub other_is_near : List Did → List Did
+other_is_near more = starts 1 2 (inserts_first 1 (sale_row 1 7 (most - 10)) (commits 1 3 (
     starts 1 3 (inserts 1 small_sale (deletes 1 small_sale (
-    starts 2 3 (puts 2 refused_sale (did 2 act.Pay (answer.Refused (refusal.Escrow 1 (pos (most - 10)) (pos (most - 2)))) ∷
-    commits 1 4 (takes_back 2 1 (starts 2 4 (inserts 2 refused_sale (commits 2 5 [])))))))))))))
+    starts 2 3 (puts 2 refused_sale more)))))))
+
+-- The first may still take the deletion back, so that the second may not pay before it commits.
+abbrev pub UndoIsCovered : Type 0
+UndoIsCovered = MayRun (other_is_near (did 2 act.Pay (answer.Refused (refusal.Escrow 1 (pos (most - 10)) (pos (most - 2)))) ∷
+    commits 1 4 (takes_back 2 1 (starts 2 4 (inserts 2 refused_sale (commits 2 5 []))))))
 
 -- ---- two readers that insert for each other
 
@@ -211,14 +188,38 @@ UndoIsCovered = MayRun (starts 1 2 (inserts_first 1 (sale_row 1 7 (most - 10)) (
 abbrev pub two_one : Cycle
 two_one = record { length = 2; members = 2 ∷ 1 ∷ replicate 62 0 }
 
--- Each reads a shop's row and inserts into the other's: the first waits, and the second is refused. Once that one took back
--- all, the first goes on.
+-- two shops of one sale each
+abbrev pub two_shops : List Did → List Did
+two_shops more = starts 1 2 (inserts_first 1 (sale_row 1 1 10) (inserts_first 1 (sale_row 2 2 20) (commits 1 3 more)))
+
+-- it reads the row of shop 1
+abbrev pub reads_first : ℕ → List Did → List Did
+reads_first session more = reads session (shop_point 1) (shop_row 1 1 10 ∷ []) more
+
+-- or of shop 2
+abbrev pub reads_second : ℕ → List Did → List Did
+reads_second session more = reads session (shop_point 2) (shop_row 2 1 20 ∷ []) more
+
+-- each reads a shop's row, and the first puts a sale into the other's
+abbrev pub one_crosses : List Did → List Did
+one_crosses more = two_shops (starts 1 3 (starts 2 3 (reads_first 1 (reads_second 2 (puts 1 (sale_row 3 2 5) more)))))
+
+-- It waits, and the second, which would insert into the first's, is refused. Once that one took back all, the first goes on.
 abbrev pub RingIsRefused : Type 0
-RingIsRefused = MayRun (starts 1 2 (inserts_first 1 (sale_row 1 1 10) (inserts_first 1 (sale_row 2 2 20) (commits 1 3 (
-    starts 1 3 (starts 2 3 (reads 1 (shop_point 1) (shop_row 1 1 10 ∷ []) (reads 2 (shop_point 2) (shop_row 2 1 20 ∷ []) (
-    puts 1 (sale_row 3 2 5) (did 1 act.Pay (answer.Blocked (record { bits = 2 })) ∷
+RingIsRefused = MayRun (one_crosses (did 1 act.Pay (answer.Blocked (record { bits = 2 })) ∷
     puts 2 (sale_row 4 1 5) (did 2 act.Pay (answer.Refused (refusal.Deadlock two_one)) ∷
-    takes_back 2 1 (did 1 act.Pay (answer.Paid 0) ∷ commits 1 4 []))))))))))))
+    takes_back 2 1 (did 1 act.Pay (answer.Paid 0) ∷ commits 1 4 []))))
+
+-- a third session reads shop 1 too and waits for the first, which waits for the second, and that one puts a sale into shop 1
+abbrev pub three_cross : List Did → List Did
+three_cross more = two_shops (starts 1 3 (starts 2 3 (starts 3 3 (reads_first 1 (reads_second 2 (reads_first 3 (
+    puts 3 (sale_row 5 1 5) (did 3 act.Pay (answer.Blocked (record { bits = 1 })) ∷
+    puts 1 (sale_row 3 2 5) (did 1 act.Pay (answer.Blocked (record { bits = 2 })) ∷
+    puts 2 (sale_row 4 1 5) more)))))))))
+
+-- the second waits for the third, which waits for the first, which waits for the second
+abbrev pub two_three_one : Cycle
+two_three_one = record { length = 3; members = 2 ∷ 3 ∷ 1 ∷ replicate 61 0 }
 
 -- ---- a snapshot reads what was committed as it began
 
@@ -268,7 +269,7 @@ Lead steps P = (after : State) × Run (opened_state (opened shop_database empty)
 pub record MissesOwing (s : State) : Type 0 where
   pub never_commits : (said : Answer) → Refuses s 1 act.Commit said
   pub no_row : (left : ℕ) → Refuses s 1 act.Pay (answer.Paid left)
-  pub same_row : (rows : List Row) → Refuses s 2 (act.Fetch 1 (point sale_key) Exclusive) (answer.Rows rows)
+  pub same_row : (rows : List Row) → Refuses s 2 (act.Fetch 1 (point (key_of sale one_sale)) Exclusive) (answer.Rows rows)
 
 -- It paid: the second can't read the view before it ends, and its row is not cleaned.
 pub record MissesPaid (s : State) : Type 0 where
@@ -289,9 +290,32 @@ pub record MissesUndone (s : State) : Type 0 where
 pub record MissesEnded (s : State) : Type 0 where
   pub not_lost : Refuses s 3 (act.Fetch 2 all_keys Share) (answer.Rows [])
 
+-- The first deleted the only sale: its group is a ghost, which is not listed.
+pub record MissesDeleted (s : State) : Type 0 where
+  pub not_listed : Refuses s 1 (act.Fetch 2 all_keys Share) (answer.Rows (shop_row 7 0 0 ∷ []))
+
+-- The second can't pay, and is told the bounds as they are before its delta.
+pub record MissesNear (s : State) : Type 0 where
+  pub not_paid : (left : ℕ) → Refuses s 2 act.Pay (answer.Paid left)
+  pub not_after : Refuses s 2 act.Pay (answer.Refused (refusal.Escrow 1 (pos (most - 5)) (pos (most + 3))))
+
+-- The first waits for the second, and for no other.
+pub record MissesCrossing (s : State) : Type 0 where
+  pub one_too_many : Refuses s 1 act.Pay (answer.Blocked (record { bits = 6 }))
+  pub nobody_is : Refuses s 1 act.Pay (answer.Blocked nobody)
+
+-- The second's wait would close two cycles: it is not left waiting, nor is it told the longer one.
+pub record MissesRing (s : State) : Type 0 where
+  pub not_waiting : (sessions : Sessions) → Refuses s 2 act.Pay (answer.Blocked sessions)
+  pub not_longer : Refuses s 2 act.Pay (answer.Refused (refusal.Deadlock two_three_one))
+
 pub record LaterMisses : Type 0 where
   pub owing : Lead (one_puts []) MissesOwing
   pub paid : Lead (one_pays []) MissesPaid
   pub both_paid : Lead (both_pay []) MissesBothPaid
   pub undone : Lead (both_insert (did 1 act.UndoOne (answer.Undone 1) ∷ [])) MissesUndone
   pub ended : Lead (one_undoes (did 3 (act.Begin Serial) (answer.Begun 3 2) ∷ [])) MissesEnded
+  pub deleted : Lead (one_deletes []) MissesDeleted
+  pub near : Lead (other_is_near []) MissesNear
+  pub crossing : Lead (one_crosses []) MissesCrossing
+  pub ring : Lead (three_cross []) MissesRing
