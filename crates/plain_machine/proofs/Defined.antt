@@ -1,0 +1,48 @@
+-- Lists that the definitions of a catalog give, one after another.
+use Rattle.std.specs.Prelude.{◌≡◌, ◌+◌, ◌==◌, ℕ, true, false, cond, List, [], ◌∷◌, ◌++◌, map, Option, Some, None}
+use Rattle.std.specs.List.{flat_map}
+use Rattle.std.specs.Option.{option_copied}
+use Rattle.std.proofs.Common.{Bor, drop, append-nil}
+use Rattle.std.proofs.lemmas.Option.{slice_get_within, get_or_from_slice_get}
+use mathlib.Core.Path.{refl, sym, ap}
+use Rattle.iv_types.proofs.Walks.{gathered, all_gathered}
+use Rattle.iv_types.specs.declared.catalog.Definition.{Definition}
+use Rattle.iv_types.specs.declared.catalog.IndexDef.{IndexDef}
+use Rattle.iv_types.specs.declared.catalog.TableDef.{TableDef}
+use Rattle.iv_types.specs.declared.lock.Want.{Want}
+use Rattle.iv_types.specs.Definitions as definitions
+use Rattle.iv_meaning.specs.Schema.{Schema, Object, table, index, view, ViewTree, object_of, schema_of, indexes_of}
+use Rattle.iv_meaning.specs.Database.{Row}
+use Rattle.iv_meaning.specs.View.{index_key}
+use Rattle.txn_machine.specs.Deltas.{exclusive_point, views_of}
+use Rattle.plain_machine.specs.Asking.{index_wants}
+use Rattle.list_engine.proofs.SteppingLemmas.{at_number, none_at}
+
+module _ {Y : Type 0} (F : Schema → List Y) where
+  -- one more definition gives what it gives alone
+  pub one_more : ((o : Object) (os : Schema) → F (o ∷ os) ≡ F (o ∷ []) ++ F os)
+      → (ds : List Definition) (n : ℕ) (o : Option (Bor Definition)) (d : Bor Definition) (acc after whole : List Y)
+      → option_copied o ≡ definitions.numbered ds (n + 1) → o ≡ Some d → after ≡ acc ++ F (object_of d.now ∷ [])
+      → acc ++ F (schema_of (drop n ds)) ≡ whole → after ++ F (schema_of (drop (n + 1) ds)) ≡ whole
+  one_more split ds n o d acc after whole e is new so_far =
+      let there = at_number ds n o d e is in
+      gathered (λ xs. F (schema_of xs)) (F (object_of d.now ∷ [])) acc after whole ds n d.now
+      (slice_get_within ds n d.now there) (sym (get_or_from_slice_get ds n d.now d.now there)) (split (object_of d.now) (schema_of (drop (n + 1) ds))) new so_far
+
+  pub no_more : F [] ≡ [] → (ds : List Definition) (n : ℕ) (o : Option (Bor Definition)) (acc whole : List Y)
+      → option_copied o ≡ definitions.numbered ds (n + 1) → o ≡ None → acc ++ F (schema_of (drop n ds)) ≡ whole → acc ≡ whole
+  no_more none ds n o acc whole e is so_far = all_gathered (λ xs. F (schema_of xs)) acc whole ds n (none_at ds n o e is) none so_far
+
+pub views_apart : {Y : Type 0} (f : ViewTree → List Y) (o : Object) (os : Schema)
+    → flat_map f (views_of (o ∷ os)) ≡ flat_map f (views_of (o ∷ [])) ++ flat_map f (views_of os)
+views_apart f (table t) os = refl
+views_apart f (index i) os = refl
+views_apart f (view v) os = ap (λ ys. ys ++ flat_map f (views_of os)) (sym (append-nil (f v)))
+
+pub indexes_apart : (t : TableDef) (row : Row) (o : Object) (os : Schema) → index_wants (o ∷ os) t row ≡ index_wants (o ∷ []) t row ++ index_wants os t row
+indexes_apart t row (table u) os = refl
+indexes_apart t row (view v) os = refl
+indexes_apart t row (index i) os =
+    let want : IndexDef → Want = λ i. exclusive_point i.number (index_key t i row) in
+    let rest : List IndexDef = indexes_of os t.number in
+    elim (i.table == t.number) as (λ b. map want (cond b (i ∷ rest) rest) ≡ map want (cond b (i ∷ []) []) ++ map want rest) [ true ↦ refl | false ↦ refl ]

@@ -1,0 +1,12 @@
+pub mod Acts
+pub mod Weights
+pub mod Txns
+pub mod Asking
+pub mod Owing
+pub mod Bounds
+pub mod Locking
+pub mod Stands
+pub mod Moves
+pub mod Stepping
+pub mod Committing
+pub mod Cleaning
