@@ -80,7 +80,7 @@ unchanged_told m n s i number t h is was none number_is placed rest released =
 
 -- ---- versions
 
-deltas_push : (k : ℕ) (es : List Entry) (e : Entry) (db : Database)
+pub deltas_push : (k : ℕ) (es : List Entry) (e : Entry) (db : Database)
     → deltas_above the_views k db (es ++ e ∷ []) ≡ deltas_above the_views k db es ++ cond (nat_le e.number k) [] (entry_deltas the_views (fold es db) e.kept)
 deltas_push k [] e db = elim (nat_le e.number k) as (λ b. cond b [] (entry_deltas the_views db e.kept ++ []) ≡ [] ++ cond b [] (entry_deltas the_views db e.kept)) [ true ↦ refl | false ↦ append-nil (entry_deltas the_views db e.kept) ]
 deltas_push k (x ∷ es) e db =

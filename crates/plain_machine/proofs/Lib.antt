@@ -21,3 +21,4 @@ pub mod Opening
 pub mod Commits
 pub mod Least
 pub mod Removing
+pub mod Creating

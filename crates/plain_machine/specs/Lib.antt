@@ -9,4 +9,5 @@ pub mod Stands
 pub mod Moves
 pub mod Stepping
 pub mod Committing
+pub mod Defining
 pub mod Cleaning

@@ -12,6 +12,7 @@ mod bounds;
 mod cleaning;
 mod committing;
 mod copies;
+mod defining;
 mod fetching;
 mod lists;
 mod locking;

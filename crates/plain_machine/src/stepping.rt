@@ -43,10 +43,10 @@ impl Machine {
             Act::UndoOne => self.undo_one(session),
             Act::End => self.end(session),
             Act::Commit => self.commit(session),
+            Act::Schema(statement) => self.create(statement),
             Act::Cancel => Ok(Answer::Cancelled),
             Act::Clean => self.clean(),
             Act::Prune => Ok(self.prune()),
-            _ => Err(NoMemory),
         }
     }
 

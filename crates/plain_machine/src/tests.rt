@@ -2,11 +2,10 @@
 //! take.
 use crate::{Act, Answer, Machine};
 use iv_types::{
-    Bytes, Catalog, ColumnAt, ColumnAtList, ColumnDef, ColumnList, Definition, EngineRefusal,
-    Interval, Kind, LockMode, Mode, NameList, NoMemory, Places, Row, RowList, TableDef, Value,
-    ViewDef,
+    Bytes, Catalog, ColumnDef, ColumnList, EngineRefusal, Expr, Interval, Item, ItemList, JoinList,
+    Kind, LockMode, Mode, NameList, NoMemory, Query, Ref, RefList, Refusal, Relation, Row, RowList,
+    Statement, Value,
 };
-use list_engine::add;
 use row_codec::{encode_key, point};
 use std::alloc::Global;
 use std::process::Abort;
@@ -17,9 +16,23 @@ const MOST: i128 = 170_141_183_460_469_231_731_687_303_715_884_105_727;
 /// A sale: its number, its shop and its amount.
 type Sale = (i128, i128, i128);
 
+/// What is made.
+#[derive(Clone, Copy)]
+enum Made {
+    /// The table of sales.
+    Sale,
+    /// The view by shop.
+    ByShop,
+    /// The view by amount.
+    ByAmount,
+    /// An index of sales by shop.
+    Index,
+}
+
 /// What a session does.
 #[derive(Clone, Copy)]
 enum Do {
+    Create(Made),
     Begin,
     Snapshot,
     Insert(Sale),
@@ -31,6 +44,8 @@ enum Do {
     Shop(i128),
     /// Reads the view.
     View,
+    /// Reads the view by amount.
+    Amounts,
     /// Reads the view as of a snapshot.
     PeekView,
     Commit,
@@ -63,6 +78,11 @@ enum Seen {
     NeedsGhost,
     /// How many deltas it still owes, or changes it still keeps.
     Left(u32),
+    /// This session has a transaction open.
+    Busy(u32),
+    NameTaken,
+    /// A sum leaves the HUGE range.
+    Refused,
     Other,
 }
 
@@ -77,49 +97,78 @@ fn column(alloc: Global, text: &str, kind: Kind) -> Result<ColumnDef, NoMemory> 
     })
 }
 
-fn sales(alloc: Global) -> Result<TableDef, NoMemory> {
+fn names(alloc: Global, text: &str) -> Result<NameList, NoMemory> {
+    let mut names = NameList::new(alloc);
+    names.push(name(alloc, text)?)?;
+    Ok(names)
+}
+
+// CREATE TABLE sale (id INT, shop INT, amount HUGE, PRIMARY KEY (id))
+fn sale(alloc: Global) -> Result<Statement, NoMemory> {
     let mut columns = ColumnList::new(alloc);
     columns.push(column(alloc, "id", Kind::Int)?)?;
     columns.push(column(alloc, "shop", Kind::Int)?)?;
     columns.push(column(alloc, "amount", Kind::Huge)?)?;
-    let mut primary = Places::new(alloc);
-    primary.push(0)?;
-    Ok(TableDef {
-        number: 1,
+    Ok(Statement::CreateTable {
         name: name(alloc, "sale")?,
         columns,
-        primary,
+        primary: names(alloc, "id")?,
     })
 }
 
-fn column_at(alloc: Global, column: u32) -> Result<ColumnAtList, NoMemory> {
-    let mut columns = ColumnAtList::new(alloc);
-    columns.push(ColumnAt { source: 0, column })?;
-    Ok(columns)
+fn reference(alloc: Global, text: &str) -> Result<Ref, NoMemory> {
+    Ok(Ref {
+        qualifier: None,
+        name: name(alloc, text)?,
+    })
 }
 
-fn by_shop(alloc: Global) -> Result<ViewDef, NoMemory> {
-    let mut names = NameList::new(alloc);
-    names.push(name(alloc, "shop")?)?;
-    names.push(name(alloc, "n")?)?;
-    names.push(name(alloc, "total")?)?;
-    Ok(ViewDef {
-        number: 2,
-        name: name(alloc, "by_shop")?,
-        names,
-        first: 1,
-        second: None,
+// SELECT .., COUNT(*) AS n, SUM(amount) AS total
+fn items(alloc: Global, group: &str) -> Result<ItemList, NoMemory> {
+    let mut items = ItemList::new(alloc);
+    let column = Expr::Named(reference(alloc, group)?);
+    items.push(Item::Plain(column, None))?;
+    items.push(Item::Count(Some(name(alloc, "n")?)))?;
+    let amount = reference(alloc, "amount")?;
+    items.push(Item::Sum(amount, Some(name(alloc, "total")?)))?;
+    Ok(items)
+}
+
+// CREATE INDEXED VIEW .. AS SELECT .. FROM sale GROUP BY ..
+fn view(alloc: Global, text: &str, column: &str) -> Result<Statement, NoMemory> {
+    let mut group = RefList::new(alloc);
+    group.push(reference(alloc, column)?)?;
+    let first = Relation {
+        name: name(alloc, "sale")?,
+        alias: None,
+    };
+    let query = Query {
+        items: items(alloc, column)?,
+        first,
+        joins: JoinList::new(alloc),
         condition: None,
-        group: column_at(alloc, 1)?,
-        sums: column_at(alloc, 2)?,
+        group,
+    };
+    let name = name(alloc, text)?;
+    Ok(Statement::CreateView { name, query })
+}
+
+// CREATE INDEX sale_shop ON sale (shop)
+fn index(alloc: Global) -> Result<Statement, NoMemory> {
+    Ok(Statement::CreateIndex {
+        name: name(alloc, "sale_shop")?,
+        table: name(alloc, "sale")?,
+        columns: names(alloc, "shop")?,
     })
 }
 
-fn shop(alloc: Global) -> Result<Machine, NoMemory> {
-    let mut catalog = Catalog::new(alloc);
-    add(&mut catalog, Definition::Table(sales(alloc)?))?;
-    add(&mut catalog, Definition::View(by_shop(alloc)?))?;
-    Machine::new(alloc, catalog, 2)
+fn statement(alloc: Global, made: Made) -> Result<Statement, NoMemory> {
+    match made {
+        Made::Sale => sale(alloc),
+        Made::ByShop => view(alloc, "by_shop", "shop"),
+        Made::ByAmount => view(alloc, "by_amount", "amount"),
+        Made::Index => index(alloc),
+    }
 }
 
 fn key(alloc: Global, number: i128) -> Result<Bytes, NoMemory> {
@@ -171,6 +220,15 @@ fn refusal_seen(refusal: &EngineRefusal) -> Seen {
             Seen::Deadlock(cycle.length, cycle.members[0], cycle.members[1])
         }
         EngineRefusal::Escrow { column, inf, sup } => Seen::OutOfRange(*column, *inf, *sup),
+        EngineRefusal::SchemaBusy(session) => Seen::Busy(*session),
+        _ => Seen::Other,
+    }
+}
+
+fn denial_seen(refusal: &Refusal) -> Seen {
+    match refusal {
+        Refusal::NameTaken(_) => Seen::NameTaken,
+        Refusal::NumberRange => Seen::Refused,
         _ => Seen::Other,
     }
 }
@@ -189,6 +247,7 @@ fn told_of(answer: &Answer) -> Seen {
         Answer::Committed(number) => Seen::Committed(*number),
         Answer::Blocked(sessions) => Seen::Waits(sessions.bits),
         Answer::Refused(refusal) => refusal_seen(refusal),
+        Answer::Denied(refusal) => denial_seen(refusal),
         _ => Seen::Other,
     }
 }
@@ -315,8 +374,19 @@ fn read_shop(
     once(machine, session, fetch(2, interval, LockMode::Share))
 }
 
+fn create(
+    machine: &mut Machine,
+    alloc: Global,
+    session: u32,
+    made: Made,
+) -> Result<Seen, NoMemory> {
+    let statement = statement(alloc, made)?;
+    once(machine, session, Act::Schema(statement))
+}
+
 fn perform(machine: &mut Machine, alloc: Global, session: u32, what: Do) -> Result<Seen, NoMemory> {
     match what {
+        Do::Create(made) => create(machine, alloc, session, made),
         Do::Begin => once(machine, session, Act::Begin(Mode::Serial)),
         Do::Snapshot => once(machine, session, Act::Begin(Mode::Snapshot)),
         Do::Insert(sale) => insert(machine, alloc, session, sale),
@@ -324,6 +394,7 @@ fn perform(machine: &mut Machine, alloc: Global, session: u32, what: Do) -> Resu
         Do::Pay => pay_all(machine, session),
         Do::Shop(shop) => read_shop(machine, alloc, session, shop),
         Do::View => once(machine, session, fetch(2, whole(alloc), LockMode::Share)),
+        Do::Amounts => once(machine, session, fetch(3, whole(alloc), LockMode::Share)),
         Do::PeekView => once(machine, session, peek(2, whole(alloc))),
         Do::Commit => once(machine, session, Act::Commit),
         Do::RollBack => roll_back(machine, session),
@@ -332,12 +403,33 @@ fn perform(machine: &mut Machine, alloc: Global, session: u32, what: Do) -> Resu
     }
 }
 
+// Does a step, and sees what it is told.
+fn expect(
+    rt: &impl Abort,
+    machine: &mut Machine,
+    alloc: Global,
+    step: (u32, Do, Seen),
+) -> Result<(), Fail> {
+    let seen = perform(machine, alloc, step.0, step.1)?;
+    assert_eq!(rt; seen, step.2);
+    Ok(())
+}
+
+// A machine with the table and the view by shop.
+fn shop(rt: &impl Abort, alloc: Global) -> Result<Machine, Fail> {
+    let mut machine = Machine::new(alloc, Catalog::new(alloc), 0)?;
+    let table = (1, Do::Create(Made::Sale), Seen::Committed(1));
+    expect(rt, &mut machine, alloc, table)?;
+    let view = (1, Do::Create(Made::ByShop), Seen::Committed(2));
+    expect(rt, &mut machine, alloc, view)?;
+    Ok(machine)
+}
+
 // What each session does, and what it is told.
 fn trial(rt: &impl Abort, alloc: Global, steps: &[(u32, Do, Seen)]) -> Result<(), Fail> {
-    let mut machine = shop(alloc)?;
-    for (session, what, told) in steps {
-        let seen = perform(&mut machine, alloc, *session, *what)?;
-        assert_eq!(rt; seen, *told);
+    let mut machine = shop(rt, alloc)?;
+    for step in steps {
+        expect(rt, &mut machine, alloc, *step)?;
     }
     Ok(())
 }
@@ -475,6 +567,65 @@ fn a_ghost_is_removed_once(rt: HostRuntime) -> Result<(), Fail> {
         (1, Do::Commit, Seen::Committed(2)),
         (0, Do::Clean, Seen::Cleaned(1)),
         (0, Do::Clean, Seen::Cleaned(0)),
+    ];
+    trial(&rt, rt.alloc(), &steps)
+}
+
+#[test]
+fn nothing_is_made_while_a_session_is_open(rt: HostRuntime) -> Result<(), Fail> {
+    let steps = [
+        (2, Do::Begin, Seen::Begun(2)),
+        (3, Do::Snapshot, Seen::Begun(2)),
+        (1, Do::Create(Made::Index), Seen::Busy(2)),
+        (2, Do::Commit, Seen::Committed(2)),
+        (1, Do::Create(Made::Index), Seen::Busy(3)),
+        (3, Do::Commit, Seen::Committed(2)),
+        (1, Do::Create(Made::Index), Seen::Committed(3)),
+        (2, Do::Begin, Seen::Begun(3)),
+        (2, Do::Insert((1, 7, 10)), Seen::Done),
+        (2, Do::Commit, Seen::Committed(4)),
+    ];
+    trial(&rt, rt.alloc(), &steps)
+}
+
+#[test]
+fn a_name_is_taken(rt: HostRuntime) -> Result<(), Fail> {
+    let steps = [
+        (1, Do::Create(Made::Sale), Seen::NameTaken),
+        (2, Do::Begin, Seen::Begun(2)),
+        (1, Do::Create(Made::ByShop), Seen::NameTaken),
+        (2, Do::Commit, Seen::Committed(2)),
+    ];
+    trial(&rt, rt.alloc(), &steps)
+}
+
+#[test]
+fn a_view_is_made_of_the_rows_that_are_there(rt: HostRuntime) -> Result<(), Fail> {
+    let steps = [
+        (1, Do::Begin, Seen::Begun(2)),
+        (1, Do::Insert((1, 7, 10)), Seen::Done),
+        (1, Do::Insert((2, 9, 10)), Seen::Done),
+        (1, Do::Insert((3, 9, 4)), Seen::Done),
+        (1, Do::Commit, Seen::Committed(3)),
+        (1, Do::Create(Made::ByAmount), Seen::Committed(4)),
+        (1, Do::Begin, Seen::Begun(4)),
+        (1, Do::Amounts, Seen::Rows(2, 10, 2, 20)),
+        (1, Do::Commit, Seen::Committed(4)),
+    ];
+    trial(&rt, rt.alloc(), &steps)
+}
+
+#[test]
+fn a_view_out_of_range_is_refused(rt: HostRuntime) -> Result<(), Fail> {
+    let steps = [
+        (1, Do::Begin, Seen::Begun(2)),
+        (1, Do::Insert((1, 7, MOST)), Seen::Done),
+        (1, Do::Insert((2, 9, MOST)), Seen::Done),
+        (1, Do::Commit, Seen::Committed(3)),
+        (1, Do::Create(Made::ByAmount), Seen::Refused),
+        (1, Do::Begin, Seen::Begun(3)),
+        (1, Do::View, Seen::Rows(2, 9, 1, MOST)),
+        (1, Do::Commit, Seen::Committed(3)),
     ];
     trial(&rt, rt.alloc(), &steps)
 }
