@@ -47,7 +47,7 @@ use Rattle.txn_machine.specs.Store.{Store, committed, with_txn, entry_changes, c
 use Rattle.txn_machine.specs.Ghosts.{the_views, account_of, Holds}
 use Rattle.txn_machine.specs.Counts.{fetch_size, put_size, transaction_size, most_of_transaction, entry_size, kept_change_size, history_size, most_of_history}
 use Rattle.txn_machine.specs.State.{State, counted}
-use Rattle.txn_machine.specs.May.{GoesOn, IsReady, Owes, FitsUnder, MayLock, MayAct}
+use Rattle.txn_machine.specs.May.{GoesOn, IsReady, Owes, FitsUnder, MayLock, MayAct, MayAsk}
 use Rattle.txn_machine.specs.Steps.{Step, Says, MayBegin, FindsIn, IsFree, CommitsAs, group_want, put_wants, first_want, waits_after, definitions_after}
 use Rattle.txn_machine.specs.Example.{sale, by_shop}
 use Rattle.txn_machine.proofs.Basics.{one_same}
@@ -132,13 +132,30 @@ shown_lists (e ∷ es) (n ∷ ns) h =
       shown_lists es ns (right_one same (are_shown es ns) more),
     )
 
+-- who may act may ask
+asks : (s : Store) (i : ℕ) (a : Act) → i ≤ 64 → MayAct s i a → MayAsk i a
+asks s i (act.Begin mode) l may = l
+asks s i act.Defs l may = may
+asks s i (act.Fetch number interval mode) l may = l
+asks s i (act.Peek number interval) l may = l
+asks s i (act.Put number key new) l may = l
+asks s i act.Pay l may = l
+asks s i act.Ghost l may = l
+asks s i act.UndoOne l may = l
+asks s i act.End l may = l
+asks s i act.Commit l may = l
+asks s i (act.Schema statement) l may = may.0
+asks s i act.Clean l may = l
+asks s i act.Prune l may = l
+asks s i act.Cancel l may = may
+
 module _ (p : Plain) (i : ℕ) (sorted : Sorted p) (session : i ≤ 64) where
   abbrev pub here : State
   here = state_of p
 
   pub step : (a : Act) (said : Answer) (es : List Effect) (to : State) → MayAct here.store i a → Says here i a said es
       → to ≡ counted here i a said (run the_views here.store i es) (waits_after here.store i a said) (definitions_after here.definitions a said) → Step here i a said to
-  step a said es to may says left = record { may = (session, inr may); does = inl (record { runs = sorted.runs; effects = es; says = says; left = left }) }
+  step a said es to may says left = record { may = (asks here.store i a session may, inr may); does = inl (record { runs = sorted.runs; effects = es; says = says; left = left }) }
 
   -- what is said of the committed database
   pub of_db : (P : Database → Type 0) → P (plain_db p) → P (committed here.store)

@@ -10,6 +10,7 @@ use Rattle.iv_types.specs.declared.catalog.TableDef.{TableDef}
 use Rattle.iv_types.specs.Encoding.{FitAll}
 use Rattle.iv_types.specs.Definitions.{kinds_of}
 use Rattle.iv_types.specs.Syntax.{StatementTree, create_table, create_index, create_view}
+use Rattle.iv_types.specs.Grammar.{Spells}
 use Rattle.iv_meaning.specs.Schema.{Object, table, index, view, numbered}
 use Rattle.iv_meaning.specs.Database.{Row, key_of}
 use Rattle.iv_meaning.specs.Escrow.{IsSession}
@@ -71,6 +72,10 @@ IsCreate (create_index name of columns) = Unit {0}
 IsCreate (create_view name query) = Unit {0}
 IsCreate _ = ⊥
 
+-- it is written in some text
+abbrev pub IsWritten : StatementTree → Type 0
+IsWritten statement = (text : List ℕ) × Spells text statement
+
 -- a transaction of the session is open
 pub record IsOpen (s : Store) (session : ℕ) : Type 0 where
   pub of_session : IsSession session
@@ -88,11 +93,18 @@ MayAct s session act.Ghost = (o : Owes s session) × Holds (locks_of s session) 
 MayAct s session act.UndoOne = (o : IsOpen s session) × (o.transaction.kept ≢ [])
 MayAct s session act.End = (o : IsOpen s session) × (o.transaction.kept ≡ [])
 MayAct s session act.Commit = IsReady s session Serial ⊎ IsReady s session Snapshot
-MayAct s session (act.Schema statement) = IsSession session × (s.open_of session ≡ None) × IsCreate statement
+MayAct s session (act.Schema statement) = IsSession session × (s.open_of session ≡ None) × IsCreate statement × IsWritten statement
 MayAct s session act.Clean = session ≡ 0
 MayAct s session act.Prune = session ≡ 0
 MayAct s session act.Cancel = IsSession session
 
--- of an engine that is stopped any step may be asked for, by session 0 or one that there is
+-- who may ask for an act: the sessions, and for most acts the machine itself, which is session 0
+abbrev pub MayAsk : ℕ → Act → Type 0
+MayAsk session act.Defs = IsSession session
+MayAsk session (act.Schema statement) = IsSession session
+MayAsk session act.Cancel = IsSession session
+MayAsk session _ = session ≤ 64
+
+-- of an engine that is stopped they may ask for any step
 abbrev pub May : State → ℕ → Act → Type 0
-May s session a = (session ≤ 64) × (IsSome s.stop ⊎ MayAct s.store session a)
+May s session a = MayAsk session a × (IsSome s.stop ⊎ MayAct s.store session a)

@@ -2,10 +2,11 @@
 -- of its session; the effects change what is stored, and every answer is counted alike. Each answer of an act stands here
 -- with all that would come before it excluded, so that the order of answers can be read off.
 --
--- A log, data of limited size and a disk join this so: the state gets a part for each, beside the store; an effect leaves
--- them to a record, a size and a call that are functions of the store before it and of the effect; Begin, Put, Schema and
--- Clean get an answer for each limit, with the cause of its own and its exclusion as one more field of the answers that
--- come later; and the step that a disk fault stops is one that sets the stop. What is said here stays as it is.
+-- A log, data of limited size and a disk join this so: the state gets a part for each, beside the store; a step leaves them
+-- to a record, a size and a call that are functions of the act, of the store before it and of its effects (a Ghost of a row
+-- that is there has no effect, and what a CREATE records is its text); Begin, Put, Schema and Clean get an answer for each
+-- limit, with the cause of its own and its exclusion as one more field of the answers that come later; and the step that a
+-- disk fault stops is one that sets the stop. What is said here stays as it is.
 use Rattle.std.specs.Prelude.{◌≡◌, ◌≢◌, ◌⊎◌, ℕ, ◌+◌, ◌<◌, ◌≤◌, ℤ, List, [], ◌∷◌, length, Option, Some, None, IsSome, Ok, Err}
 use Rattle.std.specs.FinMap.{get}
 use Rattle.iv_types.specs.declared.statement.Mode.{Mode}
