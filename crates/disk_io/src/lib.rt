@@ -17,6 +17,3 @@ pub use memory::{CallList, MemoryDisk};
 pub use plain::PlainDisk;
 pub use through::write_through;
 pub use torn::Torn;
-
-#[cfg(test)]
-mod tests;

@@ -8,6 +8,7 @@ pub mod Grammar
 pub mod Refusing
 pub mod Printing
 pub mod Replies
+pub mod SessionSets
 pub mod Encoding
 pub mod BadRow
 pub mod Intervals

@@ -30,7 +30,7 @@ pub use maps::SortedMaps;
 pub use refusal::{EngineRefusal, Refusal};
 pub use reply::{Reply, ReplyList};
 pub use sequence::{Bytes, CallList, NameList, NumberList, Places, Sequence};
-pub use session::{Cycle, Sessions};
+pub use session::{Cycle, NOBODY, Sessions};
 pub use statement::{
     ColumnDef, ColumnList, Item, ItemList, Join, JoinList, Mode, Order, OrderKey, OrderList, Query,
     Relation, Set, SetList, Statement, TupleList,

@@ -171,3 +171,10 @@ pub enum EngineRefusal {
     #[error("out of memory")]
     NoMemory,
 }
+
+impl Refusal {
+    /// Lets a refusal go. Its drop is proved here, so that no crate above proves it again.
+    pub fn let_go(self) {
+        let _ = self;
+    }
+}

@@ -133,3 +133,10 @@ pub enum Statement {
         name: Bytes,
     },
 }
+
+impl Statement {
+    /// Lets a statement go. Its drop is proved here, so that no crate above proves it again.
+    pub fn let_go(self) {
+        let _ = self;
+    }
+}

@@ -28,7 +28,7 @@ use Rattle.std.specs.List.{AllByRecursion}
 use Rattle.std.specs.Option.{option_and_then}
 use Rattle.iv_meaning.specs.Query.{BoundQuery, answer}
 use Rattle.row_eval.specs.Grouped.{Gives}
-use Rattle.list_engine.specs.Held.{Holds, IsEvaluated, sources}
+use Rattle.list_store.specs.Held.{Holds, IsEvaluated, sources}
 use Rattle.list_engine.specs.Engine.{HasDatabase, IsIn, Answers, EndsAs, is_done, with_commit, IsSelected}
 
 -- ---- databases

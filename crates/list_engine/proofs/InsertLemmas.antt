@@ -11,9 +11,9 @@ use Rattle.std.specs.declared.cmp.Ordering.TheVariants.{Less, Equal, Greater}
 use Rattle.iv_meaning.specs.Database.{Row}
 use Rattle.query_laws.specs.Laws.{IsBefore, Rises}
 use Rattle.query_laws.proofs.Rising.{BeforeAll, key_cmp, key_total, key_exact, is_before, before_through, rest_rises, first_before, rises_from}
-use Rattle.list_engine.specs.Keys.{IsPlace}
+use Rattle.list_store.specs.Keys.{IsPlace}
 use Rattle.list_engine.specs.Inserting.{IsInserted, IsThere, IsTaken, AreInserted, IsDuplicate}
-use Rattle.list_engine.proofs.PlaceLemmas.{earlier}
+use Rattle.list_store.proofs.PlaceLemmas.{earlier}
 
 -- ---- all by each
 

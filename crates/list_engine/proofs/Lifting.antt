@@ -21,7 +21,7 @@ use Rattle.iv_meaning.specs.Sound.{IsSound}
 use Rattle.query_laws.proofs.TableRows.{set_row_law, there, other_rows}
 use Rattle.query_laws.proofs.SoundLemmas.{inserted_law}
 use Rattle.row_eval.specs.Fresh.{table_rows}
-use Rattle.list_engine.specs.Held.{Holds}
+use Rattle.list_store.specs.Held.{Holds}
 use Rattle.list_engine.specs.Inserting.{IsInserted, AreInserted, IsDuplicate}
 use Rattle.list_engine.specs.Insertion.{PutsIn}
 

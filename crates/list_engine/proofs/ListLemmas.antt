@@ -9,7 +9,7 @@ use mathlib.Core.Path.{refl, sym, ap, ◌∙◌}
 use Rattle.iv_types.specs.declared.value.RowsOf.{RowsOf}
 use Rattle.iv_meaning.specs.Database.{Row}
 use Rattle.row_eval.specs.Fresh.{table_rows}
-use Rattle.list_engine.specs.Held.{has_rows}
+use Rattle.list_store.specs.Held.{has_rows}
 use Rattle.list_engine.specs.Insertion.{place_in}
 
 -- ---- the place of a list

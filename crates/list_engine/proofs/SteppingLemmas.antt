@@ -1,9 +1,7 @@
 -- Lemmas on steps, and on a SELECT that is read by them.
 use Rattle.std.specs.Prelude.{◌≡◌, ◌≤◌, ◌<◌, ◌==◌, ◌+◌, ◌^◌, ℕ, zero, suc, Bool, true, false, List, [], ◌∷◌, ◌++◌, length, slice_get, Option, Some, None, IsSome, Ok, Err, if◌then◌else◌}
 use Rattle.std.specs.List.{AllByRecursion}
-use Rattle.std.specs.Option.{option_map, unwrap_or, option_copied}
-use Rattle.std.proofs.Common.{Bor}
-use Rattle.iv_types.specs.declared.catalog.Definition.{Definition}
+use Rattle.std.specs.Option.{option_map, unwrap_or}
 use Rattle.iv_types.specs.Definitions as definitions
 use Rattle.std.proofs.Common.{arith}
 use Rattle.std.proofs.lemmas.Option.{slice_get_past}
@@ -42,10 +40,12 @@ use Rattle.iv_types.specs.declared.refusal.Refusal.{Refusal}
 use Rattle.iv_types.specs.declared.refusal.Refusal.TheVariants as range
 use Rattle.row_eval.specs.Grouped.{Gives}
 use Rattle.list_engine.specs.declared.engine.ListEngine.{ListEngine}
-use Rattle.list_engine.specs.Held.{IsEvaluated, reader}
+use Rattle.list_store.specs.Held.{IsEvaluated, reader}
 use Rattle.list_engine.specs.Parts.{nothing, part_in, open_of, IsLeastOpen}
-use Rattle.list_engine.specs.Engine.{Stands, Moved, is_want, IsReading, WasRead}
-use Rattle.list_engine.proofs.HeldLemmas.{told, IsWanted, turn_want}
+use Rattle.list_engine.specs.Engine.{Stands, Moved, IsReading, WasRead}
+use Rattle.list_store.specs.Made.{is_want}
+use Rattle.list_store.proofs.HeldLemmas.{told}
+use Rattle.list_engine.proofs.TurnLemmas.{IsWanted, turn_want}
 
 -- ---- parts
 
@@ -109,27 +109,6 @@ range_refused (Some x) g = absurd (cc)
 -- it is not in want of memory
 pub no_want : (r : Refusal) → is_want r ≡ false → r ≡ range.NoMemory → ⊥
 no_want r e same = absurd (cc (sym e ∙ ap is_want same))
-
--- ---- definitions
-
-next_of : (n : ℕ) → n + 1 ≡ suc n
-next_of n = omega arith
-
-pub at_number : (ds : List Definition) (n : ℕ) (o : Option (Bor Definition)) (d : Bor Definition) → option_copied o ≡ definitions.numbered ds (n + 1) → o ≡ Some d → slice_get ds n ≡ Some d.now
-at_number ds n o d e is = sym (ap (definitions.numbered ds) (next_of n)) ∙ (sym e ∙ ap option_copied is)
-
-pub none_at : (ds : List Definition) (n : ℕ) (o : Option (Bor Definition)) → option_copied o ≡ definitions.numbered ds (n + 1) → o ≡ None → length ds ≤ n
-none_at ds n o e is =
-    let none : slice_get ds n ≡ None = sym (ap (definitions.numbered ds) (next_of n)) ∙ (sym e ∙ ap option_copied is) in
-    elim (cases_lt n (length ds)) [
-      | inl within ↦ absurd (not_there ds n within none)
-      | inr past ↦ past
-    ]
-  where
-    not_there : (xs : List Definition) (i : ℕ) → i < length xs → slice_get xs i ≡ None → ⊥
-    not_there [] i h e = omega (arith, h)
-    not_there (x ∷ xs) zero h e = absurd (cc)
-    not_there (x ∷ xs) (suc i) h e = not_there xs i (omega (arith, h)) e
 
 -- ---- steps
 

@@ -1,18 +1,11 @@
 -- What a CREATE statement makes.
-use Rattle.std.specs.Prelude.{◌≡◌, ◌⊎◌, true, List, [], ◌∷◌, Result, Ok, Err}
+use Rattle.std.specs.Prelude.{◌≡◌, true, List, [], ◌∷◌}
 use Rattle.iv_types.specs.declared.catalog.Definition.{Definition}
 use Rattle.iv_types.specs.declared.value.RowsOf.{RowsOf}
-use Rattle.iv_types.specs.declared.refusal.Refusal.{Refusal}
-use Rattle.iv_types.specs.declared.refusal.Refusal.TheVariants.{NoMemory}
 use Rattle.iv_meaning.specs.Schema.{Object, table}
 use Rattle.iv_meaning.specs.Database.{Database}
-use Rattle.iv_meaning.specs.Statement.{Refused, Accepted, create_meaning, defines, keep}
-use Rattle.list_engine.specs.Held.{Holds, has_rows}
-
--- the object can be made, or it is refused
-abbrev pub IsMade : Object → Database → Result (Unit {0}) Refusal → Type 0
-IsMade o db (Ok u) = create_meaning o db ≡ Accepted [] 0 (defines o ∷ [])
-IsMade o db (Err why) = (why ≡ NoMemory) ⊎ (create_meaning o db ≡ Refused why)
+use Rattle.iv_meaning.specs.Statement.{Accepted, create_meaning, defines, keep}
+use Rattle.list_store.specs.Held.{Holds, has_rows}
 
 -- a table has a list for its rows
 abbrev pub IsListed : Object → List RowsOf → Type 0

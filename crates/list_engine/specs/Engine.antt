@@ -20,7 +20,7 @@ use Rattle.txn_book.specs.declared.step.Answer.{Answer}
 use Rattle.txn_book.specs.State.{State}
 use Rattle.txn_book.specs.Steps.{IsFree, IsSession, Does}
 use Rattle.list_engine.specs.declared.engine.ListEngine.{ListEngine}
-use Rattle.list_engine.specs.Held.{Holds, IsEvaluated, reader}
+use Rattle.list_store.specs.Held.{Holds, IsEvaluated, reader}
 use Rattle.list_engine.specs.Parts.{part_in, open_in}
 
 -- the engine holds this database, and the rows of some of its views
@@ -54,10 +54,6 @@ pub record IsIn (engine : ListEngine) (db : Database) : Type 0 where
   pub closed : (session : ℕ) → (part_in engine.parts.places.items session).opened ≡ None
 
 -- ---- CREATE statements
-
-abbrev pub is_want : Refusal → Bool
-is_want refusal.NoMemory = true
-is_want _ = false
 
 -- a CREATE statement is not run for this cause: it is refused by what it means, or there is no memory for it
 abbrev pub IsWhy : State → Statement → Refusal → Type 0

@@ -7,7 +7,7 @@ use Rattle.iv_types.specs.declared.value.RowsOf.{RowsOf}
 use Rattle.iv_types.specs.Syntax.{Tree}
 use Rattle.iv_meaning.specs.Database.{Row, Database}
 use Rattle.iv_meaning.specs.Statement.{Kept, Accepted, insert, inserted, insertions, bound_meaning, keep_all}
-use Rattle.list_engine.specs.Held.{Holds}
+use Rattle.list_store.specs.Held.{Holds}
 
 -- the place of the first list of a number
 abbrev pub place_in : List RowsOf → ℕ → Option ℕ

@@ -9,13 +9,13 @@ ghost use Rattle.iv_meaning.specs.Binding as binding;
 ghost use Rattle.iv_meaning.specs.Statement as statement;
 ghost use Rattle.iv_meaning.specs.Statement.{create_meaning, Refused};
 ghost use Rattle.sql_bind.specs.Bound.{bound_tree};
-ghost use Rattle.list_engine.specs.Held.{Holds};
-ghost use Rattle.list_engine.specs.Creating.{IsMade, IsListed, Makes};
+ghost use Rattle.list_store.specs.Held.{Holds};
+ghost use Rattle.list_engine.specs.Creating.{IsListed, Makes};
+ghost use Rattle.list_store.specs.Made.{IsMade};
 
-use crate::copying::add;
-use crate::entering::enter;
-use crate::evaluating::view_afresh;
+use crate::table_lists::enter;
 use iv_types::{Catalog, Definition, Refusal, TableRows};
+use list_store::{add, view_afresh};
 use std::alloc::Global;
 
 // Whether what is defined can be made: a view can be evaluated, and a table gets a list.

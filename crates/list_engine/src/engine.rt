@@ -10,18 +10,17 @@ ghost use Rattle.txn_book.specs.State.{State, Open, counted, refused_step, with_
 ghost use Rattle.txn_book.specs.Steps.{IsFree, IsSession, MayAct, number_at_end};
 ghost use Rattle.txn_book.specs.declared.step.Act.TheVariants as act;
 ghost use Rattle.txn_book.specs.declared.step.Answer.TheVariants as answer;
-ghost use Rattle.list_engine.specs.Engine.{IsIn, Stands, opened, Moved, is_want, IsWhy};
+ghost use Rattle.list_engine.specs.Engine.{IsIn, Stands, opened, Moved, IsWhy};
+ghost use Rattle.list_store.specs.Made.{is_want};
 ghost use Rattle.list_engine.specs.Parts.{open_of};
 
-use crate::copying::copied_catalog;
 use crate::creating::create;
-use crate::evaluating::look_at;
-use crate::fetching::fetch;
 use crate::parts::{Opened, Part, Parts};
 use iv_types::{
     Catalog, Definition, EngineRefusal, Interval, LockMode, Mode, NoMemory, Refusal, Statement,
     TableRows,
 };
+use list_store::{copied_catalog, fetch, look_at};
 use sql_bind::{Bound, bind};
 use std::alloc::Global;
 use txn_book::{Act, Answer, LastRefusal, Step, Stepper};

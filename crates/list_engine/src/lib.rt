@@ -3,26 +3,16 @@
 //! where none is open.
 #![tactic(auto)]
 
-mod copying;
+mod answers;
 mod creating;
 mod engine;
-mod entering;
-mod evaluating;
-mod fetching;
-mod inserting;
-mod insertion;
-mod keys;
 mod parts;
-mod places;
-mod reading;
 mod replying;
+mod row_insert;
 mod running;
 mod selecting;
-mod told;
+mod table_insert;
+mod table_lists;
 mod tuples;
 
-pub use copying::{add, copied_catalog};
 pub use engine::ListEngine;
-pub use evaluating::{has_rows, look_at, view_afresh};
-pub use fetching::fetch;
-pub use reading::lies_in;

@@ -15,19 +15,19 @@ ghost use Rattle.txn_book.specs.declared.step.Act.TheVariants as act;
 ghost use Rattle.txn_book.specs.Steps.{IsSession, IsCreate};
 ghost use Rattle.query_exec.specs.Tasks.{left};
 ghost use Rattle.query_laws.specs.Laws.{Asks};
-ghost use Rattle.list_engine.specs.Held.{reader};
+ghost use Rattle.list_store.specs.Held.{reader};
 ghost use Rattle.list_engine.specs.Engine.{Stands, IsIn, Answers, EndsAs, IsReading, IsClosedBut, IsBegun, IsSelected, with_commit};
 
+use crate::answers::{committed, is_begun, is_ended};
 use crate::engine::ListEngine;
-use crate::evaluating::evaluate;
-use crate::insertion::insert;
 use crate::replying::{commit, done, refused};
 use crate::selecting::{read_by, relations};
-use crate::told::{committed, is_begun, is_ended};
+use crate::table_insert::insert;
 use iv_types::{Mode, NoMemory, Refusal, ReplyList, Statement, TableRows, TupleList};
+use list_store::evaluate;
 use query_exec::Task;
 use sql_bind::{Bound, bind, plan};
-use txn_book::{Act, Answer, Step, Stepper};
+use txn_book::{Act, Answer, Step, Stepper, do_step};
 
 // The greatest commit number after a transaction that kept so many changes.
 fn next_number(number: u64, count: u64) -> u64
@@ -50,7 +50,10 @@ impl ListEngine {
             Answer::Denied(refusal) => refused(self.alloc, refusal),
             Answer::Refused(_) => refused(self.alloc, Refusal::NoMemory),
             // No step of CREATE is answered so.
-            _other => Err(NoMemory),
+            other => {
+                other.let_go();
+                Err(NoMemory)
+            }
         }
     }
 
@@ -87,7 +90,7 @@ impl ListEngine {
             session,
             act: Act::Begin(Mode::Serial),
         };
-        if is_begun(self.step(&begin)) {
+        if is_begun(do_step(self, begin)) {
             return Ok(());
         }
         Err(NoMemory)
@@ -114,7 +117,7 @@ impl ListEngine {
             session,
             act: Act::Commit,
         };
-        match committed(self.step(&commit_step)) {
+        match committed(do_step(self, commit_step)) {
             Some(number) => Ok(number),
             // An engine that is stopped.
             None => Err(NoMemory),
@@ -137,7 +140,7 @@ impl ListEngine {
             session,
             act: Act::End,
         };
-        if is_ended(self.step(&end)) {
+        if is_ended(do_step(self, end)) {
             return refused(self.alloc, Refusal::NoMemory);
         }
         // An engine that is stopped.
@@ -218,6 +221,8 @@ impl ListEngine {
             session,
             act: Act::Schema(statement),
         };
-        self.run_step(&step)
+        let replies = self.run_step(&step);
+        step.let_go();
+        replies
     }
 }

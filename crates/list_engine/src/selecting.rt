@@ -9,7 +9,7 @@ ghost use Rattle.list_engine.specs.Engine.{IsReading, WasRead};
 use iv_types::{NoMemory, ReplyList};
 use query_exec::Task;
 use sql_bind::Bound;
-use txn_book::{Answer, Stepper, Turn};
+use txn_book::{Answer, Stepper, Turn, do_step};
 
 // No statement asks for more intervals.
 const MOST_TURNS: u64 = 1 << 62;
@@ -25,9 +25,12 @@ pub fn read_by<S: Stepper>(engine: &mut S, task: &mut Task) -> Result<ReplyList,
     let mut last = None;
     for _ in 0..MOST_TURNS {
         match task.next(last) {
-            Turn::Want(step) => match engine.step(&step) {
+            Turn::Want(step) => match do_step(engine, step) {
                 Answer::Rows(rows) => last = Some(Answer::Rows(rows)),
-                _other => return Err(NoMemory),
+                other => {
+                    other.let_go();
+                    return Err(NoMemory);
+                }
             },
             Turn::Done(replies) => return Ok(replies),
             Turn::NoMemory => return Err(NoMemory),

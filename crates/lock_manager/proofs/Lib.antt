@@ -2,7 +2,6 @@ pub mod Keys
 pub mod Places
 pub mod Searches
 pub mod Gains
-pub mod Members
 pub mod Ways
 pub mod Cycles
 pub mod Steps

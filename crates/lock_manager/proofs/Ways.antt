@@ -2,26 +2,25 @@
 use Rattle.std.proofs.Common.{◌≡◌, ℕ, ◌+◌, ◌<◌, ◌≤◌, List, [], length, slice_set, sym, ap, ◌∙◌, subst, arith, inl, inr}
 use Rattle.std.proofs.lemmas.List.{get_or-set_same, get_or-set_other}
 use Rattle.std.specs.Prelude.{◌⊎◌, ◌↔◌}
-use Rattle.std.specs.List.{Contains}
 use Rattle.std.proofs.lemmas.Bool.{cases_eq}
 use Rattle.iv_types.specs.declared.lock.Want.{Want}
 use Rattle.iv_types.specs.declared.session.Sessions.{Sessions}
-use Rattle.iv_types.specs.Replies.{members}
+use Rattle.iv_types.specs.SessionSets.{Has, IsSomebody}
 use Rattle.iv_meaning.specs.Waits.{nobody}
 use Rattle.txn_machine.specs.Locks.{Locks, IsInTheWay, AreInTheWay}
-use Rattle.lock_manager.specs.Table.{Table, SessionLocks, nothing, of_session, locks_of, HasGained, IsGranted, IsFree, IsSomebody}
-use Rattle.lock_manager.proofs.Members.{nobody_there}
+use Rattle.lock_manager.specs.Table.{Table, SessionLocks, nothing, of_session, locks_of, HasGained, IsGranted, IsFree}
+use Rattle.iv_types.proofs.Members.{has_members, nobody_there}
 
 -- exactly the sessions before this one that are in the way
 abbrev pub AreBefore : Locks → ℕ → List Want → ℕ → Sessions → Type 0
-AreBefore locks session wants n sessions = (other : ℕ) → Contains (members sessions) other ↔ ((other < n) × IsInTheWay locks session wants other)
+AreBefore locks session wants n sessions = (other : ℕ) → Has sessions other ↔ ((other < n) × IsInTheWay locks session wants other)
 
 module _ (locks : Locks) (session : ℕ) (wants : List Want) where
   pub none_before : AreBefore locks session wants 1 nobody
   none_before other = (λ h. absurd (nobody_there other h), λ (lt, way). absurd (omega (arith, lt, way.of_session.0)))
 
   pub more_before : (n : ℕ) (sessions after : Sessions) → AreBefore locks session wants n sessions → IsInTheWay locks session wants n
-      → ((other : ℕ) → Contains (members after) other ↔ (Contains (members sessions) other ⊎ (other ≡ n))) → AreBefore locks session wants (n + 1) after
+      → ((other : ℕ) → Has after other ↔ (Has sessions other ⊎ (other ≡ n))) → AreBefore locks session wants (n + 1) after
   more_before n sessions after h way added other = (
     λ there. elim ((added other).0 there) [
       | inl before ↦ let (lt, w) = (h other).0 before in (omega (arith, lt), w)
@@ -43,7 +42,10 @@ module _ (locks : Locks) (session : ℕ) (wants : List Want) where
   )
 
   pub all_before : (n : ℕ) (sessions : Sessions) → 65 ≤ n → AreBefore locks session wants n sessions → AreInTheWay locks session wants sessions
-  all_before n sessions le h other = (λ there. let (lt, w) = (h other).0 there in w, λ w. (h other).1 (omega (arith, le, w.of_session.1), w))
+  all_before n sessions le h other = (
+    λ there. let (lt, w) = (h other).0 ((has_members sessions other).1 there) in w,
+    λ w. (has_members sessions other).0 ((h other).1 (omega (arith, le, w.of_session.1), w)),
+  )
 
 -- of the same table and the same wants
 pub ways_at : (parts table : Table) (session : ℕ) (read wants : List Want) (sessions : Sessions) → parts ≡ table → read ≡ wants
@@ -53,7 +55,7 @@ ways_at parts table session read wants sessions e f h =
 
 -- where the set is empty nobody is
 pub free_at : (table : Table) (session : ℕ) (wants : List Want) (sessions : Sessions) → AreInTheWay (locks_of table) session wants sessions → (IsSomebody sessions → ⊥) → IsFree (locks_of table) session wants
-free_at table session wants sessions h none other way = none (other, (h other).1 way)
+free_at table session wants sessions h none other way = none (other, (has_members sessions other).1 ((h other).1 way))
 
 -- a session's part is put in place
 pub granted_at : (old : Table) (session : ℕ) (wants : List Want) (before after : SessionLocks) → session < length old → before ≡ of_session old session

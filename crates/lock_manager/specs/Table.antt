@@ -7,7 +7,6 @@ use Rattle.iv_types.specs.declared.lock.Want.{Want}
 use Rattle.iv_types.specs.Intervals.{LiesIn}
 use Rattle.iv_types.specs.declared.session.Sessions.{Sessions}
 use Rattle.iv_types.specs.contracts.lock.Want as want
-use Rattle.iv_types.specs.Replies.{members}
 use Rattle.txn_machine.specs.Locks.{Locks, IsInTheWay}
 use Rattle.lock_manager.specs.declared.answer.LockAnswer.{LockAnswer}
 use Rattle.lock_manager.specs.declared.answer.LockAnswer.TheVariants.{Granted, Blocked}
@@ -93,9 +92,6 @@ IfBlocked (Blocked sessions) P = P sessions
 -- nobody is in the way of these wants
 abbrev pub IsFree : Locks → ℕ → List Want → Type 0
 IsFree locks session wants = (other : ℕ) → ¬ IsInTheWay locks session wants other
-
-abbrev pub IsSomebody : Sessions → Type 0
-IsSomebody sessions = (other : ℕ) × Contains (members sessions) other
 
 -- a lock of this mode on this index whose interval has the key
 pub record Covers (index : ℕ) (key : List ℕ) (mode : LockMode) (lock : Want) : Type 0 where

@@ -14,7 +14,6 @@ mod held;
 pub mod law;
 mod order;
 mod session_part;
-mod session_set;
 mod table;
 
 pub use answer::LockAnswer;

@@ -2,12 +2,12 @@
 ghost use Rattle.std.specs.Prelude.{◌≡◌, ◌≤◌, ◌↔◌, length, IsTrue, IfOk, OnOk, OnErr};
 ghost use Rattle.iv_meaning.specs.Escrow.{IsSession};
 ghost use Rattle.txn_machine.specs.Locks.{IsInTheWay, AreInTheWay};
-ghost use Rattle.lock_manager.specs.Table.{Covers, HasSome, IsNew, IsFree, IsSomebody, IsReserved, IsGranted, IsRecorded, IsCancelled, IsReleased, OnGranted, IfBlocked, locks_of, waiting_of, room_of};
+ghost use Rattle.iv_types.specs.SessionSets.{IsSomebody};
+ghost use Rattle.lock_manager.specs.Table.{Covers, HasSome, IsNew, IsFree, IsReserved, IsGranted, IsRecorded, IsCancelled, IsReleased, OnGranted, IfBlocked, locks_of, waiting_of, room_of};
 
 use crate::LockAnswer;
 use crate::session_part::SessionPart;
-use crate::session_set::{NOBODY, is_somebody, with};
-use iv_types::{LockMode, NoMemory, Sessions, Want, WantList};
+use iv_types::{LockMode, NOBODY, NoMemory, Sessions, Want, WantList};
 use std::alloc::Global;
 use std::marker::Model;
 
@@ -31,7 +31,7 @@ fn in_the_way(parts: &[SessionPart], session: u32, wants: &[Want]) -> Sessions
     let mut sessions = NOBODY;
     for other in 1..65 {
         if is_in_the_way(parts, session, wants, other) {
-            sessions = with(sessions, other);
+            sessions = sessions.with(other);
         }
     }
     sessions
@@ -108,7 +108,7 @@ impl LockTable {
     {
         let sessions = in_the_way(&self.parts, session, wants.as_slice());
         let alloc = self.alloc;
-        if is_somebody(sessions) {
+        if sessions.is_somebody() {
             self.parts[session as usize].wait(wants);
             return LockAnswer::Blocked(sessions);
         }

@@ -5,7 +5,7 @@ use Rattle.disk_io.specs.Disk.{splice, Torn}
 use Rattle.disk_io.specs.Bytes.{byte-splice_in}
 use Rattle.page_store.specs.Image.{header_at, gate_open, is_open, number_of, choose, live}
 use Rattle.page_store.specs.Publish.{old_byte, LiveFits}
-use Rattle.page_store.specs.Kept.{kept_side, Names, IsOld, Outside, Closing, Closed}
+use Rattle.page_store.specs.Kept.{kept_side, Names, IsOld, Beside, LowMap, Outside, Closing, Closed}
 use Rattle.page_store.proofs.Old.{live_is, outside_torn, outside_splice, kept_none}
 use Rattle.page_store.proofs.Gates.{kept_gate}
 use Rattle.page_store.proofs.Slots.{outside_none}
@@ -76,3 +76,21 @@ closed_of k gate was s c at is fits wrote same = ⊎_elim opened shut (either wa
 
 pub closed_old : (room pages k : ℕ) (s c : List ℕ) → Names room pages k s → Closed k s c → IsOld room pages k s c
 closed_old room pages k s c h closed = record { kept = kept_gate room pages k s h s c (kept_none room pages k s) closed.elsewhere; shut = closed.shut }
+
+-- what is known once the other gate is closed: header k stands, and the buffer has its page map
+pub record IsBegun (room pages k : ℕ) (header s c : List ℕ) : Type 0 where
+  pub names : Names room pages k s
+  pub beside : Beside room pages k header s
+  pub old : IsOld room pages k s c
+  pub low : LowMap pages header
+
+pub begun : (room pages k size : ℕ) (header s c : List ℕ) → length s ≡ 278528 + 2 * room + 16384 * pages → pages ≤ 131072 → k ≤ 1 → k ≡ kept_side (live s) → LiveFits size pages s
+    → ((p : ℕ) → p < 131072 → get_or header (64 + p) 0 ≡ old_byte (live s) p s) → Closed k s c → IsBegun room pages k header s c
+begun room pages k size header s c fits few low is live_fits map closed =
+    let names = names_of room pages k size s fits few low is live_fits in
+    record {
+      names = names;
+      beside = record { names = names; map = λ p lt. map p (omega (arith, few, lt)) };
+      old = closed_old room pages k s c names closed;
+      low = λ p lt. subst (λ m. m ≤ 2) (sym (map p (omega (arith, few, lt)))) (names.map p lt);
+    }

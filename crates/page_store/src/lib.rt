@@ -14,6 +14,3 @@ mod store;
 pub use facts::HeaderFacts;
 pub use iv_types::DiskFault;
 pub use store::PageStore;
-
-#[cfg(test)]
-mod tests;

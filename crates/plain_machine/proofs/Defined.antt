@@ -16,7 +16,7 @@ use Rattle.iv_meaning.specs.Database.{Row}
 use Rattle.iv_meaning.specs.View.{index_key}
 use Rattle.txn_machine.specs.Deltas.{exclusive_point, views_of}
 use Rattle.plain_machine.specs.Asking.{index_wants}
-use Rattle.list_engine.proofs.SteppingLemmas.{at_number, none_at}
+use Rattle.list_store.proofs.CatalogLemmas.{at_number, none_at}
 
 module _ {Y : Type 0} (F : Schema → List Y) where
   -- one more definition gives what it gives alone

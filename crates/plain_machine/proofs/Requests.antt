@@ -9,6 +9,8 @@ use Rattle.iv_types.specs.declared.lock.Want.{Want}
 use Rattle.iv_types.specs.declared.session.Sessions.{Sessions}
 use Rattle.iv_types.specs.declared.session.Cycle.{Cycle}
 use Rattle.iv_types.specs.Replies.{members}
+use Rattle.iv_types.specs.SessionSets.{IsSomebody}
+use Rattle.iv_types.proofs.Members.{has_members}
 use Rattle.iv_meaning.specs.Escrow.{IsSession}
 use Rattle.iv_meaning.specs.Waits.{nobody, recorded, would_wait_for, LeadsTo, IsCycle, IsFirstCycle, sessions_of}
 use Rattle.table_laws.proofs.Stored.{by_session}
@@ -16,7 +18,7 @@ use Rattle.txn_machine.specs.Locks.{Locks, with_one, Meet, IsInTheWay, AreInTheW
 use Rattle.txn_machine.specs.Waiting.{WaitsOn, Leads, IsRing}
 use Rattle.txn_machine.proofs.Basics.{one_same, one_other, contains_none}
 use Rattle.lock_manager.specs.Table as table
-use Rattle.lock_manager.specs.Table.{Table, SessionLocks, HasGained, IsReserved, IsRecorded, IsCancelled, IsSomebody}
+use Rattle.lock_manager.specs.Table.{Table, SessionLocks, HasGained, IsReserved, IsRecorded, IsCancelled}
 use Rattle.iv_types.specs.declared.lock.LockMode.{LockMode}
 use Rattle.iv_types.specs.declared.value.Interval.{Interval}
 use Rattle.plain_machine.specs.Locking.{HasLocks, Agrees, IsGranted, IsWaiting, IsAsked}
@@ -120,7 +122,7 @@ same_ways f g h session wants other_wants sessions e w =
     subst (λ (ws : List Want). AreInTheWay g session ws sessions) (sym e) (subst (λ (l : Locks). AreInTheWay l session wants sessions) (λ x k. sym (h k) x) w)
 
 pub not_nobody : (sessions : Sessions) → IsSomebody sessions → members sessions ≢ []
-not_nobody sessions s e = contains_none s.0 (subst (λ (ms : List ℕ). Contains ms s.0) e s.1)
+not_nobody sessions s e = contains_none s.0 (subst (λ (ms : List ℕ). Contains ms s.0) e ((has_members sessions s.0).0 s.1))
 
 -- the wants of a session that has locks, recorded
 pub waits_for : (t u : Table) (held waited : Locks) (waits : List Sessions) (session : ℕ) (wants : List Want) (holders : Sessions) → Agrees t held waited → IsSession session

@@ -7,7 +7,7 @@ use Rattle.iv_types.specs.declared.value.RowsOf.{RowsOf}
 use Rattle.table_laws.specs.Place.{Place}
 use Rattle.iv_meaning.specs.Database.{Row}
 use Rattle.row_eval.specs.Fresh.{table_rows}
-use Rattle.list_engine.specs.Held.{has_rows}
+use Rattle.list_store.specs.Held.{has_rows}
 use Rattle.plain_machine.proofs.Listing.{listed, next_fails}
 
 -- the rows that some lists have of a table, or those of the entries that are left where they have none

@@ -9,7 +9,7 @@ ghost use Rattle.txn_machine.specs.Deltas.{entry_wants, look_ups, views_of};
 ghost use Rattle.view_delta.specs.Owing.{row_change};
 ghost use Rattle.plain_machine.specs.Asking.{index_wants};
 
-use crate::lists::append;
+use crate::appending::append;
 use iv_types::{
     Bytes, Catalog, Change, Definition, IndexDef, LockMode, NoMemory, Places, Row, TableDef, Want,
     WantList,

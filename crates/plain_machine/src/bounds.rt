@@ -11,7 +11,7 @@ ghost use Rattle.plain_machine.specs.Acts.{kept_of, kept_steps};
 ghost use Rattle.plain_machine.specs.Bounds as bounds;
 ghost use Rattle.plain_machine.specs.Bounds.{kept_in, IsAccount, AreAccounts, IsAnswered, Refuses};
 
-use crate::lists::number_at;
+use crate::appending::number_at;
 use crate::txn::{Kept, Txn};
 use crate::txns::open_of;
 use escrow_bounds::{Escrow, Range};

@@ -11,9 +11,9 @@ ghost use Rattle.plain_machine.specs.Stands.{Stands, Told, version_deltas};
 ghost use Rattle.plain_machine.specs.Cleaning.{IsFirst, IsUnlocked};
 
 use crate::act::Answer;
+use crate::appending::number_at;
 use crate::bounds::{committed_count, is_for, is_unpaid};
 use crate::copies::copied_bytes;
-use crate::lists::number_at;
 use crate::machine::{Machine, Version};
 use crate::txns::least_snapshot;
 use iv_types::{Bytes, GroupDelta, LockMode, NoMemory};

@@ -14,8 +14,8 @@ ghost use Rattle.plain_machine.specs.Stands.{Stands, Told};
 ghost use Rattle.plain_machine.specs.declared.act.Answer.TheVariants as answer;
 
 use crate::act::Answer;
+use crate::appending::append;
 use crate::copies::{copied_bytes, copied_deltas, copied_perhaps};
-use crate::lists::append;
 use crate::machine::{Machine, Version};
 use crate::place_map::PlaceMap;
 use crate::txn::{Kept, Txn};

@@ -6,8 +6,8 @@ ghost use Rattle.iv_types.specs.declared.refusal.Refusal.TheVariants as refused;
 ghost use Rattle.iv_meaning.specs.Schema.{object_of, schema_of};
 ghost use Rattle.iv_meaning.specs.Statement as meaning;
 ghost use Rattle.sql_bind.specs.Bound.{bound_tree};
-ghost use Rattle.list_engine.specs.Creating.{IsMade};
-ghost use Rattle.list_engine.specs.Engine.{is_want};
+ghost use Rattle.list_store.specs.Made.{IsMade};
+ghost use Rattle.list_store.specs.Made.{is_want};
 ghost use Rattle.txn_machine.specs.Acts as act;
 ghost use Rattle.txn_machine.specs.Counts.{entry_size, definition_size};
 ghost use Rattle.txn_machine.specs.Fresh.{made_of};
@@ -29,7 +29,7 @@ use iv_types::{
     Catalog, Definition, DeltaList, EngineRefusal, NoMemory, Refusal, Row, Statement,
     statement_bytes,
 };
-use list_engine::add;
+use list_store::add;
 use sql_bind::{Bound, bind};
 use std::alloc::Global;
 

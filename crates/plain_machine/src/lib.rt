@@ -1,5 +1,5 @@
 //! A plain, slow program that does the steps of many open transactions, on small databases. It shows that the machine of
-//! the definitions can be built, and runs examples (its tests); the engine's own parts do the same with less.
+//! the definitions can be built, and runs examples (machine_runs); the engine's own parts do the same with less.
 //!
 //! `specs/Stands` says in which state a machine is. A step that would leave what is small, or for which there is no memory,
 //! halts the machine: nothing is told of it then. Small is a database of tables and of views of one table, with what is kept
@@ -7,6 +7,7 @@
 #![tactic(auto)]
 
 mod act;
+mod appending;
 mod asking;
 mod bounds;
 mod cleaning;
@@ -14,7 +15,6 @@ mod committing;
 mod copies;
 mod defining;
 mod fetching;
-mod lists;
 mod locking;
 mod machine;
 mod owing;
@@ -30,6 +30,3 @@ mod weights;
 
 pub use act::{Act, Answer};
 pub use machine::Machine;
-
-#[cfg(test)]
-mod tests;

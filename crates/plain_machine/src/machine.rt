@@ -18,7 +18,7 @@ use crate::place_map::{PlaceMap, copied_rows};
 use crate::txn::Txn;
 use crate::txns::{set, take};
 use iv_types::{Catalog, Cycle, DeltaList, EngineRefusal, Mode, NoMemory, NumberList, Row};
-use list_engine::copied_catalog;
+use list_store::copied_catalog;
 use lock_manager::LockTable;
 use std::alloc::Global;
 

@@ -12,8 +12,8 @@ ghost use Rattle.txn_machine.specs.Stored as stored;
 ghost use Rattle.view_delta.specs.Owing.{row_change, RowsFit};
 ghost use Rattle.plain_machine.specs.Owing.{contributions_of};
 
+use crate::appending::{append, number_at};
 use crate::copies::{copied_bytes, copied_perhaps};
-use crate::lists::{append, number_at};
 use crate::place_map::PlaceMap;
 use iv_types::{
     Bytes, Catalog, Change, Definition, DeltaList, GroupDelta, NoMemory, NumberList, Row, RowList,

@@ -15,7 +15,7 @@ use iv_types::{
     Bytes, Catalog, Interval, Kind, NoMemory, NumberList, Refusal, Row, RowList, RowsOf, TableRows,
     Value, ViewDef, copied_row,
 };
-use list_engine::{fetch, has_rows, lies_in, look_at};
+use list_store::{fetch, has_rows, lies_in, look_at};
 use row_codec::decode_key;
 use sql_bind::group_kinds;
 use std::alloc::Global;
@@ -86,7 +86,7 @@ pub fn view_afresh(
     ensures { (db : Database) → db.schema ≡ schema_of catalog.now → db.rows ≡ rows.now → IsSound db → Gives (view_rows db.schema db.rows (view_tree view.now)) result }
 {
     let tables = tables_of(alloc, rows)?;
-    list_engine::view_afresh(alloc, catalog, &tables, view)
+    list_store::view_afresh(alloc, catalog, &tables, view)
 }
 
 // A number of a stored row, 0 where there are fewer.

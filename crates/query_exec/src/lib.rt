@@ -12,6 +12,3 @@ mod source;
 mod task;
 
 pub use task::Task;
-
-#[cfg(test)]
-mod tests;

@@ -180,7 +180,7 @@ fitted_value (ks ∷ kinds) (row ∷ rows) zero place kind f e =
     (c.value, c.value_is, subst (λ k. Fits k c.value) (some_same c.kind kind (sym c.kind_is ∙ e)) c.fits)
 fitted_value (ks ∷ kinds) (row ∷ rows) (suc source) place kind f e = fitted_value kinds rows source place kind f.1 e
 
-kind_at_is : (kinds : List (List Kind)) (place : ColumnAt) → kind_at kinds place ≡ option_and_then (λ ks. slice_get ks place.column) (slice_get kinds place.source)
+pub kind_at_is : (kinds : List (List Kind)) (place : ColumnAt) → kind_at kinds place ≡ option_and_then (λ ks. slice_get ks place.column) (slice_get kinds place.source)
 kind_at_is kinds place = go (slice_get kinds place.source)
   where
     go : (o : Option (List Kind)) → elim o [ None ↦ None | Some ks ↦ slice_get ks place.column ] ≡ option_and_then (λ ks. slice_get ks place.column) o

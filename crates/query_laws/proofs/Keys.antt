@@ -22,7 +22,7 @@ use Rattle.iv_types.specs.Encoding.{Fits, FitAll, key_byte, key_value_bytes, key
 use Rattle.iv_types.specs.Intervals.{IsBelow, IsAtMost, LiesIn, next, prefix_interval}
 use Rattle.iv_types.proofs.Orders.{value_antisymm, value_cmp_exact, value_cmp_total}
 use Rattle.row_codec.specs.Ranges.{AreBytes, BeginsWith}
-use Rattle.row_codec.proofs.Numbers.{IsBytes, IsBytes-rest, bytes_of_number}
+use Rattle.iv_types.proofs.ByteNumbers.{IsBytes, IsBytes-rest, bytes_of_number}
 use Rattle.row_codec.proofs.KeyFormat.{key_format}
 use Rattle.row_codec.proofs.KeyOrders.{key_order}
 use Rattle.row_codec.proofs.RangeLaws.{begun}

@@ -10,7 +10,7 @@ use Rattle.std.specs.Cmp.Lexicographic.{slice_cmp}
 use Rattle.std.specs.Int.{bytes_high_first}
 use Rattle.byteorder.specs.Endian.{big_from}
 use Rattle.byteorder.specs.Numbers.{big_from-cons, big_from-lt, length-bytes_high_first, big_number-reads_back}
-use Rattle.row_codec.proofs.Numbers.{IsBytes, IsBytes-rest, bytes_of_number}
+use Rattle.iv_types.proofs.ByteNumbers.{IsBytes, IsBytes-rest, bytes_of_number}
 
 less_is : (x y : ℕ) (o : Ordering) → MatchOrdering o (x < y) (x ≡ y) (y < x) → x < y → o ≡ Less
 less_is x y Less m lt = refl

@@ -12,7 +12,8 @@ use Rattle.std.proofs.Math.Nat.{mod-eq_of_lt}
 use Rattle.iv_types.specs.Encoding.{IsHuge}
 use Rattle.byteorder.specs.Endian.{big_number}
 use Rattle.byteorder.specs.Numbers.{big_from-lt}
-use Rattle.row_codec.proofs.Numbers.{IsBytes, number_split, number_front}
+use Rattle.iv_types.proofs.ByteNumbers.{IsBytes}
+use Rattle.row_codec.proofs.Numbers.{number_split, number_front}
 
 -- the sum is a number from 0 on
 pub shift : (h : ℕ) (z : ℤ) → mag z < h → (x : ℕ) × (z +ℤ pos h ≡ pos x) × (x < h + h)

@@ -18,6 +18,3 @@ pub use intervals::{common, point, prefix_interval};
 pub use keys::{decode_key, encode_key};
 pub use laws::{key_law, key_order_law, row_law};
 pub use rows::{decode_row, encode_row};
-
-#[cfg(test)]
-mod tests;

@@ -12,10 +12,7 @@ mod wide;
 
 pub use expression::{passes, value};
 pub use fresh::{fresh_rows, rows_of_table};
-pub use grouping::{group, values_at};
+pub use grouping::{Grouped, add_member, group, values_at};
 pub use kept_view::recompute;
 pub use readable::is_readable;
 pub use wide::Wide;
-
-#[cfg(test)]
-mod tests;

@@ -18,10 +18,10 @@ ghost use Rattle.bind_shape.specs.Rules.{rules_of_query};
 ghost use Rattle.bind_names.specs.Seeing.{visible_of, scope_seen, seen_by};
 
 use crate::Bound;
-use crate::changing::{bind_delete, bind_insert, bind_update};
+use crate::change_binding::{bind_delete, bind_insert, bind_update};
 use crate::creating::{bind_index, bind_table};
-use crate::keeping::bind_view;
 use crate::selecting::bound_select;
+use crate::view_binding::bind_view;
 use bind_names::names::check_names;
 use bind_names::seeing::{scope_of, seen_as};
 use bind_names::types::well_typed;

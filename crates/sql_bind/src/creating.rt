@@ -17,7 +17,7 @@ ghost use Rattle.bind_shape.specs.Limits.{limits_of_table, limits_of_index};
 ghost use Rattle.bind_names.specs.Seeing.{names_in, visible_of};
 
 use crate::Bound;
-use crate::changing::number_of;
+use crate::change_binding::number_of;
 use crate::copies::copied_columns;
 use bind_names::names::copied;
 use bind_names::visible::Visible;

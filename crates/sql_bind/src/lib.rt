@@ -3,16 +3,16 @@
 
 mod binding;
 mod bound;
-mod changing;
+mod change_binding;
 mod copies;
 mod creating;
-mod keeping;
 mod plan_intervals;
 mod plan_kinds;
 mod plan_terms;
 mod planning;
 mod selecting;
-mod viewing;
+mod view_binding;
+mod view_parts;
 
 pub use bind_shape::counting::kinds_at;
 pub use binding::bind;
@@ -25,8 +25,3 @@ pub use plan_intervals::{fits_columns, interval};
 pub use plan_kinds::{group_kinds, kinds_of, numbered};
 pub use plan_terms::fits;
 pub use planning::plan;
-
-#[cfg(test)]
-mod bind_tests;
-#[cfg(test)]
-mod plan_tests;

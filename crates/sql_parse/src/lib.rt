@@ -5,7 +5,7 @@
 //! shows that the readers read the grammar and no other, and fault at the right place for the right cause.
 #![tactic(auto)]
 
-mod changing;
+mod change_statements;
 mod creating;
 mod cursor;
 mod expressions;
@@ -17,6 +17,3 @@ mod selecting;
 
 pub use laws::{one_refusal, one_statement};
 pub use parsing::parse;
-
-#[cfg(test)]
-mod tests;

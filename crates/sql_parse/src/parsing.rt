@@ -11,7 +11,7 @@ ghost use Rattle.sql_tokens.specs.View.{placed, symbols_at};
 ghost use Rattle.sql_parse.specs.Statements.{statement, line, whole_line};
 ghost use Rattle.sql_parse.specs.Parsing.{Answers, refusal_of};
 
-use crate::changing::{control_of, deletion_of, insertion_of, update_of};
+use crate::change_statements::{control_of, deletion_of, insertion_of, update_of};
 use crate::creating::creation_of;
 use crate::cursor::Cursor;
 use crate::selecting::selection_of;

@@ -7,8 +7,3 @@ mod statement;
 
 pub use reply::reply_text;
 pub use statement::{printed_law, statement_text};
-
-#[cfg(test)]
-mod round_trips;
-#[cfg(test)]
-mod tests;

@@ -13,6 +13,3 @@ mod token;
 pub use iv_types::{NoMemory, Terminal};
 pub use splitting::split;
 pub use token::{Token, TokenKind, content, content_len, name, number, piece};
-
-#[cfg(test)]
-mod tests;

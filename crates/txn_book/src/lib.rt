@@ -5,4 +5,4 @@ mod step;
 mod stepper;
 
 pub use step::{Act, Answer, LastRefusal, Step, Turn};
-pub use stepper::Stepper;
+pub use stepper::{Stepper, do_step};

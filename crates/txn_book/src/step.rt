@@ -12,6 +12,18 @@ pub struct Step {
     pub act: Act,
 }
 
+impl Step {
+    /// Lets a step go. Its drop is proved here, so that no crate above proves it again.
+    pub fn let_go(self) {
+        match self.act {
+            Act::Schema(statement) => statement.let_go(),
+            other => {
+                let _ = other;
+            }
+        }
+    }
+}
+
 /// What a step is to do.
 #[derive(Debug, Drop)]
 pub enum Act {
@@ -51,6 +63,19 @@ pub enum Answer {
     Refused(EngineRefusal),
     /// The statement's meaning is a refusal.
     Denied(Refusal),
+}
+
+impl Answer {
+    /// Lets an answer go. Its drop is proved here, so that no crate above proves it again.
+    pub fn let_go(self) {
+        match self {
+            Answer::Defs(catalog) => catalog.let_go(),
+            Answer::Denied(refusal) => refusal.let_go(),
+            other => {
+                let _ = other;
+            }
+        }
+    }
 }
 
 /// The last refusal of a session's steps, and the number of that step, counted from 1.

@@ -24,3 +24,12 @@ pub trait Stepper {
     fn refused(&self, session: u32) -> Option<LastRefusal>
         ensures { (s : State) → stands self.now s → result ≡ s.refused session };
 }
+
+/// Does a step that is asked for once, and lets it go.
+pub fn do_step<S: Stepper>(engine: &mut S, step: Step) -> Answer
+    ensures { (s : State) → S.stands engine.old s → May s step → Moves (S.stands engine.new) s step result }
+{
+    let answer = engine.step(&step);
+    step.let_go();
+    answer
+}

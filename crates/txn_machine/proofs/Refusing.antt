@@ -44,7 +44,9 @@ use Rattle.txn_machine.proofs.Keeps.{shift}
 use Rattle.txn_machine.proofs.Looking.{fits_at}
 use Rattle.txn_machine.proofs.Reading.{both_true}
 use Rattle.txn_machine.proofs.Moving.{at_most}
-use Rattle.txn_machine.proofs.Sharing.{FitRows, fitted_value, kind_at_is, source_kinds, all_fit, counted_combinations, groups_fit, fresh_law}
+use Rattle.query_laws.proofs.TermLemmas.{FitRows}
+use Rattle.query_laws.proofs.GroupRows.{fitted_value, kind_at_is}
+use Rattle.txn_machine.proofs.Sharing.{source_kinds, all_fit, counted_combinations, groups_fit, fresh_law}
 use Rattle.txn_machine.proofs.Ranging.{all_contains, chosen_is}
 
 -- ---- what an expression gives

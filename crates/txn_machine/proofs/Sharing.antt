@@ -30,6 +30,9 @@ use Rattle.iv_meaning.specs.Query.{Combination, combinations, values_at}
 use Rattle.iv_meaning.specs.Grouping.{members, number_in, sum_by}
 use Rattle.iv_meaning.specs.View.{shares}
 use Rattle.iv_meaning.specs.Sound.{IsTable, IsRow}
+use Rattle.query_laws.proofs.Each.{each_filtered}
+use Rattle.query_laws.proofs.TermLemmas.{FitRows, equal_is}
+use Rattle.query_laws.proofs.GroupRows.{IsKnown, combinations_fit, values_fit}
 use Rattle.txn_machine.specs.Deltas.{contribution, is_counted, is_for, worth, due}
 use Rattle.txn_machine.specs.Fresh.{all_contributions, fresh}
 use Rattle.txn_machine.specs.ViewLaws.{AreSound}
@@ -99,34 +102,6 @@ fresh_of objects rows sound (suc n) v e key column = one_due objects rows (v.num
 
 -- ---- combinations fit
 
-abbrev pub FitRows : List (List Kind) → Combination → Type 0
-FitRows [] [] = Unit {0}
-FitRows (ks ∷ kinds) (row ∷ rows) = FitAll ks row × FitRows kinds rows
-FitRows _ _ = ⊥
-
-each_append : {X : Type 0} (P : X → Type 0) (xs ys : List X) → AllByRecursion P xs → AllByRecursion P ys → AllByRecursion P (xs ++ ys)
-each_append P [] ys h k = k
-each_append P (x ∷ xs) ys h k = (h.0, each_append P xs ys h.1 k)
-
-each_map : {X Y : Type 0} (P : X → Type 0) (Q : Y → Type 0) (f : X → Y) → ((x : X) → P x → Q (f x)) → (xs : List X) → AllByRecursion P xs → AllByRecursion Q (map f xs)
-each_map P Q f g [] h = tt
-each_map P Q f g (x ∷ xs) h = (g x h.0, each_map P Q f g xs h.1)
-
-each_filter : {X : Type 0} (P : X → Type 0) (test : X → Bool) (xs : List X) → AllByRecursion P xs → AllByRecursion P (filter test xs)
-each_filter P test [] h = tt
-each_filter P test (x ∷ xs) h = elim (test x) as (λ b. AllByRecursion P (cond b (x ∷ filter test xs) (filter test xs))) [ true ↦ (h.0, each_filter P test xs h.1) | false ↦ each_filter P test xs h.1 ]
-
-combined_fit : (kinds : List (List Kind)) (ks : List Kind) (rests : List Combination) (rows : List Row) → AllByRecursion (FitAll ks) rows → AllByRecursion (FitRows kinds) rests
-    → AllByRecursion (FitRows (ks ∷ kinds)) (flat_map (λ row. map (λ (rest : Combination). row ∷ rest) rests) rows)
-combined_fit kinds ks rests [] f h = tt
-combined_fit kinds ks rests (row ∷ rows) f h =
-    each_append (FitRows (ks ∷ kinds)) (map (λ (rest : Combination). row ∷ rest) rests) (flat_map (λ row. map (λ (rest : Combination). row ∷ rest) rests) rows)
-    (each_map (FitRows kinds) (FitRows (ks ∷ kinds)) (λ (rest : Combination). row ∷ rest) (λ rest g. (f.0, g)) rests h) (combined_fit kinds ks rests rows f.1 h)
-
-combinations_fit : (kinds : ℕ → List Kind) (rows : ℕ → List Row) (ns : List ℕ) → AllByRecursion (λ n. AllByRecursion (FitAll (kinds n)) (rows n)) ns → AllByRecursion (FitRows (map kinds ns)) (combinations (map rows ns))
-combinations_fit kinds rows [] h = (tt, tt)
-combinations_fit kinds rows (n ∷ ns) h = combined_fit (map kinds ns) (kinds n) (combinations (map rows ns)) (rows n) h.0 (combinations_fit kinds rows ns h.1)
-
 rows_fit : (ks : List Kind) (n : ℕ) (es : List (Place × Row)) → AllByRecursion (λ (e : Place × Row). e.0.0 ≡ n → FitAll ks e.1) es → AllByRecursion (FitAll ks) (map (λ (e : Place × Row). e.1) (rows_where (λ place row. place.0 == n) es))
 rows_fit ks n [] h = tt
 rows_fit ks n (e ∷ es) h = elim (e.0.0 == n) as (λ b. (e.0.0 == n) ≡ b → AllByRecursion (FitAll ks) (map (λ (e : Place × Row). e.1) (cond b (e ∷ rows_where (λ place row. place.0 == n) es) (rows_where (λ place row. place.0 == n) es)))) [
@@ -139,36 +114,6 @@ table_fits objects rows sound n t = rows_fit (kinds_of_table (numbered objects n
     (all_entries (λ (e : Place × Row). e.0.0 ≡ n → FitAll (kinds_of_table (numbered objects n)) e.1) rows (λ k r e g.
     let row : IsRow objects k r = sound.rows k r e in
     subst (λ ks. FitAll ks r) (sym (ap kinds_of_table (sym (ap (numbered objects) g) ∙ row.table_is))) row.fits))
-
-pub fitted_value : (kinds : List (List Kind)) (rows : Combination) (source place : ℕ) (kind : Kind) → FitRows kinds rows
-    → option_and_then (λ ks. slice_get ks place) (slice_get kinds source) ≡ Some kind
-    → (x : Value) × (option_and_then (λ row. slice_get row place) (slice_get rows source) ≡ Some x) × Fits kind x
-fitted_value [] rows source place kind f e = absurd (cc)
-fitted_value (ks ∷ kinds) [] source place kind f e = absurd f
-fitted_value (ks ∷ kinds) (row ∷ rows) zero place kind f e = in_row ks row place kind f.0 e
-  where
-    in_row : (ks : List Kind) (row : Row) (place : ℕ) (kind : Kind) → FitAll ks row → slice_get ks place ≡ Some kind → (x : Value) × (slice_get row place ≡ Some x) × Fits kind x
-    in_row [] row place kind f e = absurd (cc)
-    in_row (k ∷ ks) [] place kind f e = absurd f
-    in_row (k ∷ ks) (v ∷ row) zero kind f e = (v, refl, subst (λ x. Fits x v) (same_Some k kind e) f.0)
-    in_row (k ∷ ks) (v ∷ row) (suc place) kind f e = in_row ks row place kind f.1 e
-fitted_value (ks ∷ kinds) (row ∷ rows) (suc source) place kind f e = fitted_value kinds rows source place kind f.1 e
-
-pub kind_at_is : (kinds : List (List Kind)) (place : ColumnAt) → kind_at kinds place ≡ option_and_then (λ ks. slice_get ks place.column) (slice_get kinds place.source)
-kind_at_is kinds place = go (slice_get kinds place.source)
-  where
-    go : (o : Option (List Kind)) → elim o [ None ↦ None | Some ks ↦ slice_get ks place.column ] ≡ option_and_then (λ ks. slice_get ks place.column) o
-    go None = refl
-    go (Some ks) = refl
-
-values_fit : (kinds : List (List Kind)) (rows : Combination) (group : List ColumnAt) → FitRows kinds rows → AllByRecursion (λ place. (kind : Kind) × (kind_at kinds place ≡ Some kind)) group
-    → FitAll (filter_map (kind_at kinds) group) (values_at group rows)
-values_fit kinds rows [] f h = tt
-values_fit kinds rows (place ∷ group) f h =
-    let rest = values_fit kinds rows group f h.1 in
-    let v = fitted_value kinds rows place.source place.column h.0.0 f (sym (kind_at_is kinds place) ∙ h.0.1) in
-    subst (λ (o : Option Kind). FitAll (cons_option o (filter_map (kind_at kinds) group)) (cons_option (value_at rows place) (values_at group rows))) (sym h.0.1)
-    (subst (λ (o : Option Value). FitAll (h.0.0 ∷ filter_map (kind_at kinds) group) (cons_option o (values_at group rows))) (sym v.1) (v.2, rest))
 
 -- the combinations that count
 abbrev pub counted_combinations : Schema → Rows → ViewTree → List Combination
@@ -189,19 +134,14 @@ all_fit objects rows sound n v e =
 pub groups_fit : (objects : Schema) (rows : Rows) → AreSound objects rows → (n : ℕ) (v : ViewTree) → numbered objects n ≡ Some (view v) → AllByRecursion (λ c. FitAll (group_kinds objects v) (values_at v.group c)) (counted_combinations objects rows v)
 groups_fit objects rows sound n v e =
     let kinds : List (List Kind) = source_kinds objects v in
-    each_filter (λ c. FitAll (group_kinds objects v) (values_at v.group c)) (is_counted objects v) (combinations (map (rows_of rows) (sources_of v)))
-    (each_all kinds (combinations (map (rows_of rows) (sources_of v))) (all_fit objects rows sound n v e) (recursion_from_All (λ place. (kind : Kind) × (kind_at kinds place ≡ Some kind)) v.group (sound.objects n (view v) e).1.group))
+    each_filtered (λ c. FitAll (group_kinds objects v) (values_at v.group c)) (is_counted objects v) (combinations (map (rows_of rows) (sources_of v)))
+    (each_all kinds (combinations (map (rows_of rows) (sources_of v))) (all_fit objects rows sound n v e) (recursion_from_All (IsKnown kinds) v.group (sound.objects n (view v) e).1.group))
   where
-    each_all : (kinds : List (List Kind)) (cs : List Combination) → AllByRecursion (FitRows kinds) cs → AllByRecursion (λ place. (kind : Kind) × (kind_at kinds place ≡ Some kind)) v.group → AllByRecursion (λ c. FitAll (filter_map (kind_at kinds) v.group) (values_at v.group c)) cs
+    each_all : (kinds : List (List Kind)) (cs : List Combination) → AllByRecursion (FitRows kinds) cs → AllByRecursion (IsKnown kinds) v.group → AllByRecursion (λ c. FitAll (filter_map (kind_at kinds) v.group) (values_at v.group c)) cs
     each_all kinds [] h k = tt
     each_all kinds (c ∷ cs) h k = (values_fit kinds c v.group h.0 k, each_all kinds cs h.1 k)
 
 -- ---- by key and by values
-
-equal_is : (o : Ordering) → is_eq o ≡ true → o ≡ Equal
-equal_is Less e = absurd (false≢true e)
-equal_is Equal e = refl
-equal_is Greater e = absurd (false≢true e)
 
 same_group : (kinds : List Kind) (g h : List Value) → FitAll kinds g → FitAll kinds h → bytes_eq (key_bytes kinds h) (key_bytes kinds g) ≡ eq_by_cmp row_cmp g h
 same_group kinds g h fg fh = elim (eq_by_cmp row_cmp g h) as (λ b. eq_by_cmp row_cmp g h ≡ b → bytes_eq (key_bytes kinds h) (key_bytes kinds g) ≡ b) [

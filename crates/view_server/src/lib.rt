@@ -8,8 +8,7 @@ mod request;
 mod script;
 mod status;
 
+pub use built::{built, is_built};
+pub use request::session_text;
 pub use script::run;
 pub use status::Status;
-
-#[cfg(test)]
-mod tests;

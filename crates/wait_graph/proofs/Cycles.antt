@@ -7,9 +7,9 @@ use Rattle.std.specs.List.{Contains, IsDistinct, AllByRecursion, list_any}
 use Rattle.iv_types.specs.declared.session.Sessions.{Sessions}
 use Rattle.iv_types.specs.Intervals.{IsAtMost}
 use Rattle.iv_meaning.specs.Waits.{nobody, recorded, would_wait_for, AreDifferent, IsCycle, IsFirstCycle}
-use Rattle.wait_graph.specs.Sets.{Has}
+use Rattle.iv_types.specs.SessionSets.{Has}
 use Rattle.wait_graph.specs.Walks.{HasWalk, HasNoShorter}
-use Rattle.wait_graph.proofs.Members.{contains_cases, contains_none, contains_head, contains_tail, bit_of}
+use Rattle.iv_types.proofs.Members.{contains_cases, contains_none, contains_head, contains_tail, bit_of}
 use Rattle.wait_graph.proofs.Walking.{Leads, leads_from, leads_to, walk_of_list, different}
 use Rattle.wait_graph.proofs.Firsts.{IsFirstStep, AreFirstSteps, AreStepsByPlace, first_steps_lead, first_of_all, first_steps_by_place}
 

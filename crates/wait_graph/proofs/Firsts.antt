@@ -6,7 +6,7 @@ use Rattle.std.specs.Ordering.{nat_cmp, ordering_then}
 use Rattle.std.specs.Cmp.Lexicographic.{slice_cmp}
 use Rattle.iv_types.specs.declared.session.Sessions.{Sessions}
 use Rattle.iv_types.specs.Intervals.{IsAtMost}
-use Rattle.wait_graph.specs.Sets.{Has}
+use Rattle.iv_types.specs.SessionSets.{Has}
 use Rattle.wait_graph.specs.Walks.{HasWalk}
 use Rattle.wait_graph.proofs.Walking.{Leads, walk_of_list}
 

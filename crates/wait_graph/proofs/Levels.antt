@@ -5,9 +5,9 @@ use Rattle.std.proofs.lemmas.List.{get_or_past}
 use Rattle.std.proofs.lemmas.Nat.Bits.{bit_at-zero}
 use Rattle.iv_types.specs.declared.session.Sessions.{Sessions}
 use Rattle.iv_meaning.specs.Waits.{nobody, recorded}
-use Rattle.wait_graph.specs.Sets.{Has, HaveCommon}
+use Rattle.iv_types.specs.SessionSets.{Has, HaveCommon}
 use Rattle.wait_graph.specs.Walks.{HasWalk, HasNoShorter, IsLevel}
-use Rattle.wait_graph.proofs.Members.{bit_of}
+use Rattle.iv_types.proofs.Members.{bit_of}
 use Rattle.wait_graph.proofs.Cycles.{waited_session}
 
 pub nobody_is_in : (session : ℕ) → Has nobody session → ⊥

@@ -1,4 +1,3 @@
-pub mod Members
 pub mod Walking
 pub mod Firsts
 pub mod Cycles

@@ -4,7 +4,7 @@ use Rattle.std.proofs.lemmas.Bool.{cases_eq, cases_lt}
 use Rattle.std.proofs.lemmas.List.{get_or-replicate, get_or_past, length-replicate}
 use Rattle.std.proofs.Math.ListN.{replicate}
 use Rattle.iv_types.specs.declared.session.Sessions.{Sessions}
-use Rattle.wait_graph.specs.Sets.{Has, HaveCommon, IsFirstCommon}
+use Rattle.iv_types.specs.SessionSets.{Has, HaveCommon, IsFirstCommon}
 use Rattle.wait_graph.specs.Walks.{HasWalk, IsLevel}
 use Rattle.wait_graph.proofs.Cycles.{waited_session}
 use Rattle.wait_graph.proofs.Firsts.{IsFirstStep, AreStepsByPlace}

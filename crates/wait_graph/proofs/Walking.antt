@@ -3,9 +3,9 @@ use Rattle.std.proofs.Common.{◌≡◌, ℕ, zero, suc, ◌+◌, ◌≤◌, inl
 use Rattle.std.specs.List.{Contains}
 use Rattle.iv_types.specs.declared.session.Sessions.{Sessions}
 use Rattle.iv_meaning.specs.Waits.{LeadsTo, AreDifferent}
-use Rattle.wait_graph.specs.Sets.{Has}
+use Rattle.iv_types.specs.SessionSets.{Has}
 use Rattle.wait_graph.specs.Walks.{HasWalk, HasNoShorter}
-use Rattle.wait_graph.proofs.Members.{contains_cases, contains_none}
+use Rattle.iv_types.proofs.Members.{contains_cases, contains_none}
 
 -- one walk after another
 pub join : (w : ℕ → Sessions) (m n total a b c : ℕ) → m + n ≡ total → HasWalk w m a b → HasWalk w n b c → HasWalk w total a c

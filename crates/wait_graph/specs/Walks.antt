@@ -1,7 +1,7 @@
 -- Walks from session to session, each to one for which the one before waits.
 use Rattle.std.specs.Prelude.{◌≡◌, ℕ, zero, suc, ◌<◌, ◌≤◌, ◌↔◌}
 use Rattle.iv_types.specs.declared.session.Sessions.{Sessions}
-use Rattle.wait_graph.specs.Sets.{Has}
+use Rattle.iv_types.specs.SessionSets.{Has}
 
 -- a walk of so many steps leads from one session to another
 abbrev pub HasWalk : (ℕ → Sessions) → ℕ → ℕ → ℕ → Type 0

@@ -4,7 +4,6 @@ ghost use Rattle.iv_meaning.specs.Waits.{nobody, recorded, would_wait_for, IsCyc
 ghost use Rattle.wait_graph.specs.Walks.{HasWalk, HasNoShorter, IsLevel};
 
 use crate::level::{Levels, levels_of, shortest};
-use crate::set::first_common;
 use iv_types::{Cycle, Sessions};
 
 // The first cycle of this length, which is the least.
@@ -24,7 +23,7 @@ fn first_cycle(waits: &[Sessions; 64], levels: &Levels, requester: u32, length: 
     members[0] = requester as u8;
     let mut last = requester;
     for at in 1..length {
-        last = first_common(waits[last as usize - 1], levels[(length - at) as usize]);
+        last = waits[last as usize - 1].first_common(levels[(length - at) as usize]);
         members[at as usize] = last as u8;
     }
     Cycle { length, members }

@@ -1,11 +1,10 @@
 //! The sessions from which so many steps lead to the requester.
 ghost use Rattle.std.specs.Prelude.{ℕ, ◌≤◌, ◌<◌, ◌↔◌, slice_index_or, IfNone, IfSome};
 ghost use Rattle.iv_meaning.specs.Waits.{nobody, recorded};
-ghost use Rattle.wait_graph.specs.Sets.{Has, HaveCommon};
+ghost use Rattle.iv_types.specs.SessionSets.{Has, HaveCommon};
 ghost use Rattle.wait_graph.specs.Walks.{IsLevel};
 
-use crate::set::{NOBODY, has, have_common, with};
-use iv_types::Sessions;
+use iv_types::{NOBODY, Sessions};
 
 /// For each count of steps, from 0 to 64, a set of sessions.
 pub type Levels = [Sessions; 65];
@@ -16,8 +15,8 @@ fn waiting_for(waits: &[Sessions; 64], waited: Sessions) -> Sessions
 {
     let mut waiting = NOBODY;
     for (at, waits_for) in waits.iter().enumerate() {
-        if have_common(*waits_for, waited) {
-            waiting = with(waiting, at as u32 + 1);
+        if waits_for.has_common(waited) {
+            waiting = waiting.with(at as u32 + 1);
         }
     }
     waiting
@@ -30,7 +29,7 @@ pub fn levels_of(waits: &[Sessions; 64], requester: u32) -> Levels
     ensures { (steps : ℕ) → steps ≤ 64 → IsLevel (recorded waits.now) requester (slice_index_or result steps nobody) steps }
 {
     let mut levels = [NOBODY; 65];
-    levels[0] = with(NOBODY, requester);
+    levels[0] = NOBODY.with(requester);
     for steps in 1..65 {
         levels[steps] = waiting_for(waits, levels[steps - 1]);
     }
@@ -47,7 +46,7 @@ pub fn shortest(levels: &Levels, session: u32) -> Option<u32>
     ensures in_range { IfSome result (λ total. (1 ≤ total) × (total ≤ 64)) }
 {
     for total in 1..65u32 {
-        if has(levels[total as usize], session) {
+        if levels[total as usize].has(session) {
             return Some(total);
         }
     }

@@ -3,7 +3,6 @@
 
 mod cycle;
 mod level;
-mod set;
 
 pub use cycle::would_close;
 pub use iv_types::{Cycle, Sessions};

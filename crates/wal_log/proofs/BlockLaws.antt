@@ -190,27 +190,58 @@ flush_outside start gate size s w on_disk fits =
     (outside_wider start size (start + gate) 1 staged (splice (start + gate) (165 ∷ []) staged) (omega arith) (omega arith) two)
 
 -- the same of a log, by its fields
-pub flush_any : (log : LogState) (start gate : ℕ) (w s : List ℕ) (groups : List (List Entry)) (es : List Entry) → start ≡ log.start → gate ≡ log.gate → w ≡ group es → Holds log.start log.gate log.size s groups → log.gate + length (group es) + 6 ≤ log.size
-    → (c : List ℕ) → InPart (start + gate) (body w) s c → FlushLeaves log s groups es c
-flush_any log start gate w s groups es at_start at_gate waits holds fits c part =
-    flush_leaves log.start log.gate log.size s groups es holds fits log refl refl c
-    (subst (λ (p : ℕ). InPart p (body (group es)) s c) (let e : start + gate ≡ log.start + log.gate = omega (arith, at_start, at_gate) in e)
-    (subst (λ (l : List ℕ). InPart (start + gate) (body l) s c) waits part))
+-- what the fields of a log say of it, and the bytes that wait in its buffer
+pub record IsFlushed (log : LogState) (start gate size reserved fill : ℕ) (bytes : List ℕ) : Type 0 where
+  pub at_start : start ≡ log.start
+  pub at_gate : gate ≡ log.gate
+  pub of_size : size ≡ log.size
+  pub left : reserved ≡ log.reserved
+  pub waits : drop 4 (take fill bytes) ≡ log.waiting
+  pub long : length log.waiting ≡ fill - 4
+  -- the block fits, with a gate behind it
+  pub room : log.gate + length log.waiting + 6 ≤ log.size
 
-pub flush_holds : (log : LogState) (start gate : ℕ) (w s d : List ℕ) (groups : List (List Entry)) (es : List Entry) → start ≡ log.start → gate ≡ log.gate → w ≡ group es → log.waiting ≡ group es → Holds log.start log.gate log.size s groups → log.gate + length (group es) + 6 ≤ log.size
-    → d ≡ splice (start + gate) (165 ∷ []) (splice (start + gate + 1) (body w) s) → Holds log.start (log.gate + (5 + length log.waiting)) log.size d (groups ++ es ∷ [])
-flush_holds log start gate w s d groups es at_start at_gate waits wait holds fits written =
-    let place : start + gate ≡ log.start + log.gate = omega (arith, at_start, at_gate) in
-    let same : splice (log.start + log.gate) (165 ∷ []) (splice (log.start + log.gate + 1) (body (group es)) s) ≡ d =
-    sym (written ∙ ap (λ (p : ℕ). splice p (165 ∷ []) (splice (p + 1) (body w) s)) place ∙ ap (λ (l : List ℕ). splice (log.start + log.gate) (165 ∷ []) (splice (log.start + log.gate + 1) (body l) s)) waits) in
-    subst (λ (l : List ℕ). Holds log.start (log.gate + (5 + length l)) log.size d (groups ++ es ∷ [])) (sym wait)
-    (subst (λ (l : List ℕ). Holds log.start (log.gate + (5 + length (group es))) log.size l (groups ++ es ∷ [])) same (flushed log.start log.gate log.size s groups es holds fits))
+pub is_flushed : {l log : LogState} (fill : ℕ) (bytes items : List ℕ) → l ≡ log → l.waiting ≡ drop 4 (take fill items) → bytes ≡ items → 4 ≤ fill → fill ≤ length items
+    → l.gate + fill + l.reserved ≤ l.size + 3 → 5 ≤ log.reserved → IsFlushed log l.start l.gate l.size l.reserved fill bytes
+is_flushed {l = l} {log = log} fill bytes items e wait same begun fits whole least =
+    let waits : drop 4 (take fill bytes) ≡ log.waiting = ap (λ (b : List ℕ). drop 4 (take fill b)) same ∙ (sym wait ∙ ap (λ (s : LogState). s.waiting) e) in
+    let long : length log.waiting ≡ fill - 4 = sym (ap length waits) ∙ length-behind 4 fill bytes (omega (arith, fits, ap length same)) in
+    record {
+      at_start = ap (λ (s : LogState). s.start) e;
+      at_gate = ap (λ (s : LogState). s.gate) e;
+      of_size = ap (λ (s : LogState). s.size) e;
+      left = ap (λ (s : LogState). s.reserved) e;
+      waits = waits;
+      long = long;
+      room = omega (arith, whole, least, begun, long, ap (λ (s : LogState). s.gate) e, ap (λ (s : LogState). s.size) e, ap (λ (s : LogState). s.reserved) e);
+    }
 
-pub flush_beside : (log : LogState) (start gate : ℕ) (w s d : List ℕ) → start ≡ log.start → gate ≡ log.gate → log.start + log.size ≤ length s → log.gate + length w + 6 ≤ log.size
-    → d ≡ splice (start + gate) (165 ∷ []) (splice (start + gate + 1) (body w) s) → IsOutside log.start log.size s d
-flush_beside log start gate w s d at_start at_gate on_disk fits written =
-    let place : start + gate ≡ log.start + log.gate = omega (arith, at_start, at_gate) in
-    subst (IsOutside log.start log.size s) (sym (written ∙ ap (λ (p : ℕ). splice p (165 ∷ []) (splice (p + 1) (body w) s)) place)) (flush_outside log.start log.gate log.size s w on_disk fits)
+module _ {log : LogState} {start gate size reserved fill : ℕ} {bytes : List ℕ} (is : IsFlushed log start gate size reserved fill bytes) where
+  place_is : start + gate ≡ log.start + log.gate
+  place_is = omega (arith, is.at_start, is.at_gate)
+
+  pub flush_any : (s : List ℕ) (groups : List (List Entry)) (es : List Entry) → Holds log.start log.gate log.size s groups → log.waiting ≡ group es
+      → (c : List ℕ) → InPart (start + gate) (body (drop 4 (take fill bytes))) s c → FlushLeaves log s groups es c
+  flush_any s groups es holds wait c part =
+      flush_leaves log.start log.gate log.size s groups es holds (subst (λ (l : List ℕ). log.gate + length l + 6 ≤ log.size) wait is.room) log refl refl c
+      (subst (λ (p : ℕ). InPart p (body (group es)) s c) place_is (subst (λ (l : List ℕ). InPart (start + gate) (body l) s c) (is.waits ∙ wait) part))
+
+  pub flush_holds : (s d : List ℕ) (groups : List (List Entry)) (es : List Entry) → Holds log.start log.gate log.size s groups → log.waiting ≡ group es
+      → d ≡ splice (start + gate) (165 ∷ []) (splice (start + gate + 1) (body (drop 4 (take fill bytes))) s)
+      → Holds log.start (log.gate + (5 + length log.waiting)) log.size d (groups ++ es ∷ [])
+  flush_holds s d groups es holds wait written =
+      let same : splice (log.start + log.gate) (165 ∷ []) (splice (log.start + log.gate + 1) (body (group es)) s) ≡ d =
+      sym (written ∙ ap (λ (p : ℕ). splice p (165 ∷ []) (splice (p + 1) (body (drop 4 (take fill bytes))) s)) place_is
+      ∙ ap (λ (l : List ℕ). splice (log.start + log.gate) (165 ∷ []) (splice (log.start + log.gate + 1) (body l) s)) (is.waits ∙ wait)) in
+      subst (λ (l : List ℕ). Holds log.start (log.gate + (5 + length l)) log.size d (groups ++ es ∷ [])) (sym wait)
+      (subst (λ (l : List ℕ). Holds log.start (log.gate + (5 + length (group es))) log.size l (groups ++ es ∷ [])) same
+      (flushed log.start log.gate log.size s groups es holds (subst (λ (l : List ℕ). log.gate + length l + 6 ≤ log.size) wait is.room)))
+
+  pub flush_beside : (s d : List ℕ) → log.start + log.size ≤ length s
+      → d ≡ splice (start + gate) (165 ∷ []) (splice (start + gate + 1) (body (drop 4 (take fill bytes))) s) → IsOutside log.start log.size s d
+  flush_beside s d on_disk written =
+      subst (IsOutside log.start log.size s) (sym (written ∙ ap (λ (p : ℕ). splice p (165 ∷ []) (splice (p + 1) (body (drop 4 (take fill bytes))) s)) place_is))
+      (flush_outside log.start log.gate log.size s (drop 4 (take fill bytes)) on_disk (subst (λ (l : List ℕ). log.gate + length l + 6 ≤ log.size) (sym is.waits) is.room))
 
 -- what changes nothing in the area leaves its blocks
 pub held_stays : (start gate size : ℕ) (old new : List ℕ) (groups : List (List Entry)) → Holds start gate size old groups → length new ≡ length old → ((i : ℕ) → start ≤ i → i < start + size → get_or new i 0 ≡ get_or old i 0) → Holds start gate size new groups

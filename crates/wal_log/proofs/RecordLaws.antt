@@ -9,7 +9,8 @@ use Rattle.wal_log.specs.declared.record.Record.TheVariants.{Write, Delta, Ghost
 use Rattle.wal_log.specs.declared.record.Scanned.{Scanned}
 use Rattle.wal_log.specs.Spelling.{kind_of, fields, spelling, Fits}
 use Rattle.wal_log.specs.Reading.{◌>>=◌, number_at, made, write_at, delta_at, ghost_at, clean_at, undo_at, commit_at, abort_at, schema_at, fields_at, record_at}
-use Rattle.wal_log.proofs.FieldLaws.{IsBytes, bind_some, some_is, Takes, Takes-then, IsField, number_field, string_field, optional_field, signed_field, numbers_field, both_field}
+use Rattle.iv_types.proofs.ByteNumbers.{IsBytes}
+use Rattle.wal_log.proofs.FieldLaws.{bind_some, some_is, Takes, Takes-then, IsField, number_field, string_field, optional_field, signed_field, numbers_field, both_field}
 
 -- a reader reads just the fields of records of this kind
 record IsKind (kind : ℕ) (read : List ℕ → Option (Record × List ℕ)) : Type 0 where

@@ -14,7 +14,7 @@ use Rattle.wal_log.specs.Spelling.{spelling}
 use Rattle.wal_log.specs.Area.{Entry, group, block, blocks, Begins, BeginsWith, IsSmall, FitsBlock, at_place, placed, laid, unplaced}
 use Rattle.wal_log.specs.Reading.{record_at}
 use Rattle.wal_log.specs.Scan.{Fault, Answers, joined, or_seven, with_first, without_rest, records, frame_size, frames, and_then, all_records, of_frames, scanned}
-use Rattle.wal_log.proofs.FieldLaws.{IsBytes}
+use Rattle.iv_types.proofs.ByteNumbers.{IsBytes}
 use Rattle.wal_log.proofs.RecordLaws.{record_takes, record_again}
 use Rattle.wal_log.proofs.RecordSteps.{records_some, eq_false}
 

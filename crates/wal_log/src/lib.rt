@@ -18,8 +18,3 @@ pub use log::{AREAS_AT, LEAST_AREA, Log, LogFull, MOST_AREA, held_blocks_stand};
 pub use record::{Record, RecordList, Scanned};
 pub use scanning::{read_entry, scan};
 pub use writing::{entry_bytes, entry_size, is_short};
-
-#[cfg(test)]
-mod log_tests;
-#[cfg(test)]
-mod record_tests;

@@ -2,9 +2,10 @@ use Rattle.std.proofs.Common.{Err, []}
 use mathlib.Core.Path.{sym, ap, subst, ◌∙◌}
 use Rattle.std.proofs.lemmas.Result.{err_from_is_err_and}
 use Rattle.iv_meaning.specs.Schema.{object_of, view_tree}
-use Rattle.list_engine.specs.Held.{has_rows}
-use Rattle.list_engine.specs.Creating.{IsMade, IsListed}
-use Rattle.list_engine.proofs.HeldLemmas.{view_refused}
+use Rattle.list_store.specs.Held.{has_rows}
+use Rattle.list_engine.specs.Creating.{IsListed}
+use Rattle.list_store.specs.Made.{IsMade}
+use Rattle.list_store.proofs.HeldLemmas.{view_refused}
 use Rattle.list_engine.proofs.ListLemmas.{entered}
 use Rattle.list_engine.proofs.creating.make.Goals as goal
 

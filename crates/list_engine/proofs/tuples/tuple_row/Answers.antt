@@ -9,7 +9,7 @@ use Rattle.iv_meaning.specs.Grouping.{all_of}
 use Rattle.iv_meaning.specs.Statement.{stored, tuple_values}
 use Rattle.row_eval.specs.Grouped.{Gives}
 use Rattle.row_eval.proofs.Groups.{given, refused_alike}
-use Rattle.list_engine.proofs.Collecting.{behind, goes_on, stops, ends, next_value, no_more_kinds, no_more_values}
+use Rattle.list_store.proofs.Collecting.{behind, goes_on, stops, ends, next_value, no_more_kinds, no_more_values}
 use Rattle.list_engine.proofs.tuples.tuple_row.Goals as goal
 
 pub returns-then-place-kinds : goal.returns-then-place-kinds

@@ -2,7 +2,7 @@ use Rattle.std.proofs.Common.{◌≡◌, drop}
 use Rattle.iv_types.specs.Syntax.{trees}
 use Rattle.iv_meaning.specs.Grouping.{all_of}
 use Rattle.iv_meaning.specs.Statement.{tuple_values}
-use Rattle.list_engine.proofs.Collecting.{behind}
+use Rattle.list_store.proofs.Collecting.{behind}
 use Rattle.list_engine.proofs.tuples.tuple_row.Given as goal
 
 abbrev pub invariant-loop-place : goal.invariant-loop-place

@@ -3,7 +3,7 @@ use Rattle.iv_types.specs.Syntax.{trees}
 use Rattle.iv_types.specs.Definitions.{kinds_of}
 use Rattle.iv_meaning.specs.Grouping.{all_of}
 use Rattle.iv_meaning.specs.Statement.{tuple_values, tuple_rows}
-use Rattle.list_engine.proofs.Collecting.{behind}
+use Rattle.list_store.proofs.Collecting.{behind}
 use Rattle.list_engine.proofs.tuples.tuple_rows.Given as goal
 
 abbrev pub invariant-loop-index : goal.invariant-loop-index

@@ -1,7 +1,7 @@
 use Rattle.std.proofs.Common.{sym, ap, subst, ◌∙◌}
 use Rattle.std.specs.List.{AllByRecursion}
 use Rattle.iv_meaning.specs.Database.{rows_of}
-use Rattle.list_engine.specs.Held.{Holds, IsEvaluated}
+use Rattle.list_store.specs.Held.{Holds, IsEvaluated}
 use Rattle.plain_machine.proofs.reading.read.Goals as goal
 
 pub returns : goal.returns

@@ -1,7 +1,7 @@
 -- No level before this one has the session.
 use Rattle.std.proofs.Common.{ℕ, ◌≤◌, ◌<◌, get_or}
 use Rattle.iv_meaning.specs.Waits.{nobody}
-use Rattle.wait_graph.specs.Sets.{Has}
+use Rattle.iv_types.specs.SessionSets.{Has}
 use Rattle.wait_graph.proofs.level.shortest.Given as goal
 
 abbrev pub invariant-loop-total : goal.invariant-loop-total

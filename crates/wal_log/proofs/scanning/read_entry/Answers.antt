@@ -1,6 +1,6 @@
 use Rattle.std.proofs.Common.{subst, drop}
 use Rattle.wal_log.specs.Scan.{Answers}
-use Rattle.wal_log.proofs.FieldLaws.{IsBytes-drop}
+use Rattle.iv_types.proofs.ByteNumbers.{IsBytes-drop}
 use Rattle.wal_log.proofs.ScanLaws.{is_found, is_only}
 use Rattle.wal_log.proofs.scanning.read_entry.Goals as goal
 

@@ -1,7 +1,7 @@
 use Rattle.std.proofs.Common.{◌≡◌}
 use mathlib.Core.Path.{ap, ◌∙◌}
 use Rattle.list_engine.specs.Engine.{IsIn, with_commit}
-use Rattle.list_engine.proofs.HeldLemmas.{if_ok}
+use Rattle.list_store.proofs.HeldLemmas.{if_ok}
 use Rattle.list_engine.proofs.engine.ListEngine.close_read.Goals as goal
 
 pub returns : goal.returns

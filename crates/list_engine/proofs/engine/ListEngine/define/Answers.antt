@@ -8,7 +8,7 @@ use Rattle.iv_meaning.specs.Schema.{Object, object_of}
 use Rattle.iv_meaning.specs.Database.{Database}
 use Rattle.iv_meaning.specs.Statement.{keep, defines}
 use Rattle.iv_meaning.specs.Transaction.{bound_or_refused}
-use Rattle.list_engine.specs.Held.{IsEvaluated}
+use Rattle.list_store.specs.Held.{IsEvaluated}
 use Rattle.list_engine.proofs.EngineLemmas.{held_number}
 use Rattle.list_engine.proofs.engine.ListEngine.define.Goals as goal
 

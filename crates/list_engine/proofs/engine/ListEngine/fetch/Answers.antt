@@ -7,7 +7,7 @@ use Rattle.std.proofs.Common.{◌≡◌, None, Err}
 use Rattle.iv_meaning.specs.Schema.{numbered}
 use Rattle.iv_meaning.specs.View.{relation_rows}
 use Rattle.row_eval.specs.Grouped.{Gives}
-use Rattle.list_engine.proofs.HeldLemmas.{refused_read}
+use Rattle.list_store.proofs.HeldLemmas.{refused_read}
 use Rattle.list_engine.proofs.SteppingLemmas.{with_views, range_refused}
 use Rattle.list_engine.proofs.engine.ListEngine.fetch.Goals as goal
 

@@ -2,7 +2,7 @@ use Rattle.std.proofs.Common.{refl}
 use Rattle.iv_types.specs.Syntax.{StatementTree, statement_tree}
 use Rattle.iv_meaning.specs.Transaction.{means}
 use Rattle.list_engine.specs.Engine.{Answers, EndsAs}
-use Rattle.list_engine.proofs.HeldLemmas.{if_ok}
+use Rattle.list_store.proofs.HeldLemmas.{if_ok}
 use Rattle.list_engine.proofs.EngineLemmas.{answers}
 use Rattle.list_engine.proofs.engine.ListEngine.run.Goals as goal
 

@@ -8,11 +8,11 @@ use Rattle.iv_meaning.specs.Statement.{Meaning, keep_all, insert, bound_meaning,
 use Rattle.iv_meaning.specs.Transaction.{next_number}
 use Rattle.list_engine.specs.declared.engine.ListEngine.{ListEngine}
 use Rattle.list_engine.specs.Engine.{IsIn, EndsAs}
-use Rattle.list_engine.proofs.HeldLemmas.{if_ok}
+use Rattle.list_store.proofs.HeldLemmas.{if_ok}
 use Rattle.std.proofs.Common.{◌⊎◌}
 use Rattle.std.specs.List.{AllByRecursion}
 use Rattle.iv_types.specs.declared.expression.Expr.{Expr}
-use Rattle.list_engine.specs.Held.{IsEvaluated}
+use Rattle.list_store.specs.Held.{IsEvaluated}
 use Rattle.list_engine.proofs.EngineLemmas.{passed_over, not_ended, accepted_ends, held_number}
 use Rattle.list_engine.proofs.engine.ListEngine.run_insert.Goals as goal
 

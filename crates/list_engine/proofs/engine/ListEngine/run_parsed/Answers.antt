@@ -10,7 +10,7 @@ use Rattle.iv_meaning.specs.Statement.{Refused}
 use Rattle.iv_meaning.specs.Transaction.{means, bound_or_refused}
 use Rattle.sql_bind.specs.Bound.{bound_tree}
 use Rattle.list_engine.specs.Engine.{EndsAs}
-use Rattle.list_engine.proofs.HeldLemmas.{if_ok}
+use Rattle.list_store.proofs.HeldLemmas.{if_ok}
 use Rattle.list_engine.proofs.EngineLemmas.{not_ended}
 use Rattle.list_engine.proofs.engine.ListEngine.run_parsed.Goals as goal
 

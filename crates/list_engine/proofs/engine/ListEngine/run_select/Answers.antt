@@ -15,9 +15,9 @@ use Rattle.query_laws.proofs.SoundLemmas.{relations_law}
 use Rattle.query_laws.proofs.ReadingLemmas.{reading_law}
 use Rattle.query_laws.proofs.Asking.{asking_law}
 use Rattle.query_exec.specs.Tasks.{left, query_in}
-use Rattle.list_engine.specs.Held.{sources, reader}
+use Rattle.list_store.specs.Held.{sources, reader}
 use Rattle.list_engine.specs.Engine.{EndsAs, IsSelected}
-use Rattle.list_engine.proofs.HeldLemmas.{if_ok, told}
+use Rattle.list_store.proofs.HeldLemmas.{if_ok, told}
 use Rattle.list_engine.proofs.EngineLemmas.{passed_over, not_ended, select_refused, selected_ends, with_more}
 use Rattle.list_engine.proofs.engine.ListEngine.run_select.Goals as goal
 

@@ -5,12 +5,12 @@ use Rattle.iv_types.specs.declared.refusal.Refusal.TheVariants.{NoMemory}
 use Rattle.iv_types.specs.declared.reply.Reply.TheVariants as reply
 use Rattle.iv_meaning.specs.Database.{Database}
 use Rattle.list_engine.specs.Engine.{IsIn, IsSelected, with_commit}
-use Rattle.list_engine.proofs.HeldLemmas.{if_ok}
+use Rattle.list_store.proofs.HeldLemmas.{if_ok}
 use Rattle.iv_meaning.specs.Autocommit.{IsPassedOver}
 use Rattle.iv_meaning.specs.Reading.{replies_by}
 use Rattle.query_laws.specs.Laws.{Asks}
 use Rattle.query_exec.specs.Tasks.{left}
-use Rattle.list_engine.specs.Held.{reader}
+use Rattle.list_store.specs.Held.{reader}
 use Rattle.list_engine.specs.Engine.{IsReading}
 use Rattle.list_engine.proofs.RunningLemmas.{not_begun, has_begun, still_reading, still_closed}
 use Rattle.list_engine.proofs.engine.ListEngine.run_task.Goals as goal

@@ -2,7 +2,7 @@ use Rattle.std.proofs.Common.{IfOk, sym, subst}
 use Rattle.txn_machine.specs.Acts as machine
 use Rattle.txn_machine.specs.May.{MayAct}
 use Rattle.txn_machine.specs.State.{State}
-use Rattle.list_engine.proofs.HeldLemmas.{if_ok}
+use Rattle.list_store.proofs.HeldLemmas.{if_ok}
 use Rattle.plain_machine.specs.Acts.{act_of, answer_of}
 use Rattle.plain_machine.specs.Stands.{Stands, Told}
 use Rattle.plain_machine.specs.declared.act.Act.{Act}

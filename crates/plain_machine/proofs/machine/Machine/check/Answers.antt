@@ -2,8 +2,8 @@ use Rattle.std.proofs.Common.{◌≡◌, [], ◌∷◌, Err, sym, subst}
 use Rattle.std.proofs.lemmas.Result.{err_from_is_err_and}
 use Rattle.iv_meaning.specs.Schema.{object_of, view_tree}
 use Rattle.iv_meaning.specs.Statement.{create_meaning, Accepted, defines}
-use Rattle.list_engine.specs.Creating.{IsMade}
-use Rattle.list_engine.proofs.HeldLemmas.{view_refused}
+use Rattle.list_store.specs.Made.{IsMade}
+use Rattle.list_store.proofs.HeldLemmas.{view_refused}
 use Rattle.txn_machine.specs.Store.{committed}
 use Rattle.plain_machine.proofs.Finding.{committed_is_sound}
 use Rattle.plain_machine.proofs.Creating.{view_accepted}

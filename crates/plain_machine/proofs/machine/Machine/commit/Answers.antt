@@ -3,7 +3,7 @@ use Rattle.iv_meaning.specs.Escrow.{IsSession}
 use Rattle.txn_machine.specs.Acts as act
 use Rattle.txn_machine.specs.Store.{now}
 use Rattle.txn_machine.specs.Steps.{number_unchanged}
-use Rattle.list_engine.proofs.HeldLemmas.{if_ok}
+use Rattle.list_store.proofs.HeldLemmas.{if_ok}
 use Rattle.plain_machine.specs.Acts.{answer_of, kept_steps}
 use Rattle.plain_machine.specs.Committing.{keeps_change}
 use Rattle.plain_machine.specs.Stands.{Told}

@@ -2,7 +2,7 @@ use Rattle.std.proofs.Common.{Some, sym, subst, inl, inr}
 use Rattle.iv_types.specs.Syntax.{statement_tree}
 use Rattle.iv_meaning.specs.Schema.{object_of}
 use Rattle.sql_bind.specs.Bound.{bound_tree}
-use Rattle.list_engine.proofs.HeldLemmas.{if_ok}
+use Rattle.list_store.proofs.HeldLemmas.{if_ok}
 use Rattle.txn_machine.specs.Acts as act
 use Rattle.plain_machine.specs.Acts.{answer_of}
 use Rattle.plain_machine.specs.Stands.{Told}

@@ -3,7 +3,7 @@ use Rattle.txn_machine.specs.Acts as act
 use Rattle.txn_machine.specs.Store.{locks_of}
 use Rattle.plain_machine.specs.Weights.{fetch_weight}
 use Rattle.plain_machine.specs.declared.locking.Asked.TheVariants as asked
-use Rattle.list_engine.proofs.HeldLemmas.{if_ok}
+use Rattle.list_store.proofs.HeldLemmas.{if_ok}
 use Rattle.plain_machine.proofs.Requests.{asked_as, one_want}
 use Rattle.plain_machine.proofs.Telling.{agrees, blocked_told}
 use Rattle.plain_machine.proofs.Granting.{fetched_told, lost_told}

@@ -1,6 +1,6 @@
 use Rattle.std.proofs.Common.{◌≡◌, sym, ap, ◌∙◌, subst}
 use Rattle.std.specs.Prelude.{slice_get}
-use Rattle.list_engine.proofs.HeldLemmas.{if_ok}
+use Rattle.list_store.proofs.HeldLemmas.{if_ok}
 use Rattle.plain_machine.specs.Moves.{Owes}
 use Rattle.plain_machine.specs.Txns.{txn_at}
 use Rattle.plain_machine.proofs.Replacing.{first_of}

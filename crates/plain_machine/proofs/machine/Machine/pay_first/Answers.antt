@@ -5,7 +5,7 @@ use Rattle.std.specs.FinMap.{get}
 use Rattle.std.proofs.lemmas.Int.{to_z-of_z}
 use Rattle.iv_types.specs.declared.refusal.EngineRefusal.TheVariants as refused
 use Rattle.txn_machine.specs.Deltas.{place_of}
-use Rattle.list_engine.proofs.HeldLemmas.{if_ok}
+use Rattle.list_store.proofs.HeldLemmas.{if_ok}
 use Rattle.plain_machine.specs.Bounds.{AreAccounts, IsAnswered}
 use Rattle.plain_machine.specs.Moves.{refuses, pays}
 use Rattle.plain_machine.specs.declared.act.Answer.{Answer}

@@ -4,7 +4,7 @@ use Rattle.iv_types.specs.declared.lock.Change.{Change}
 use Rattle.iv_meaning.specs.Database.{Row}
 use Rattle.txn_machine.specs.Acts as act
 use Rattle.txn_machine.specs.Store.{locks_of}
-use Rattle.list_engine.proofs.HeldLemmas.{if_ok}
+use Rattle.list_store.proofs.HeldLemmas.{if_ok}
 use Rattle.plain_machine.specs.declared.locking.Asked.TheVariants as answered
 use Rattle.plain_machine.proofs.Requests.{asked_as}
 use Rattle.plain_machine.proofs.Telling.{agrees, blocked_told, has_stored}

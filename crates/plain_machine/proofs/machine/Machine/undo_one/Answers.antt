@@ -1,6 +1,6 @@
 use Rattle.std.proofs.Common.{rules, ◌≡◌, ◌<◌, ◌∷◌, length, refl, sym, ap, ◌∙◌}
 use Rattle.std.specs.List.{remove}
-use Rattle.list_engine.proofs.HeldLemmas.{if_ok}
+use Rattle.list_store.proofs.HeldLemmas.{if_ok}
 use Rattle.plain_machine.specs.declared.txn.Txn.{Txn}
 use Rattle.plain_machine.specs.declared.txn.Kept.{Kept}
 use Rattle.plain_machine.specs.declared.txn.Kept.TheVariants as kept

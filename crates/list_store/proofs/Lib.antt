@@ -1,0 +1,5 @@
+pub mod BetweenLemmas
+pub mod CatalogLemmas
+pub mod Collecting
+pub mod HeldLemmas
+pub mod PlaceLemmas

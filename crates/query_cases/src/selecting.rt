@@ -1,0 +1,152 @@
+//! SELECTs that are read step by step.
+//!
+//! A row begins a SELECT of session 5, or hands rows, or `ended`, over to the one that was begun last; then comes its turn.
+//! Where it wants an interval, that is the session, how it locks, the index, and the ends of the interval in hexadecimal
+//! digits, `-` where one has no digits and `none` where there is none behind. Else it is the rows that are replied and
+//! `done` with their count, or `range`, with slashes between them.
+use crate::writing::write_refusal;
+use anyhow::bail;
+use case_text::{read_rows, write_interval, write_row};
+use catalog_text::bound;
+use iv_types::{Catalog, LockMode, Mode, Reply};
+use query_exec::Task;
+use sql_bind::{Bound, plan};
+use std::alloc::Global;
+use std::fmt::Write;
+use std::mem::{forget, replace};
+use txn_book::{Act, Answer, Step, Turn};
+
+const SESSION: u32 = 5;
+
+fn lock_name(mode: LockMode) -> &'static str {
+    match mode {
+        LockMode::Share => "shares",
+        LockMode::Exclusive => "excludes",
+        LockMode::Increment => "increments",
+    }
+}
+
+fn write_step(out: &mut String, step: &Step) -> anyhow::Result<()> {
+    let session = step.session;
+    write!(out, "{session} ")?;
+    match &step.act {
+        Act::Fetch {
+            index,
+            interval,
+            mode,
+        } => {
+            let name = lock_name(*mode);
+            write!(out, "{name} {index} ")?;
+            write_interval(out, interval)
+        }
+        _ => {
+            out.push_str("another step")?;
+            Ok(())
+        }
+    }
+}
+
+fn write_reply(out: &mut String, reply: &Reply) -> anyhow::Result<()> {
+    match reply {
+        Reply::Row(row) => write_row(out, row.as_slice()),
+        Reply::Error(refusal) => write_refusal(out, refusal),
+        Reply::Done(count) => {
+            write!(out, "done {count}")?;
+            Ok(())
+        }
+        _ => {
+            out.push_str("another reply")?;
+            Ok(())
+        }
+    }
+}
+
+fn write_replies(out: &mut String, replies: &[Reply]) -> anyhow::Result<()> {
+    for reply in replies {
+        if !out.is_empty() {
+            out.push_str(" / ")?;
+        }
+        write_reply(out, reply)?;
+    }
+    Ok(())
+}
+
+fn write_turn(out: &mut String, turn: &Turn) -> anyhow::Result<()> {
+    match turn {
+        Turn::Want(step) => write_step(out, step),
+        Turn::Done(replies) => write_replies(out, replies.as_slice()),
+        Turn::NoMemory => {
+            out.push_str("no memory")?;
+            Ok(())
+        }
+    }
+}
+
+fn turn_text(alloc: Global, turn: Turn) -> anyhow::Result<String> {
+    let mut out = String::new(alloc);
+    let told = write_turn(&mut out, &turn);
+    forget(turn);
+    told?;
+    Ok(out)
+}
+
+// A SELECT that is read by its plan.
+fn task_of(alloc: Global, catalog: &Catalog, bound: Bound) -> anyhow::Result<Task> {
+    match plan(alloc, catalog, &bound, Mode::Serial) {
+        Ok(plan) => Ok(Task::new(alloc, SESSION, catalog, bound, plan)?),
+        Err(_) => {
+            forget(bound);
+            bail!("no memory")
+        }
+    }
+}
+
+// The turn of the SELECT that was begun last.
+fn next_turn(
+    alloc: Global,
+    task: &mut Option<Task>,
+    last: Option<Answer>,
+) -> anyhow::Result<String> {
+    match task {
+        Some(task) => turn_text(alloc, task.next(last)),
+        None => {
+            forget(last);
+            bail!("no SELECT")
+        }
+    }
+}
+
+// What a row hands over.
+fn answer(alloc: Global, told: &str) -> anyhow::Result<Answer> {
+    match told {
+        "ended" => Ok(Answer::Ended),
+        _ => Ok(Answer::Rows(read_rows(alloc, told)?)),
+    }
+}
+
+// Begins a SELECT in place of another one.
+fn begin(
+    alloc: Global,
+    catalog: &Catalog,
+    task: &mut Option<Task>,
+    text: &str,
+) -> anyhow::Result<()> {
+    let begun = task_of(alloc, catalog, bound(alloc, catalog, text)?)?;
+    forget(replace(task, Some(begun)));
+    Ok(())
+}
+
+/// The turn that a row leads to.
+pub fn turn_of(
+    alloc: Global,
+    catalog: &Catalog,
+    task: &mut Option<Task>,
+    asked: &str,
+) -> anyhow::Result<String> {
+    if asked.starts_with("SELECT ") {
+        begin(alloc, catalog, task, asked)?;
+        return next_turn(alloc, task, None);
+    }
+    let told = answer(alloc, asked)?;
+    next_turn(alloc, task, Some(told))
+}

@@ -1,0 +1,143 @@
+//! What comes of a row, by the first word of its table's name.
+//!
+//! `words:` the words of the command, with the line `1: HELLO` as input; `faults:` which calls of the source and of the
+//! sink fail in a script of 40,000 lines `x`, whose replies have 17 bytes each; `asked:` which call of the sink fails in
+//! a script of one line; `lines:` what is read of an input, line by line, or how many bytes that is; `sessions:` the
+//! session and the text of a line; `built:` whether a statement is of a form that is built.
+use crate::running::{Ended, asked, lines_read, run_words};
+use anyhow::bail;
+use case_text::{expanded, unescaped, write_escaped};
+use sql_parse::parse;
+use std::alloc::Global;
+use std::mem::forget;
+use view_server::{built, is_built, session_text};
+
+// A number behind a word.
+fn number_behind(text: &str, word: &str) -> anyhow::Result<u64> {
+    match text.strip_prefix(word) {
+        Some(number) => Ok(number.parse::<u64>()?),
+        None => bail!("no number"),
+    }
+}
+
+fn write_ended(alloc: Global, found: &Ended) -> anyhow::Result<String> {
+    let status = found.status;
+    let mut out = format!(in alloc; "{status:?} ")?;
+    write_escaped(&mut out, &found.written)?;
+    Ok(out)
+}
+
+fn of_words(alloc: Global, asked: &str) -> anyhow::Result<String> {
+    let texts = asked.strip_prefix('`').unwrap_or(asked);
+    let texts = texts.strip_suffix('`').unwrap_or(texts);
+    write_ended(alloc, &run_words(alloc, texts, b"1: HELLO\n", 0, 0)?)
+}
+
+// So many lines of two bytes.
+fn short_lines(alloc: Global) -> anyhow::Result<Vec<u8>> {
+    let mut input = Vec::new(alloc);
+    for _ in 0..40_000 {
+        input.extend_from_slice(b"x\n")?;
+    }
+    Ok(input)
+}
+
+fn of_faults(alloc: Global, asked: &str) -> anyhow::Result<String> {
+    let Some((read, write)) = asked.split_once(", ") else {
+        bail!("no calls")
+    };
+    let read = number_behind(read, "read ")?;
+    let write = number_behind(write, "write ")?;
+    let Ended { status, written } = run_words(
+        alloc,
+        "script -",
+        &short_lines(alloc)?,
+        read,
+        write,
+    )?;
+    let replies = written.len() / 17;
+    let rest = written.len() % 17;
+    Ok(format!(in alloc; "{status:?}, {replies} replies, {rest} bytes")?)
+}
+
+fn of_asked(alloc: Global, call: &str) -> anyhow::Result<String> {
+    let call = number_behind(call, "write ")?;
+    let (status, times) = asked(alloc, b"1: HELLO\n", call)?;
+    Ok(format!(in alloc; "{status:?}, asked {times} times")?)
+}
+
+// The bytes of a text with short forms and escapes; two backquotes are no byte.
+fn bytes(alloc: Global, text: &str) -> anyhow::Result<Vec<u8>> {
+    if text == "``" {
+        return Ok(Vec::new(alloc));
+    }
+    let text = expanded(alloc, text)?;
+    unescaped(alloc, text.as_str())
+}
+
+// What is read of an input, or its number of bytes where they are many.
+fn of_lines(alloc: Global, asked: &str) -> anyhow::Result<String> {
+    let input = bytes(alloc, asked)?;
+    let read = lines_read(alloc, &input)?;
+    let mut out = String::new(alloc);
+    if read.len() > 40 {
+        let bytes = read.len();
+        out = format!(in alloc; "{bytes} bytes")?;
+    } else if read.is_empty() {
+        out.push_str("``")?;
+    } else {
+        write_escaped(&mut out, &read)?;
+    }
+    Ok(out)
+}
+
+fn of_session(alloc: Global, asked: &str) -> anyhow::Result<String> {
+    let line = bytes(alloc, asked)?;
+    let mut out = String::new(alloc);
+    match session_text(&line) {
+        Some((session, text)) => {
+            out = format!(in alloc; "{session} `")?;
+            write_escaped(&mut out, text.as_bytes())?;
+            out.push('`')?;
+        }
+        None => out.push_str("none")?,
+    }
+    Ok(out)
+}
+
+fn of_form(alloc: Global, asked: &str) -> anyhow::Result<String> {
+    let (is_one, is_given) = match parse(alloc, asked) {
+        Ok(statement) => {
+            let is_one = is_built(&statement);
+            let found = built(statement);
+            let is_given = found.is_some();
+            forget(found);
+            (is_one, is_given)
+        }
+        Err(refusal) => {
+            forget(refusal);
+            bail!("no statement")
+        }
+    };
+    Ok(format!(in alloc; "{is_one} {is_given}")?)
+}
+
+/// What comes of a row.
+///
+/// # Errors
+///
+/// Where the table's name or the row has none of these forms, or memory is wanting.
+pub fn answer(alloc: Global, table: &str, asked: &str) -> anyhow::Result<String> {
+    let Some((word, _)) = table.split_once(": ") else {
+        bail!("no kind of rows")
+    };
+    match word {
+        "words" => of_words(alloc, asked),
+        "faults" => of_faults(alloc, asked),
+        "asked" => of_asked(alloc, asked),
+        "lines" => of_lines(alloc, asked),
+        "sessions" => of_session(alloc, asked),
+        "built" => of_form(alloc, asked),
+        _ => bail!("no kind of rows"),
+    }
+}

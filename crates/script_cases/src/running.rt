@@ -1,0 +1,114 @@
+//! A script run on a source and a sink in memory.
+use iv_types::{CallList, Failed, Sequence};
+use line_wire::{Line, LineBuffer, ListSink, ListSource, Source, read_line};
+use std::alloc::Global;
+use view_server::{Status, run};
+
+// The greatest output of a script, in bytes.
+const ROOM: u64 = 1 << 20;
+
+fn calls(alloc: Global, number: u64) -> anyhow::Result<CallList> {
+    let mut numbers = Vec::new(alloc);
+    numbers.push(number)?;
+    Ok(Sequence::from_vec(numbers))
+}
+
+// The words of a text, or none where it says so.
+fn words(alloc: Global, texts: &str) -> anyhow::Result<Vec<String>> {
+    let mut words = Vec::new(alloc);
+    if texts == "no words" {
+        return Ok(words);
+    }
+    for text in texts.split(' ') {
+        words.push(String::from_str(alloc, text)?)?;
+    }
+    Ok(words)
+}
+
+fn source(alloc: Global, input: &[u8], failing: u64) -> anyhow::Result<ListSource> {
+    let input = input.to_vec(alloc)?;
+    Ok(ListSource::new(Sequence::from_vec(input), calls(alloc, failing)?))
+}
+
+/// How a run ended, and what it wrote.
+#[derive(Drop)]
+pub struct Ended {
+    pub status: Status,
+    pub written: Vec<u8>,
+}
+
+/// Runs the program with these words on an input, where these calls of its source and its sink fail (0 for none).
+///
+/// # Errors
+///
+/// Where memory is wanting.
+pub fn run_words(
+    alloc: Global,
+    texts: &str,
+    input: &[u8],
+    read: u64,
+    write: u64,
+) -> anyhow::Result<Ended> {
+    let words = words(alloc, texts)?;
+    let mut source = source(alloc, input, read)?;
+    let mut sink = ListSink::new(alloc, ROOM, calls(alloc, write)?)?;
+    let status = run(alloc, &words, &mut source, &mut sink);
+    let written = sink.written().to_vec(alloc)?;
+    Ok(Ended { status, written })
+}
+
+// A source that counts how often it is asked, and tells nothing.
+#[derive(Drop)]
+struct Counting {
+    source: ListSource,
+    asked: u64,
+}
+
+impl Source for Counting {
+    ghost use Rattle.std.specs.Prelude.{None};
+
+    ghost left = { λ _. None };
+
+    ghost faults = { λ s. s.source.faults };
+
+    fn take(&mut self, into: &mut [u8]) -> Result<usize, Failed> {
+        self.asked = self.asked.saturating_add(1);
+        self.source.take(into)
+    }
+}
+
+/// How a script on this input ends where this call of its sink fails, and how often its source was asked.
+///
+/// # Errors
+///
+/// Where memory is wanting.
+pub fn asked(alloc: Global, input: &[u8], write: u64) -> anyhow::Result<(Status, u64)> {
+    let words = words(alloc, "script -")?;
+    let mut source = Counting {
+        source: source(alloc, input, 0)?,
+        asked: 0,
+    };
+    let mut sink = ListSink::new(alloc, ROOM, calls(alloc, write)?)?;
+    let status = run(alloc, &words, &mut source, &mut sink);
+    Ok((status, source.asked))
+}
+
+/// The first nine lines of an input, each with a bar behind it, and `!` for one that is too long.
+///
+/// # Errors
+///
+/// Where memory is wanting.
+pub fn lines_read(alloc: Global, input: &[u8]) -> anyhow::Result<Vec<u8>> {
+    let mut source = source(alloc, input, 0)?;
+    let mut lines = LineBuffer::new(alloc)?;
+    let mut read = Vec::new(alloc);
+    for _ in 0..9 {
+        match read_line(&mut source, &mut lines)? {
+            Line::Text => read.extend_from_slice(lines.text())?,
+            Line::TooLong => read.push(b'!')?,
+            Line::End => return Ok(read),
+        }
+        read.push(b'|')?;
+    }
+    Ok(read)
+}

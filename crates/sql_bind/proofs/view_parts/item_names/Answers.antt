@@ -1,0 +1,17 @@
+use Rattle.std.proofs.Common.{◌+◌, drop}
+use Rattle.std.specs.Option.{option_to_list}
+use Rattle.bind_shape.specs.Items.{named_item}
+use Rattle.iv_types.proofs.Walks.{cons_is}
+use Rattle.std.proofs.Common.{refl}
+use Rattle.std.specs.List.{filter_map}
+use Rattle.iv_types.proofs.Walks.{all_gathered, gathered}
+use Rattle.bind_shape.specs.Items.{items_seen}
+use Rattle.bind_names.specs.Seeing.{scope_seen}
+use Rattle.sql_bind.proofs.view_parts.item_names.Goals as goal
+
+pub loop-item-preserved : goal.loop-item-preserved
+loop-item-preserved c =
+    gathered (λ zs. filter_map (λ i. i.name) (items_seen (scope_seen c.args.scope.now) zs)) (option_to_list (named_item (scope_seen c.args.scope.now) c.item-item.result).name) _ _ _ _ _ c.item-item.result c.loop-item-test.true c.item-item.is (cons_is (named_item (scope_seen c.args.scope.now) c.item-item.result).name (filter_map (λ i. i.name) (items_seen (scope_seen c.args.scope.now) (drop (c.loop-item.item-index + 1) c.args.items.now)))) (c.in_ok-push_name.ensures) c.loop-item.invariant
+
+pub returns : goal.returns
+returns c = all_gathered (λ zs. filter_map (λ i. i.name) (items_seen (scope_seen c.args.scope.now) zs)) _ _ _ _ c.loop-item-test.false refl c.loop-item.invariant
