@@ -16,6 +16,3 @@ pub mod law;
 mod part;
 
 pub use escrow::{Escrow, Range};
-
-#[cfg(test)]
-mod tests;

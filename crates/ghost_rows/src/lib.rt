@@ -17,6 +17,3 @@ mod table;
 mod view_rows;
 
 pub use view_rows::{PayRefusal, ViewRows};
-
-#[cfg(test)]
-mod tests;

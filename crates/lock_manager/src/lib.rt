@@ -18,6 +18,3 @@ mod table;
 
 pub use answer::LockAnswer;
 pub use table::LockTable;
-
-#[cfg(test)]
-mod tests;

@@ -8,8 +8,3 @@ mod tables;
 
 pub use list_maps::ListMaps;
 pub use tables::Tables;
-
-#[cfg(test)]
-mod table_tests;
-#[cfg(test)]
-mod tests;

@@ -16,6 +16,3 @@ pub mod law;
 pub use contribution::contribution_of;
 pub use delta::{deltas, needs};
 pub use fitting::rows_fit;
-
-#[cfg(test)]
-mod tests;

@@ -6,6 +6,3 @@ mod level;
 
 pub use cycle::would_close;
 pub use iv_types::{Cycle, Sessions};
-
-#[cfg(test)]
-mod tests;

@@ -1,0 +1,74 @@
+//! Catalogs of tables.
+//!
+//! A table is its name, the kinds of its columns, `KEY`, and the places of its key's columns, counted from 0, as in `pair
+//! INT TEXT HUGE KEY 1 0`.
+use anyhow::bail;
+use case_text::first_word;
+use iv_types::{Bytes, Catalog, ColumnDef, ColumnList, Definition, Kind, Places, TableDef};
+use std::alloc::Global;
+use std::mem::forget;
+
+fn kind_of(word: &str) -> anyhow::Result<Kind> {
+    match word {
+        "INT" => Ok(Kind::Int),
+        "HUGE" => Ok(Kind::Huge),
+        "TEXT" => Ok(Kind::Text),
+        _ => bail!("no kind"),
+    }
+}
+
+fn columns(alloc: Global, text: &str) -> anyhow::Result<ColumnList> {
+    let mut columns = ColumnList::new(alloc);
+    for word in text.split(' ') {
+        let kind = kind_of(word)?;
+        columns.push(ColumnDef {
+            name: Bytes::new(alloc),
+            kind,
+        })?;
+    }
+    Ok(columns)
+}
+
+fn places(alloc: Global, text: &str) -> anyhow::Result<Places> {
+    let mut places = Places::new(alloc);
+    for place in text.split(' ') {
+        places.push(place.parse::<u32>()?)?;
+    }
+    Ok(places)
+}
+
+// The table of a text and a number.
+fn table(alloc: Global, number: u32, text: &str) -> anyhow::Result<TableDef> {
+    let (name, kinds) = first_word(text);
+    let Some((kinds, key)) = kinds.split_once(" KEY ") else {
+        bail!("no key")
+    };
+    Ok(TableDef {
+        number,
+        name: Bytes::from_vec(Vec::from_slice(alloc, name.as_bytes())?),
+        columns: columns(alloc, kinds)?,
+        primary: places(alloc, key)?,
+    })
+}
+
+fn add(catalog: &mut Catalog, definition: Definition) -> anyhow::Result<()> {
+    let next = catalog.len().checked_add(1);
+    if next != Some(definition.number() as usize)
+        || catalog.find(definition.name().as_slice()).is_some()
+    {
+        forget(definition);
+        bail!("a number or a name that is not new");
+    }
+    catalog.add(definition)?;
+    Ok(())
+}
+
+/// Adds the table of a text.
+pub fn add_table(alloc: Global, catalog: &mut Catalog, text: &str) -> anyhow::Result<()> {
+    let count = catalog.len();
+    if count >= 64 {
+        bail!("too many tables");
+    }
+    let table = table(alloc, count as u32 + 1, text)?;
+    add(catalog, Definition::Table(table))
+}

@@ -1,0 +1,205 @@
+//! Sorted maps as lists in memory, under tables.
+//!
+//! A key and a value are texts between quotes, with escapes. `put INDEX KEY VALUE` sets the value under a key, and `take
+//! INDEX KEY` takes an entry away; `room INDEX COUNT` makes room, and `fill INDEX KEY VALUE KEY VALUE` makes room for one
+//! entry, then for two, and adds two new ones. `get INDEX KEY` answers the value or `none`, `at INDEX KEY` and `after INDEX
+//! KEY` the first entry there, `all INDEX` the first nine entries or `nothing`, and `used` what all entries count.
+ghost use Rattle.std.specs.Prelude.{◌≡◌, IfOk};
+
+use anyhow::bail;
+use case_text::{all_words, first_word, short_number_at, unescaped, word_at, write_escaped};
+use iv_types::{Bytes, SortedMaps};
+use std::alloc::Global;
+use std::fmt::Write;
+use std::mem::{forget, replace};
+use table_store::{ListMaps, Tables};
+
+/// Tables over maps, once they are made.
+#[derive(Drop)]
+pub struct Maps {
+    tables: Option<Tables<ListMaps>>,
+}
+
+fn bytes_at(alloc: Global, words: &[&str], place: usize) -> anyhow::Result<Bytes> {
+    let Some(quoted) = word_at(words, place)?.strip_prefix('\'') else {
+        bail!("no text")
+    };
+    let Some(content) = quoted.strip_suffix('\'') else {
+        bail!("no end of a text")
+    };
+    Ok(Bytes::from_vec(unescaped(alloc, content)?))
+}
+
+fn write_text(out: &mut String, bytes: &[u8]) -> anyhow::Result<()> {
+    out.push('\'')?;
+    write_escaped(out, bytes)?;
+    out.push('\'')?;
+    Ok(())
+}
+
+fn write_found(out: &mut String, found: Option<(&[u8], &[u8])>) -> anyhow::Result<()> {
+    match found {
+        Some((key, value)) => {
+            write_text(out, key)?;
+            out.push(' ')?;
+            write_text(out, value)
+        }
+        None => {
+            out.push_str("none")?;
+            Ok(())
+        }
+    }
+}
+
+fn put(maps: &mut ListMaps, index: u32, key: Bytes, value: Bytes) -> anyhow::Result<()> {
+    if index > 192 || key.as_slice().len() > 1024 || value.as_slice().len() > 2048 {
+        bail!("more than maps hold");
+    }
+    if maps.get(index, key.as_slice()).is_some() {
+        maps.replace(index, key.as_slice(), value);
+        return Ok(());
+    }
+    maps.reserve(index, 1)?;
+    maps.insert(index, key, value);
+    Ok(())
+}
+
+fn take(maps: &mut ListMaps, index: u32, key: &[u8]) -> anyhow::Result<()> {
+    if maps.get(index, key).is_none() {
+        bail!("no such entry");
+    }
+    maps.remove(index, key);
+    Ok(())
+}
+
+// Makes room for one entry and then for two, and adds two.
+fn fill(
+    maps: &mut ListMaps,
+    index: u32,
+    first: (Bytes, Bytes),
+    second: (Bytes, Bytes),
+) -> anyhow::Result<()> {
+    if index > 192 || first.0.as_slice().len() > 1024 || first.1.as_slice().len() > 2048 {
+        bail!("more than maps hold");
+    }
+    if second.0.as_slice().len() > 1024 || second.1.as_slice().len() > 2048 {
+        bail!("more than maps hold");
+    }
+    maps.reserve(index, 1)?;
+    maps.reserve(index, 2)?;
+    if maps.get(index, first.0.as_slice()).is_some() {
+        bail!("an entry that is there");
+    }
+    maps.insert(index, first.0, first.1);
+    if maps.get(index, second.0.as_slice()).is_some() {
+        bail!("an entry that is there");
+    }
+    maps.insert(index, second.0, second.1);
+    Ok(())
+}
+
+// Makes a call that changes maps.
+fn change(alloc: Global, maps: &mut ListMaps, call: &str, words: &[&str]) -> anyhow::Result<()> {
+    let index = short_number_at(words, 0)?;
+    match call {
+        "put" => {
+            let key = bytes_at(alloc, words, 1)?;
+            put(maps, index, key, bytes_at(alloc, words, 2)?)
+        }
+        "take" => take(maps, index, bytes_at(alloc, words, 1)?.as_slice()),
+        "room" => {
+            maps.reserve(index, short_number_at(words, 1)?)?;
+            Ok(())
+        }
+        "fill" => {
+            let first = (bytes_at(alloc, words, 1)?, bytes_at(alloc, words, 2)?);
+            let second = (bytes_at(alloc, words, 3)?, bytes_at(alloc, words, 4)?);
+            fill(maps, index, first, second)
+        }
+        _ => bail!("no such call"),
+    }
+}
+
+// Writes the first nine entries.
+fn write_all(out: &mut String, maps: &ListMaps, index: u32) -> anyhow::Result<()> {
+    let mut next = maps.first_at(index, &[]);
+    if next.is_none() {
+        out.push_str("nothing")?;
+    }
+    let mut is_first = true;
+    for _ in 0..9 {
+        let Some((key, value)) = next else {
+            break;
+        };
+        out.push_str(if is_first { "" } else { ", " })?;
+        is_first = false;
+        write_found(out, Some((key, value)))?;
+        next = maps.first_after(index, key);
+    }
+    Ok(())
+}
+
+// Writes the entry that a call finds.
+fn write_entry(
+    alloc: Global,
+    out: &mut String,
+    maps: &ListMaps,
+    call: &str,
+    words: &[&str],
+) -> anyhow::Result<()> {
+    let index = short_number_at(words, 0)?;
+    let key = bytes_at(alloc, words, 1)?;
+    match call {
+        "at" => write_found(out, maps.first_at(index, key.as_slice())),
+        "after" => write_found(out, maps.first_after(index, key.as_slice())),
+        _ => match maps.get(index, key.as_slice()) {
+            Some(value) => write_text(out, value),
+            None => write_found(out, None),
+        },
+    }
+}
+
+fn call_maps(
+    alloc: Global,
+    out: &mut String,
+    tables: &mut Tables<ListMaps>,
+    asked: &str,
+) -> anyhow::Result<()> {
+    let (call, rest) = first_word(asked);
+    let words = all_words(alloc, rest)?;
+    match call {
+        "used" => {
+            let used = tables.used();
+            write!(out, "{used}")?;
+        }
+        "get" | "at" | "after" => write_entry(alloc, out, tables.maps(), call, &words)?,
+        "all" => write_all(out, tables.maps(), short_number_at(&words, 0)?)?,
+        _ => {
+            change(alloc, tables.maps_mut(), call, &words)?;
+            out.push_str("done")?;
+        }
+    }
+    Ok(())
+}
+
+impl Maps {
+    pub fn new() -> Maps {
+        Maps { tables: None }
+    }
+
+    /// Begins with maps without entries.
+    pub fn begin(&mut self, alloc: Global) -> anyhow::Result<()> {
+        let tables = Tables::new(alloc, ListMaps::new(alloc)?)?;
+        forget(replace(&mut self.tables, Some(tables)));
+        Ok(())
+    }
+
+    pub fn answer(&mut self, alloc: Global, asked: &str) -> anyhow::Result<String> {
+        let mut out = String::new(alloc);
+        match &mut self.tables {
+            Some(tables) => call_maps(alloc, &mut out, tables, asked)?,
+            None => bail!("no maps"),
+        }
+        Ok(out)
+    }
+}

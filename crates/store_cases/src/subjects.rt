@@ -1,0 +1,124 @@
+//! What the rows of the tables call.
+//!
+//! What is left at the end is forgotten and not dropped: the program is short, and the drop is costly to prove.
+use crate::bounds::Bounds;
+use crate::catalogs::add_table;
+use crate::locks::Locks;
+use crate::maps::Maps;
+use crate::waits::Waits;
+use crate::{deltas, pays, tables};
+use anyhow::bail;
+use case_text::Cases;
+use iv_types::Catalog;
+use std::alloc::Global;
+use std::mem::{forget, replace};
+
+/// What the rows of a table call.
+#[derive(Clone, Copy)]
+enum Kind {
+    Waits,
+    Bounds,
+    Maps,
+    Tables,
+    Locks,
+    Deltas,
+    Pays,
+}
+
+fn kind_of(name: &str) -> anyhow::Result<Kind> {
+    let Some((kind, _)) = name.split_once(": ") else {
+        bail!("no kind of table")
+    };
+    match kind {
+        "waits" => Ok(Kind::Waits),
+        "bounds" => Ok(Kind::Bounds),
+        "maps" => Ok(Kind::Maps),
+        "tables" => Ok(Kind::Tables),
+        "locks" => Ok(Kind::Locks),
+        "deltas" => Ok(Kind::Deltas),
+        "pays" => Ok(Kind::Pays),
+        _ => bail!("no such kind of table"),
+    }
+}
+
+#[derive(Drop)]
+pub struct Subjects {
+    kind: Kind,
+    waits: Waits,
+    bounds: Bounds,
+    maps: Maps,
+    locks: Locks,
+    catalog: Catalog,
+    // The row that pays begin with.
+    start: String,
+    // The calls of the table so far, one a line.
+    calls: String,
+}
+
+impl Subjects {
+    pub fn new(alloc: Global) -> Subjects {
+        Subjects {
+            kind: Kind::Waits,
+            waits: Waits::new(),
+            bounds: Bounds::new(),
+            maps: Maps::new(),
+            locks: Locks::new(),
+            catalog: Catalog::new(alloc),
+            start: String::new(alloc),
+            calls: String::new(alloc),
+        }
+    }
+
+    // Adds a call to those of the table.
+    fn note(&mut self, asked: &str) -> anyhow::Result<()> {
+        if !self.calls.as_str().is_empty() {
+            self.calls.push('\n')?;
+        }
+        self.calls.push_str(asked)?;
+        Ok(())
+    }
+}
+
+impl Cases for Subjects {
+    fn begin(&mut self, alloc: Global, name: &str) -> anyhow::Result<()> {
+        self.kind = kind_of(name)?;
+        self.waits = Waits::new();
+        forget(replace(&mut self.bounds, Bounds::new()));
+        self.maps.begin(alloc)?;
+        self.locks.begin(alloc)?;
+        forget(replace(&mut self.catalog, Catalog::new(alloc)));
+        self.start = String::new(alloc);
+        self.calls = String::new(alloc);
+        Ok(())
+    }
+
+    fn give(&mut self, alloc: Global, text: &str) -> anyhow::Result<()> {
+        match self.kind {
+            Kind::Waits => self.waits.give(text),
+            Kind::Tables | Kind::Deltas => add_table(alloc, &mut self.catalog, text),
+            Kind::Pays => {
+                self.start = String::from_str(alloc, text)?;
+                Ok(())
+            }
+            _ => bail!("nothing is given"),
+        }
+    }
+
+    fn answer(&mut self, alloc: Global, asked: &str) -> anyhow::Result<String> {
+        match self.kind {
+            Kind::Waits => self.waits.answer(alloc, asked),
+            Kind::Bounds => self.bounds.answer(alloc, asked),
+            Kind::Maps => self.maps.answer(alloc, asked),
+            Kind::Locks => self.locks.answer(alloc, asked),
+            Kind::Deltas => deltas::answer(alloc, &self.catalog, asked),
+            Kind::Tables => {
+                self.note(asked)?;
+                tables::last_answer(alloc, &self.catalog, self.calls.as_str())
+            }
+            Kind::Pays => {
+                self.note(asked)?;
+                pays::last_answer(alloc, self.start.as_str(), self.calls.as_str())
+            }
+        }
+    }
+}

@@ -1,0 +1,319 @@
+//! Changes of tables over maps in memory, and what is read behind them.
+//!
+//! A line `+ ` adds a table to the catalog (`catalogs`). `change NUMBER: ROW > ROW` changes a row of a table from what it
+//! was to what it is then, `nothing` where there is none, and `back` takes the latest change back that was not taken back
+//! yet; both answer `done`. `entries` answers the entries that the latest change removed and made, with ` > ` between, each
+//! as its index, its key and its value in hexadecimal digits, or `nothing`. `used` answers what all entries count. `read
+//! NUMBER INTERVAL` answers the rows of a table in an interval, whose ends are values of the first columns of its key, or
+//! behind `=` bytes with escapes, with `..` between.
+//!
+//! For each row all calls of its table are made again from the first on: what a proof knows of the tables behind a call
+//! is not kept from one row to the next.
+ghost use Rattle.std.specs.Prelude.{◌≡◌, Some, IfOk, OnOk};
+ghost use Rattle.iv_meaning.specs.Database.{Rows};
+ghost use Rattle.table_store.specs.Lists.{map_at};
+ghost use Rattle.table_store.specs.Stored as specs;
+ghost use Rattle.table_store.specs.Stored.{Holds};
+
+use crate::table_facts::{can_be_taken_back, is_change, key_of, kinds_at, table_of};
+use anyhow::bail;
+use case_text::{first_word, read_row, unescaped, write_hexadecimal, write_row};
+use iv_types::{
+    Bytes, Catalog, Change, IndexEntry, Interval, Kept, NoMemory, Row, RowList, SortedMaps,
+    TableDef,
+};
+use row_codec::{encode_key, key_fits};
+use std::alloc::Global;
+use std::fmt::Write;
+use std::mem::forget;
+use table_store::{ListMaps, Tables};
+
+fn row_or_none(alloc: Global, text: &str) -> anyhow::Result<Option<Row>> {
+    if text == "nothing" {
+        return Ok(None);
+    }
+    Ok(Some(read_row(alloc, text)?))
+}
+
+// Tables without rows.
+fn no_rows(alloc: Global, catalog: &Catalog) -> Result<Tables<ListMaps>, NoMemory>
+    ensures { IfOk result (λ tables. (rows : Rows) × Holds catalog.now rows (map_at tables)) }
+{
+    Tables::new(alloc, ListMaps::new(alloc)?)
+}
+
+// The change of a row, under the key of either.
+fn change_of(alloc: Global, table: &TableDef, text: &str) -> anyhow::Result<Change> {
+    let Some((before, after)) = text.split_once(" > ") else {
+        bail!("no rows")
+    };
+    let either = if before == "nothing" { after } else { before };
+    let row = read_row(alloc, either)?;
+    let key = key_of(alloc, table, &row)?;
+    let before = row_or_none(alloc, before)?;
+    let after = row_or_none(alloc, after)?;
+    Ok(Change {
+        table: table.number,
+        key,
+        before,
+        after,
+    })
+}
+
+// Makes a change.
+fn change(
+    alloc: Global,
+    catalog: &Catalog,
+    tables: &mut Tables<ListMaps>,
+    change: Change,
+) -> anyhow::Result<Kept>
+    requires { (rows : Rows) × Holds catalog.now rows (map_at tables.old) }
+    ensures { OnOk result ((rows : Rows) × Holds catalog.now rows (map_at tables.new)) }
+{
+    let Some(table) = table_of(catalog, change.table) else {
+        bail!("no table")
+    };
+    if !is_change(alloc, table, tables.maps(), &change)? {
+        bail!("no change");
+    }
+    Ok(tables.change(catalog, change)?)
+}
+
+// Makes the change of a text.
+fn change_by(
+    alloc: Global,
+    catalog: &Catalog,
+    tables: &mut Tables<ListMaps>,
+    text: &str,
+) -> anyhow::Result<Kept>
+    requires { (rows : Rows) × Holds catalog.now rows (map_at tables.old) }
+    ensures { OnOk result ((rows : Rows) × Holds catalog.now rows (map_at tables.new)) }
+{
+    let Some((number, text)) = text.split_once(": ") else {
+        bail!("no number")
+    };
+    let Some(table) = table_of(catalog, number.parse::<u32>()?) else {
+        bail!("no table")
+    };
+    let wanted = change_of(alloc, table, text)?;
+    change(alloc, catalog, tables, wanted)
+}
+
+// Takes a change back.
+fn take_back(
+    alloc: Global,
+    catalog: &Catalog,
+    tables: &mut Tables<ListMaps>,
+    kept: Kept,
+) -> anyhow::Result<()>
+    requires { (rows : Rows) × Holds catalog.now rows (map_at tables.old) }
+    ensures { OnOk result ((rows : Rows) × Holds catalog.now rows (map_at tables.new)) }
+{
+    let Some(table) = table_of(catalog, kept.change.table) else {
+        bail!("no table")
+    };
+    tables.maps_mut().reserve(kept.change.table, 1)?;
+    if !can_be_taken_back(alloc, table, tables.maps(), &kept)? {
+        bail!("not to be taken back");
+    }
+    tables.take_back(catalog, kept);
+    Ok(())
+}
+
+// An end of an interval of the table's keys.
+fn end(alloc: Global, table: &TableDef, text: &str) -> anyhow::Result<Bytes> {
+    if let Some(letters) = text.strip_prefix('=') {
+        return Ok(Bytes::from_vec(unescaped(alloc, letters)?));
+    }
+    let kinds = kinds_at(alloc, table)?;
+    let values = read_row(alloc, text)?;
+    let values = values.as_slice();
+    let Some(kinds) = kinds.as_slice().get(..values.len()) else {
+        bail!("too many values")
+    };
+    if !key_fits(kinds, values) {
+        bail!("a value does not fit");
+    }
+    Ok(encode_key(alloc, kinds, values)?)
+}
+
+fn interval(alloc: Global, table: &TableDef, text: &str) -> anyhow::Result<Interval> {
+    let Some((low, high)) = text.split_once("..") else {
+        bail!("no interval")
+    };
+    let low = if low.is_empty() {
+        Bytes::new(alloc)
+    } else {
+        end(alloc, table, low)?
+    };
+    let high = if high.is_empty() {
+        None
+    } else {
+        Some(end(alloc, table, high)?)
+    };
+    Ok(Interval { low, high })
+}
+
+fn write_rows(out: &mut String, rows: &RowList) -> anyhow::Result<()> {
+    if rows.as_slice().is_empty() {
+        out.push_str("nothing")?;
+    }
+    let mut is_first = true;
+    for row in rows.as_slice() {
+        out.push_str(if is_first { "" } else { " / " })?;
+        is_first = false;
+        write_row(out, row.as_slice())?;
+    }
+    Ok(())
+}
+
+// The rows of a table in an interval.
+fn rows_of(
+    catalog: &Catalog,
+    tables: &Tables<ListMaps>,
+    table: &TableDef,
+    interval: &Interval,
+) -> Result<RowList, NoMemory>
+    requires held { (rows : Rows) × Holds catalog.now rows (map_at tables.now) }
+    requires table { specs.table_of catalog.now table.now.number ≡ Some table.now }
+{
+    tables.read(catalog, table.number, interval)
+}
+
+// Writes the rows of a table in an interval.
+fn write_read(
+    alloc: Global,
+    out: &mut String,
+    catalog: &Catalog,
+    tables: &Tables<ListMaps>,
+    text: &str,
+) -> anyhow::Result<()>
+    requires { (rows : Rows) × Holds catalog.now rows (map_at tables.now) }
+{
+    let (number, ends) = first_word(text);
+    let Some(table) = table_of(catalog, number.parse::<u32>()?) else {
+        bail!("no table")
+    };
+    let interval = interval(alloc, table, ends)?;
+    let rows = rows_of(catalog, tables, table, &interval)?;
+    let told = write_rows(out, &rows);
+    forget(rows);
+    told
+}
+
+fn write_entries(out: &mut String, entries: &[IndexEntry]) -> anyhow::Result<()> {
+    if entries.is_empty() {
+        out.push_str("nothing")?;
+    }
+    for entry in entries {
+        let index = entry.index;
+        write!(out, "{index} ")?;
+        write_hexadecimal(out, entry.key.as_slice())?;
+        out.push(' ')?;
+        write_hexadecimal(out, entry.value.as_slice())?;
+    }
+    Ok(())
+}
+
+// Writes what the latest change removed and made.
+fn write_latest(out: &mut String, kept: &[Kept]) -> anyhow::Result<()> {
+    let Some(latest) = kept.last() else {
+        bail!("no change")
+    };
+    write_entries(out, latest.gone.as_slice())?;
+    out.push_str(" > ")?;
+    write_entries(out, latest.made.as_slice())
+}
+
+// Makes a change, or takes one back.
+fn move_on(
+    alloc: Global,
+    catalog: &Catalog,
+    tables: &mut Tables<ListMaps>,
+    kept: &mut Vec<Kept>,
+    asked: &str,
+) -> anyhow::Result<()>
+    requires { (rows : Rows) × Holds catalog.now rows (map_at tables.old) }
+    ensures { OnOk result ((rows : Rows) × Holds catalog.now rows (map_at tables.new)) }
+{
+    if let Some(text) = asked.strip_prefix("change ") {
+        kept.push(change_by(alloc, catalog, tables, text)?)?;
+        return Ok(());
+    }
+    if asked != "back" {
+        bail!("no such call");
+    }
+    match kept.pop() {
+        Some(latest) => take_back(alloc, catalog, tables, latest),
+        None => bail!("no change"),
+    }
+}
+
+// Tells what a call answers that changes nothing.
+fn look(
+    alloc: Global,
+    catalog: &Catalog,
+    tables: &Tables<ListMaps>,
+    kept: &[Kept],
+    asked: &str,
+) -> anyhow::Result<String>
+    requires { (rows : Rows) × Holds catalog.now rows (map_at tables.now) }
+{
+    let mut out = String::new(alloc);
+    if let Some(rest) = asked.strip_prefix("read ") {
+        write_read(alloc, &mut out, catalog, tables, rest)?;
+        return Ok(out);
+    }
+    if asked == "entries" {
+        write_latest(&mut out, kept)?;
+        return Ok(out);
+    }
+    let used = tables.used();
+    write!(&mut out, "{used}")?;
+    Ok(out)
+}
+
+// Makes one call, and tells what it answers.
+fn call(
+    alloc: Global,
+    catalog: &Catalog,
+    tables: &mut Tables<ListMaps>,
+    kept: &mut Vec<Kept>,
+    asked: &str,
+) -> anyhow::Result<String>
+    requires { (rows : Rows) × Holds catalog.now rows (map_at tables.old) }
+    ensures { OnOk result ((rows : Rows) × Holds catalog.now rows (map_at tables.new)) }
+{
+    if asked.starts_with("read ") || asked == "entries" || asked == "used" {
+        return look(alloc, catalog, tables, kept, asked);
+    }
+    move_on(alloc, catalog, tables, kept, asked)?;
+    Ok(String::from_str(alloc, "done")?)
+}
+
+// Makes calls, one a line, and tells what the last one answers.
+fn call_all(
+    alloc: Global,
+    catalog: &Catalog,
+    tables: &mut Tables<ListMaps>,
+    kept: &mut Vec<Kept>,
+    calls: &str,
+) -> anyhow::Result<String>
+    requires { (rows : Rows) × Holds catalog.now rows (map_at tables.old) }
+{
+    let mut out = String::new(alloc);
+    for asked in calls.split('\n') {
+        out = call(alloc, catalog, tables, kept, asked)?;
+    }
+    Ok(out)
+}
+
+/// What the last of some calls answers, one a line, of tables without rows.
+pub fn last_answer(alloc: Global, catalog: &Catalog, calls: &str) -> anyhow::Result<String> {
+    let mut tables = no_rows(alloc, catalog)?;
+    let mut kept = Vec::new(alloc);
+    let told = call_all(alloc, catalog, &mut tables, &mut kept, calls);
+    forget(kept);
+    forget(tables);
+    told
+}
