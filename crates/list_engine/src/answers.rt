@@ -10,7 +10,10 @@ pub fn committed(answer: Answer) -> Option<u64>
 {
     match answer {
         Answer::Committed(number) => Some(number),
-        _ => None,
+        other => {
+            other.let_go();
+            None
+        }
     }
 }
 
@@ -20,7 +23,10 @@ pub fn is_begun(answer: Answer) -> bool
 {
     match answer {
         Answer::Begun { .. } => true,
-        _ => false,
+        other => {
+            other.let_go();
+            false
+        }
     }
 }
 
@@ -30,6 +36,9 @@ pub fn is_ended(answer: Answer) -> bool
 {
     match answer {
         Answer::Ended => true,
-        _ => false,
+        other => {
+            other.let_go();
+            false
+        }
     }
 }

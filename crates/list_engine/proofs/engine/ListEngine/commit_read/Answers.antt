@@ -8,6 +8,6 @@ use Rattle.list_engine.proofs.engine.ListEngine.commit_read.Goals as goal
 
 pub returns-in-Some : goal.returns-in-Some
 returns-in-Some c = λ s st reading closed.
-    commit_done c.step.new.self s c.args.session reading closed c.in-Some.number
-    (subst (Moves (Stands c.step.new.self) s (record { session = c.args.session; act = Commit })) (committed_is c.step.result c.in-Some.number (sym c.committed.ensures ∙ c.in-Some.is))
-    (c.step.ensures s st (may_commit c.step.new.self s c.args.session reading closed)))
+    commit_done c.do_step.new.engine s c.args.session reading closed c.in-Some.number
+    (subst (Moves (Stands c.do_step.new.engine) s (record { session = c.args.session; act = Commit })) (committed_is c.do_step.result c.in-Some.number (sym c.committed.ensures ∙ c.in-Some.is))
+    (c.do_step.ensures s st (may_commit c.do_step.new.engine s c.args.session reading closed)))

@@ -9,5 +9,5 @@ use Rattle.list_engine.proofs.engine.ListEngine.run.Goals as goal
 pub returns : goal.returns
 returns c = λ db i.
     let s : StatementTree = statement_tree c.args.statement in
-    if_ok c.run_step.result (λ replies. EndsAs (means s db) db replies c.run_step.new.self) (λ replies. Answers s db replies c.run_step.new.self)
-    (λ replies e. answers s db replies c.run_step.new.self c.requires.built e) (c.run_step.ensures db c.args.statement i c.requires.session refl)
+    if_ok c.run_step-replies.result (λ replies. EndsAs (means s db) db replies c.run_step-replies.new.self) (λ replies. Answers s db replies c.run_step-replies.new.self)
+    (λ replies e. answers s db replies c.run_step-replies.new.self c.requires.built e) (c.run_step-replies.ensures db c.args.statement i c.requires.session refl)
