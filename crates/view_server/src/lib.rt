@@ -2,13 +2,13 @@
 #![tactic(auto)]
 
 mod asked;
-mod built;
+mod built_forms;
 mod print;
 mod request;
 mod script;
 mod status;
 
-pub use built::{built, is_built};
+pub use built_forms::{built, is_built};
 pub use request::session_text;
 pub use script::run;
 pub use status::Status;

@@ -10,7 +10,7 @@ ghost use Rattle.view_server.specs.Spaces.{IsBehindSpaces};
 ghost use Rattle.view_server.specs.Request.{AsksFor};
 
 use crate::asked::Request;
-use crate::built::built;
+use crate::built_forms::built;
 use sql_parse::parse;
 use std::alloc::Global;
 use std::str;

@@ -1,0 +1,12 @@
+use Rattle.std.proofs.Common.{◌≡◌}
+use Rattle.turn_latch.specs.Words.{seat_latch, knows}
+use Rattle.latch_runs.proofs.pair.add_one.Given as goal
+
+abbrev pub invariant-loop : goal.invariant-loop
+invariant-loop g l = record {
+  next : (goal.iterator-loop g).can_next l.iterator';
+  finite : (goal.iterator-loop g).is_finite l.iterator';
+  latch : seat_latch l.seat ≡ seat_latch l.initial.seat;
+  number : (knows l.seat).number ≡ (knows l.initial.seat).number;
+  seen : (knows l.seat).seen ≡ (knows l.initial.seat).seen;
+}

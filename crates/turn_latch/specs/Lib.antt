@@ -1,0 +1,5 @@
+pub mod Histories
+pub mod Latched
+pub mod Turns
+pub mod Views
+pub mod Words
