@@ -82,8 +82,17 @@ module _ {T E Q : Type 0} (history : T → List E) (by : E → ℕ) (part : T �
   abbrev Takes : St → ℕ → M → ℕ → Type 0
   Takes s id m n = (w : V) × (a : Act (Option T)) × Valid s.homes m.1 a × Rule (stepped s 0 (bit_or n 1) id m.1 w a) × took history by part (step 1 0 1 0 none) m n (w, carried_after m.1 a)
 
-  take_by : (s : St) (r : Rule s) (id : ℕ) (m : M) → m.0.numbered ≡ true → get_elem? s.views id ≡ some m.0 → (t : Option ℕ) → r.turn ≡ t → Takes s id m (get_or s.words 0 0)
-  take_by s r id m numbered at None is =
+  not_alone : (s : St) (r : Rule s) (id j : ℕ) (v : V) → v.numbered ≡ true → v.held ≡ None → get_elem? s.views id ≡ some v → r.turn ≡ Some j → v.number ≡ 0 → v.made ≢ 0
+  not_alone s r id j v numbered free at is zero_is alone =
+      let h = r.holder j is in let made = ((r.each id v at).first numbered zero_is).0 in
+      let le = ((r.each j h.0 h.1).fits h.2).1 in
+      let same : h.0.number ≡ v.number = omega (arith, made, le, zero_is, alone) in
+      let place : j ≡ id = r.apart j id h.0 v h.1 at h.2 numbered same in
+      let one : h.0 ≡ v = some-injective h.0 v (sym h.1 ∙ (ap (get_elem? s.views) place ∙ at)) in
+      none-some r.value (sym free ∙ (ap (λ (z : V). z.held) (sym one) ∙ h.3))
+
+  take_by : (s : St) (r : Rule s) (id : ℕ) (m : M) → m.0.numbered ≡ true → m.0.held ≡ None → get_elem? s.views id ≡ some m.0 → (t : Option ℕ) → r.turn ≡ t → Takes s id m (get_or s.words 0 0)
+  take_by s r id m numbered free at None is =
       let x = r.value in let w : V = holding m.0 (get_or s.words 0 0) x in let mine = r.each id m.0 at in let n : ℕ = length (history x) in
       let l : Lies history s.words s.homes x None = subst (Lies history s.words s.homes x) is r.lies in
       let found : get_or s.words 0 0 ≡ 2 * n = ap (λ (ws : List ℕ). get_or ws 0 0) l.0 in (
@@ -107,13 +116,13 @@ module _ {T E Q : Type 0} (history : T → List E) (by : E → ℕ) (part : T �
         },
         (λ _. (x, refl, (mine.fits numbered).0, found, r.short), λ odd. absurd (odd (let e : get_or s.words 0 0 % 2 ≡ 0 = omega arith in e))),
       )
-  take_by s r id m numbered at (Some j) is =
+  take_by s r id m numbered free at (Some j) is =
       let x = r.value in let n : ℕ = length (history x) in
       let l : Lies history s.words s.homes x (Some j) = subst (Lies history s.words s.homes x) is r.lies in
       let found : get_or s.words 0 0 ≡ 2 * n + 1 = ap (λ (ws : List ℕ). get_or ws 0 0) l.0 in
       let has = begins_length (seen_of history m.0.seen) (history x) (r.each id m.0 at).begins in
       let least = r.short in
-      let busy : IsBusy history by part m.0 (get_or s.words 0 0) = (omega (arith, found), omega (arith, found, has), omega (arith, found, least)) in
+      let busy : IsBusy history by part m.0 (get_or s.words 0 0) = (omega (arith, found), omega (arith, found, has), omega (arith, found, least), λ z. let some_made = not_alone s r id j m.0 numbered free at is z in omega (arith, some_made)) in
       let same : set s.words 0 (bit_or (get_or s.words 0 0) 1) ≡ s.words = ap (λ (ws : List ℕ). set ws 0 (bit_or (get_or ws 0 0) 1)) l.0 ∙ (ap (λ (k : ℕ). k ∷ []) (or_odd n) ∙ sym l.0) in (
         tried m.0 (get_or s.words 0 0),
         keeps,
@@ -124,8 +133,8 @@ module _ {T E Q : Type 0} (history : T → List E) (by : E → ℕ) (part : T �
       )
 
   -- a seat with a number tries to take the value
-  pub takes_turn : (slots id : ℕ) (m : M) → m.0.numbered ≡ true → Allows Rule slots id m 0 (λ n. bit_or n 1) (took history by part (step 1 0 1 0 none) m)
-  takes_turn slots id m numbered s r _ at _ = take_by s r id m numbered at r.turn refl
+  pub takes_turn : (slots id : ℕ) (m : M) → m.0.numbered ≡ true → m.0.held ≡ None → Allows Rule slots id m 0 (λ n. bit_or n 1) (took history by part (step 1 0 1 0 none) m)
+  takes_turn slots id m numbered free s r _ at _ = take_by s r id m numbered free at r.turn refl
 
   -- who has another number knows as much after a turn
   fits_stay : (x y : T) (n k : ℕ) (seen knew : Option T) → AddsOne by n (history x) (history y) → ((k : ℕ) → k ≢ n → part y k ≡ part x k) → k ≢ n → Fits history by part x k seen knew → Fits history by part y k seen knew

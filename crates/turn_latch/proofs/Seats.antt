@@ -9,7 +9,7 @@ use Rattle.atomic_table.proofs.Lists.{at_set, set_again, set_else, at_longer}
 use Rattle.turn_latch.specs.declared.view.View.{View}
 use Rattle.turn_latch.specs.declared.view.Retired.{Retired}
 use Rattle.turn_latch.specs.Histories.{Begins, of}
-use Rattle.turn_latch.specs.Views.{seen_of, longer, shorter, first_view, note_of, parent, child, meeting, retiring, retired_of}
+use Rattle.turn_latch.specs.Views.{seen_of, longer, first_view, note_of, parent, child, meeting, retiring, retired_of}
 use Rattle.turn_latch.specs.Latched.{Apart, Gone, Holder, Fits, Knows, Latched, looked, compared}
 use Rattle.turn_latch.proofs.Histories.{begins_self, of_begins, of_between, longer_begins}
 use Rattle.std.specs.Prelude.{nat_lt}
@@ -141,15 +141,6 @@ module _ {T E Q : Type 0} (history : T → List E) (by : E → ℕ) (part : T �
     (refl, λ k numbered zeroth more. let same = (mine.first numbered zeroth).0 in of_begins by k (seen_of history m.0.seen) (history r.value) mine.begins (r.unmade k (omega arith)).1),
   )
 
-  pub compares : (slots id : ℕ) (m : M) → length (seen_of history m.0.met) ≤ length (seen_of history m.0.seen) → Allows Rule slots id m 0 (λ n. n) (compared history (step 1 0 0 0 none) m)
-  compares slots id m le s r _ at _ = let mine = r.each id m.0 at in let w : V = record (m.0) { met = None } in (
-    w,
-    keeps,
-    tt,
-    changes history by part s r id (set s.words 0 (get_or s.words 0 0)) m.0 w (set-get_or s.words 0 0) at (refl, refl, refl) refl record { begins = mine.begins; met = (history r.value, refl); fits = mine.fits; first = mine.first; holds = mine.holds; retired = mine.retired },
-    (refl, longer_begins (seen_of history m.0.seen) (seen_of history m.0.met) (history r.value) mine.begins mine.met le),
-  )
-
   -- a seat gives a copy of what it has seen
   pub notes : (id : ℕ) (v : V) → Splits Rule id v v (note_of v.seen)
   notes id v s r at = let w : V = note_of v.seen in let same : set s.views id v ≡ s.views = set_again s.views id v at in
@@ -224,48 +215,49 @@ module _ {T E Q : Type 0} (history : T → List E) (by : E → ℕ) (part : T �
           unmade = r.unmade;
         }
 
-  -- what a seat knows once it has taken a note in, where b says whether the note has seen more
-  met_knows : (x origin : T) (made : ℕ) (turn : Option ℕ) (id : ℕ) (v w : V) → Knows history by part x origin made turn id v → Begins (history x) (seen_of history w.seen)
-      → (b : Bool) → nat_lt (length (seen_of history v.seen)) (length (seen_of history w.seen)) ≡ b
-      → Knows history by part x origin made turn id record v { seen = if b then w.seen else v.seen; met = if b then v.seen else w.seen }
-  met_knows x origin made turn id v w k begins true is = let lt = ltb-true _ _ is in record {
-    begins = begins;
-    met = k.begins;
-    fits = λ h. let t = k.fits h in (
-      record {
-        begins = begins;
-        part_is = t.0.part_is;
-        mine = of_between by v.number (seen_of history v.seen) (seen_of history w.seen) (history x) (longer_begins (seen_of history w.seen) (seen_of history v.seen) (history x) begins k.begins (omega arith)) begins t.0.mine;
-      },
-      t.1,
-    );
-    first = k.first;
-    holds = k.holds;
-    retired = k.retired;
-  }
-  met_knows x origin made turn id v w k begins false is = record { begins = k.begins; met = begins; fits = k.fits; first = k.first; holds = k.holds; retired = k.retired }
+  abbrev Compared : T → T → ℕ → Option ℕ → ℕ → V → Option T → Type 0
+  Compared x origin made turn id v l = Knows history by part x origin made turn id record v { seen = l; met = None } × Begins (seen_of history l) (seen_of history v.seen) × Begins (seen_of history l) (seen_of history v.met)
+      × (v.numbered ≡ true → of by v.number (seen_of history l) ≡ of by v.number (seen_of history v.seen))
 
-  pub meets : (id other : ℕ) (v w : V) → w.held ≡ None → Joins Rule id v other w (meeting history v w) (note_of None)
-  meets id other v w free = takes_in id other v w (meeting history v w) free refl refl refl (λ k q h. inl (k, h))
-      (λ x origin made turn k l. met_knows x origin made turn id v w k l.begins (nat_lt (length (seen_of history v.seen)) (length (seen_of history w.seen))) refl)
+  -- what a seat knows once it has compared what it has seen with a note, where b says whether the note has seen more
+  met_knows : (x origin : T) (made : ℕ) (turn : Option ℕ) (id : ℕ) (v : V) → Knows history by part x origin made turn id v
+      → (b : Bool) → nat_lt (length (seen_of history v.seen)) (length (seen_of history v.met)) ≡ b → Compared x origin made turn id v (if b then v.met else v.seen)
+  met_knows x origin made turn id v k true is = let lt = ltb-true _ _ is in
+      let first = longer_begins (seen_of history v.met) (seen_of history v.seen) (history x) k.met k.begins (omega arith) in
+      let mine = λ (h : v.numbered ≡ true). of_between by v.number (seen_of history v.seen) (seen_of history v.met) (history x) first k.met (k.fits h).0.mine in (
+        record {
+          begins = k.met;
+          met = (history x, refl);
+          fits = λ h. let t = k.fits h in (record { begins = k.met; part_is = t.0.part_is; mine = mine h }, t.1);
+          first = k.first;
+          holds = k.holds;
+          retired = k.retired;
+        },
+        first,
+        begins_self (seen_of history v.met),
+        λ h. sym (mine h) ∙ (k.fits h).0.mine,
+      )
+  met_knows x origin made turn id v k false is = (
+    record { begins = k.begins; met = (history x, refl); fits = k.fits; first = k.first; holds = k.holds; retired = k.retired },
+    begins_self (seen_of history v.seen),
+    longer_begins (seen_of history v.seen) (seen_of history v.met) (history x) k.begins k.met (ltb-false _ _ is),
+    λ _. refl,
+  )
 
-  shorter_by : (a b : Option T) (t : Bool) → nat_lt (length (seen_of history a)) (length (seen_of history b)) ≡ t → length (seen_of history (if t then a else b)) ≤ length (seen_of history (if t then b else a))
-  shorter_by a b true is = let lt = ltb-true _ _ is in omega arith
-  shorter_by a b false is = ltb-false _ _ is
+  pub compares : (slots id : ℕ) (m : M) → Allows Rule slots id m 0 (λ n. n) (compared history by (step 1 0 0 0 none) m)
+  compares slots id m s r _ at _ =
+      let c = met_knows r.value r.origin r.made r.turn id m.0 (r.each id m.0 at) (nat_lt (length (seen_of history m.0.seen)) (length (seen_of history m.0.met))) refl in
+      let w : V = record (m.0) { seen = longer history m.0.seen m.0.met; met = None } in (
+        w,
+        keeps,
+        tt,
+        changes history by part s r id (set s.words 0 (get_or s.words 0 0)) m.0 w (set-get_or s.words 0 0) at (refl, refl, refl) refl c.0,
+        (refl, c.1, c.2, c.3),
+      )
 
-  -- the shorter of two histories is no longer than the longer one
-  pub shorter_fits : (a b : Option T) → length (seen_of history (shorter history a b)) ≤ length (seen_of history (longer history a b))
-  shorter_fits a b = shorter_by a b (nat_lt (length (seen_of history a)) (length (seen_of history b))) refl
-
-  begins_by : (a b : Option T) (t : Bool) → Begins (seen_of history (if t then b else a)) (seen_of history (if t then a else b))
-      → Begins (seen_of history (if t then b else a)) (seen_of history a) × Begins (seen_of history (if t then b else a)) (seen_of history b)
-  begins_by a b true h = (h, begins_self (seen_of history b))
-  begins_by a b false h = (begins_self (seen_of history a), h)
-
-  -- the longer of two histories begins with both, where it begins with the shorter
-  pub longer_of_both : (a b : Option T) → Begins (seen_of history (longer history a b)) (seen_of history (shorter history a b))
-      → Begins (seen_of history (longer history a b)) (seen_of history a) × Begins (seen_of history (longer history a b)) (seen_of history b)
-  longer_of_both a b = begins_by a b (nat_lt (length (seen_of history a)) (length (seen_of history b)))
+  pub meets : (id other : ℕ) (v w : V) → w.held ≡ None → Joins Rule id v other w (meeting v w) (note_of None)
+  meets id other v w free = takes_in id other v w (meeting v w) free refl refl refl (λ k q h. inl (k, h))
+      (λ x origin made turn k l. record { begins = k.begins; met = l.begins; fits = k.fits; first = k.first; holds = k.holds; retired = k.retired })
 
   pub retires : (id other : ℕ) (v w : V) → w.numbered ≡ true → w.held ≡ None → Joins Rule id v other w (retiring v w) (note_of None)
   retires id other v w numbered free = takes_in id other v w (retiring v w) free refl refl refl

@@ -7,7 +7,7 @@ use Rattle.atomic_table.specs.Table.{State, Me, Step}
 use Rattle.turn_latch.specs.declared.view.View.{View}
 use Rattle.turn_latch.specs.declared.view.Retired.{Retired}
 use Rattle.turn_latch.specs.Histories.{Begins, of}
-use Rattle.turn_latch.specs.Views.{seen_of, tried, holding, rested}
+use Rattle.turn_latch.specs.Views.{seen_of, longer, tried, holding, rested}
 
 module _ {T : Type 0} where
   -- no two seats have one number
@@ -58,9 +58,9 @@ module _ {T E Q : Type 0} (history : T → List E) (by : E → ℕ) (part : T �
     pub holder : Holder turn value s.views
     pub unmade : (k : ℕ) → made < k → (part value k ≡ part origin k) × (of by k (history value) ≡ [])
 
-  -- what the word says to a seat with this view while another holds the turn: it is odd, and the history is as long at least as what the seat has seen
+  -- what the word says to a seat with this view while another holds the turn: it is odd, the history is as long at least as what the seat has seen, and there is another seat: a first seat that split none off finds no turn held
   abbrev pub IsBusy : View T → ℕ → Type 0
-  IsBusy v n = (n % 2 ≡ 1) × (2 * length (seen_of history v.seen) + 1 ≤ n) × (n ≤ 2 ^ 63 + 1)
+  IsBusy v n = (n % 2 ≡ 1) × (2 * length (seen_of history v.seen) + 1 ≤ n) × (n ≤ 2 ^ 63 + 1) × (v.number ≡ 0 → 0 < v.made)
 
   -- where the word was even the value was taken, and it fits what the seat knows; where it was odd nothing was
   abbrev pub took : Step (Option T) → Me (Option T) (View T) → ℕ → Me (Option T) (View T) → Type 0
@@ -74,9 +74,12 @@ module _ {T : Type 0} where
   released st m n m' = (y : T) → m.1 ≡ (0, Some y) ∷ [] → m' ≡ (rested m.0 y, [])
 
 module _ {T E : Type 0} (history : T → List E) where
-  -- the shorter history begins the longer one
-  abbrev pub compared : Step (Option T) → Me (Option T) (View T) → ℕ → Me (Option T) (View T) → Type 0
-  compared st m n m' = (m' ≡ (record (m.0) { met = None }, m.1)) × Begins (seen_of history m.0.seen) (seen_of history m.0.met)
+  -- of the two histories the longer one stays; both begin it, and it has no entry of the seat's number besides
+  abbrev pub compared : (E → ℕ) → Step (Option T) → Me (Option T) (View T) → ℕ → Me (Option T) (View T) → Type 0
+  compared by st m n m' =
+      (m' ≡ (record (m.0) { seen = longer history m.0.seen m.0.met; met = None }, m.1)) × Begins (seen_of history (longer history m.0.seen m.0.met)) (seen_of history m.0.seen)
+      × Begins (seen_of history (longer history m.0.seen m.0.met)) (seen_of history m.0.met)
+      × (m.0.numbered ≡ true → of by m.0.number (seen_of history (longer history m.0.seen m.0.met)) ≡ of by m.0.number (seen_of history m.0.seen))
 
   -- the first seat has seen no entry of a number that was not made
   abbrev pub looked : (E → ℕ) → Step (Option T) → Me (Option T) (View T) → ℕ → Me (Option T) (View T) → Type 0

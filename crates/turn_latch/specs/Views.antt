@@ -10,16 +10,9 @@ module _ {T E : Type 0} (history : T → List E) where
   seen_of None = []
   seen_of (Some x) = history x
 
-  -- of two seen histories the longer one, and the other
+  -- the longer one of two seen histories
   abbrev pub longer : Option T → Option T → Option T
   longer a b = if nat_lt (length (seen_of a)) (length (seen_of b)) then b else a
-
-  abbrev pub shorter : Option T → Option T → Option T
-  shorter a b = if nat_lt (length (seen_of a)) (length (seen_of b)) then a else b
-
-  -- a seat that has taken a note in: the longer history stays as what it has seen
-  abbrev pub meeting : View T → View T → View T
-  meeting v w = record v { seen = longer v.seen w.seen; met = shorter v.seen w.seen }
 
   -- a seat that has met another
   abbrev pub has_met : View T → View T → View T
@@ -57,6 +50,10 @@ module _ {T : Type 0} where
   -- the seat after a turn: it has seen the history that the turn left, and knows the part that it left
   abbrev pub after_turn : View T → ℕ → T → View T
   after_turn v n y = record v { seen = Some y; knew = Some y; held = None; tries = v.tries + 1; found = n }
+
+  -- a seat that has taken a note in
+  abbrev pub meeting : View T → View T → View T
+  meeting v w = record v { met = w.seen }
 
   abbrev pub retired_of : View T → Retired T
   retired_of w = record { number = w.number; seen = w.seen; knew = w.knew }

@@ -15,7 +15,7 @@ use atomic_table::{Refused, Table};
 use std::alloc::{AllocFailed, Global};
 use std::snapshot::Snapshot;
 
-/// Another seat holds the turn. This is the word that was found, which is odd.
+/// Another seat held the turn as this call asked for it. This is the word that was found, which is odd.
 #[derive(Drop)]
 pub struct Busy(pub u64);
 
@@ -167,6 +167,7 @@ impl<T: Parted> Latch<T> {
         ensures same { knows b.new ≡ knows b.old }
         ensures one { Begins (seen_of T.history (knows a.new).seen) (seen_of T.history (knows a.old).seen) }
         ensures other { Begins (seen_of T.history (knows a.new).seen) (seen_of T.history (knows b.new).seen) }
+        ensures own { of T.by (knows a.old).number (seen_of T.history (knows a.new).seen) ≡ of T.by (knows a.old).number (seen_of T.history (knows a.old).seen) }
     {
         let table = &self.table.shared;
         let note = table.split_seat::<Note>(&mut b.pass);

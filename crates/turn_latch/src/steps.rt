@@ -77,20 +77,20 @@ impl<T: Parted> Split<View<T>> for Note {
     ghost right = { λ v. note_of v.seen };
 }
 
-/// A seat takes a note in: the longer history stays.
+/// A seat takes a note in.
 pub struct Meet;
 
 impl<T: Parted> Join<View<T>> for Meet {
-    ghost both = { meeting T.history };
+    ghost both = { meeting };
 
     ghost spent = { note_of None };
 }
 
-/// A seat sees that the shorter history begins the longer one.
+/// A seat sees that the shorter history begins the longer one, which it keeps.
 pub struct Compare;
 
 impl<T: Parted> Play<Option<T>, View<T>> for Compare {
-    ghost then = { compared T.history };
+    ghost then = { compared T.history T.by };
 }
 
 /// The first seat takes a seat in, and keeps what it knew.

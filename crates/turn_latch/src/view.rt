@@ -28,7 +28,7 @@ pub struct View<T> {
     pub tries: u64,
     /// The word that it found as it asked for the last.
     pub found: u64,
-    /// While it meets a note: the value of the shorter history.
+    /// While it meets a note: the value whose history the note has seen.
     pub met: Option<T>,
     /// Of the first seat: what the seats that came into it knew.
     pub retired: LinkedList<Retired<T>>,

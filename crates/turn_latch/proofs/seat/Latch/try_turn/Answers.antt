@@ -5,7 +5,7 @@ use Rattle.turn_latch.proofs.Keeps.{takes_turn, between, ends}
 use Rattle.turn_latch.proofs.seat.Latch.try_turn.Goals as goal
 
 pub fetch_or-found-requires : goal.fetch_or-found-requires
-fetch_or-found-requires g c = (c.requires.latch, let one = c.args.self.now.one.0 in omega arith, takes_turn g.T.Parted.history g.T.Parted.by g.T.Parted.part _ _ _ c.args.seat.now.free.0)
+fetch_or-found-requires g c = (c.requires.latch, let one = c.args.self.now.one.0 in omega arith, takes_turn g.T.Parted.history g.T.Parted.by g.T.Parted.part _ _ _ c.args.seat.now.free.0 c.args.seat.now.free.1)
 
 pub exchange-requires : goal.exchange-requires
 exchange-requires g c = let t = c.fetch_or-found.ensures in let k = t.2.0 c.if-found-ne0.false in let has = ap (λ m. m.1) k.1 in
