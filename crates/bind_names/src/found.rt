@@ -2,7 +2,7 @@
 use iv_types::ColumnAt;
 
 /// How many columns a name could stand for, as far as it matters.
-#[derive(Clone, Copy, Debug, Drop)]
+#[derive(Clone, Copy, Drop)]
 pub enum Found {
     Nothing,
     One(ColumnAt),

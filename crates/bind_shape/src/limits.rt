@@ -19,7 +19,8 @@ use crate::counted::{Counted, Width};
 use crate::counting::{have_many_readers, how_many, kinds_at, kinds_in, sums_in, width};
 use crate::item::NamedItem;
 use bind_names::visible::Visible;
-use iv_types::{Catalog, ColumnAt, Kind, NoMemory, Refusal, Statement, statement_bytes};
+use iv_types::{Catalog, ColumnAt, Kind, NoMemory, Refusal, Statement};
+use sql_pieces::statement_bytes;
 use std::alloc::Global;
 
 // The refusal of a limit, if a count passes it.

@@ -64,7 +64,7 @@ fn grown(before: Prefix, delta: i128) -> Option<Prefix>
 
 /// A column's committed value, its bounds, and what each session's open transaction has added to it. The bounds are
 /// kept up, so that a call touches its own session's part alone; memory grows with the sessions that have room.
-#[derive(Debug, Drop)]
+#[derive(Drop)]
 pub struct Escrow {
     committed: i128,
     bounds: Range,

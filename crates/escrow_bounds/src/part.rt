@@ -4,7 +4,7 @@ ghost use Rattle.std.specs.Prelude.{◌≡◌, ◌==◌, not, filter, position};
 use iv_types::Prefix;
 
 /// The prefix of a session's open transaction.
-#[derive(Clone, Copy, Debug)]
+#[derive(Clone, Copy)]
 pub struct Part {
     pub session: u32,
     pub prefix: Prefix,

@@ -1,6 +1,4 @@
 pub mod Walks
-pub mod Pieces
-pub mod Counting
 pub mod Catalogs
 pub mod Orders
 pub mod Members

@@ -12,6 +12,5 @@ pub mod SessionSets
 pub mod Encoding
 pub mod BadRow
 pub mod Intervals
-pub mod Sinks
 pub mod Definitions
 pub mod Maps

@@ -1,5 +1,5 @@
 //! What a database defines: tables, indexes and views.
-ghost use Rattle.std.specs.Prelude.{◌≡◌, ◌+◌, ◌++◌, [], ◌∷◌, length, None, IfSome, OnOk, OnErr};
+ghost use Rattle.std.specs.Prelude.{◌≡◌, ◌+◌, ◌++◌, [], ◌∷◌, length, None, IfSome, IfOk, OnOk, OnErr};
 ghost use Rattle.std.specs.Option.{option_copied};
 ghost use Rattle.iv_types.specs.Definitions.{number_of, name_of, numbered, named};
 
@@ -9,7 +9,7 @@ use std::alloc::Global;
 use std::marker::Model;
 
 /// A table. Its object number is that of its primary index too.
-#[derive(Debug, Drop)]
+#[derive(Drop)]
 pub struct TableDef {
     pub number: u32,
     pub name: Bytes,
@@ -19,7 +19,7 @@ pub struct TableDef {
 }
 
 /// An index that CREATE INDEX made.
-#[derive(Debug, Drop)]
+#[derive(Drop)]
 pub struct IndexDef {
     pub number: u32,
     pub name: Bytes,
@@ -28,7 +28,7 @@ pub struct IndexDef {
 }
 
 /// The second table of a join view.
-#[derive(Debug, Drop)]
+#[derive(Drop)]
 pub struct Second {
     pub table: u32,
     /// The first table's columns that are equal to the second's primary key, in the key's order.
@@ -38,7 +38,7 @@ pub struct Second {
 }
 
 /// A view. Its object number is that of its index too.
-#[derive(Debug, Drop)]
+#[derive(Drop)]
 pub struct ViewDef {
     pub number: u32,
     pub name: Bytes,
@@ -52,7 +52,7 @@ pub struct ViewDef {
 }
 
 /// What an object number stands for.
-#[derive(Debug, Drop)]
+#[derive(Drop)]
 pub enum Definition {
     Table(TableDef),
     Index(IndexDef),
@@ -83,9 +83,21 @@ impl Definition {
     }
 }
 
+// A definition's name, as its key in a catalog.
+fn name_key(alloc: Global, definition: &Definition) -> Result<Vec<u8>, NoMemory>
+    ensures { IfOk result (λ key. key.items ≡ name_of definition.now) }
+{
+    Ok(definition.name().as_slice().to_vec(alloc)?)
+}
+
+// What a key stood for is let go here alone, which is costly to prove.
+fn let_go_replaced(replaced: Option<Definition>) {
+    let _ = replaced;
+}
+
 /// The definitions of a database, in the order in which they were made, and their names. No two have one name, and the
 /// object numbers count them from 1.
-#[derive(Debug, Drop)]
+#[derive(Drop)]
 pub struct Catalog {
     named: IndexMap<Vec<u8>, Definition>,
 }
@@ -150,12 +162,17 @@ impl Catalog {
         ensures ok { OnOk result (self.new ≡ self.old ++ definition ∷ []) }
         ensures err { OnErr result (self.new ≡ self.old) }
     {
-        let name = definition
-            .name()
-            .as_slice()
-            .to_vec(*self.named.allocator())?;
-        self.named.insert(name, definition)?;
-        Ok(())
+        match name_key(*self.named.allocator(), &definition) {
+            Ok(name) => {
+                let replaced = self.named.insert(name, definition)?;
+                let_go_replaced(replaced);
+                Ok(())
+            }
+            Err(error) => {
+                definition.let_go();
+                Err(error)
+            }
+        }
     }
 }
 

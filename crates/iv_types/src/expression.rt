@@ -2,7 +2,7 @@
 use crate::{Bytes, Sequence};
 
 /// An operator between two operands.
-#[derive(Clone, Copy, Debug, PartialEq, Eq)]
+#[derive(Clone, Copy, PartialEq, Eq)]
 pub enum Op {
     Or,
     And,
@@ -19,7 +19,7 @@ pub enum Op {
 
 /// A column as a statement names it, with the relation's name before the point where it has one. Names are in lower
 /// case.
-#[derive(Debug, Drop)]
+#[derive(Drop)]
 pub struct Ref {
     pub qualifier: Option<Bytes>,
     pub name: Bytes,
@@ -29,7 +29,7 @@ pub struct Ref {
 pub type RefList = Sequence<Ref>;
 
 /// A column of a relation: the relation's place in FROM and the column's place in it, each counted from 0.
-#[derive(Clone, Copy, Debug, PartialEq, Eq)]
+#[derive(Clone, Copy, PartialEq, Eq)]
 pub struct ColumnAt {
     pub source: u32,
     pub column: u32,
@@ -39,7 +39,7 @@ pub struct ColumnAt {
 pub type ColumnAtList = Sequence<ColumnAt>;
 
 /// An expression. One that was parsed has no `At`, one that was bound no `Named`.
-#[derive(Debug, Drop)]
+#[derive(Drop)]
 pub enum Expr {
     Number(i128),
     /// A text literal's content.

@@ -17,7 +17,6 @@ mod session;
 mod statement;
 mod terminal;
 mod value;
-mod writing;
 
 pub use catalog::{Catalog, Definition, IndexDef, Second, TableDef, ViewDef};
 pub use expression::{ColumnAt, ColumnAtList, Expr, ExprList, Op, Ref, RefList};
@@ -37,7 +36,6 @@ pub use statement::{
 };
 pub use terminal::{KEYWORDS, Terminal};
 pub use value::{Interval, Kind, KindList, Row, RowList, RowsOf, TableRows, Value, copied_row};
-pub use writing::{PieceSink, leaves_tight, stands_close, statement_bytes, write_statement};
 
 /// The number in a disk's header by which its format is known.
 pub const FORMAT: u32 = 1;

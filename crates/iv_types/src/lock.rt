@@ -2,7 +2,7 @@
 use crate::{Bytes, Interval, NumberList, Row, Sequence};
 
 /// How a lock is held: Share conflicts with all but Share, Increment with all but Increment.
-#[derive(Clone, Copy, Debug, PartialEq, Eq)]
+#[derive(Clone, Copy, PartialEq, Eq)]
 pub enum LockMode {
     Share,
     Exclusive,
@@ -10,7 +10,7 @@ pub enum LockMode {
 }
 
 /// A lock that is asked for: an interval of an index, by the index's object number.
-#[derive(Debug, Drop)]
+#[derive(Drop)]
 pub struct Want {
     pub index: u32,
     pub interval: Interval,
@@ -21,7 +21,7 @@ pub struct Want {
 pub type WantList = Sequence<Want>;
 
 /// What one row adds to a view's row or takes from it: a count of 1 or -1, and the values of its sums.
-#[derive(Debug, Drop)]
+#[derive(Drop)]
 pub struct GroupDelta {
     pub view: u32,
     /// The encoded group.
@@ -34,7 +34,7 @@ pub struct GroupDelta {
 pub type DeltaList = Sequence<GroupDelta>;
 
 /// A row of a view: its encoded group, its count and its sums.
-#[derive(Debug, Drop)]
+#[derive(Drop)]
 pub struct ViewRow {
     pub group: Bytes,
     pub count: i128,
@@ -45,7 +45,7 @@ pub struct ViewRow {
 pub type ViewRowList = Sequence<ViewRow>;
 
 /// A change of a row of a table, under its encoded primary key.
-#[derive(Debug, Drop)]
+#[derive(Drop)]
 pub struct Change {
     pub table: u32,
     pub key: Bytes,
@@ -58,7 +58,7 @@ pub type ChangeList = Sequence<Change>;
 
 /// The sum of a transaction's kept increments of a column, and the least and the greatest of its sums on the way, 0
 /// included (O'Neil, The escrow transactional method, 1986).
-#[derive(Clone, Copy, Debug, PartialEq, Eq)]
+#[derive(Clone, Copy, PartialEq, Eq)]
 pub struct Prefix {
     pub sum: i128,
     pub lo: i128,
@@ -69,7 +69,7 @@ pub struct Prefix {
 pub type PrefixList = [Prefix; 9];
 
 /// An entry of an index.
-#[derive(Debug, Drop)]
+#[derive(Drop)]
 pub struct IndexEntry {
     pub index: u32,
     pub key: Bytes,
@@ -80,7 +80,7 @@ pub struct IndexEntry {
 pub type IndexEntryList = Sequence<IndexEntry>;
 
 /// A change that was made, with the index entries that it removed and made.
-#[derive(Debug, Drop)]
+#[derive(Drop)]
 pub struct Kept {
     pub change: Change,
     pub gone: IndexEntryList,
@@ -88,7 +88,7 @@ pub struct Kept {
 }
 
 /// A step of a transaction that can be taken back, with the number of its log record.
-#[derive(Debug, Drop)]
+#[derive(Drop)]
 pub enum KeptStep {
     Put {
         kept: Kept,

@@ -2,7 +2,7 @@
 use crate::{Refusal, Row, Sequence, Sessions};
 
 /// One line of an answer.
-#[derive(Debug, Drop)]
+#[derive(Drop)]
 pub enum Reply {
     /// A row that was asked for.
     Row(Row),

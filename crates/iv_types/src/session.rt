@@ -3,7 +3,7 @@ ghost use Rattle.std.specs.Prelude.{◌≡◌, ℕ, ◌≤◌, ◌↔◌, ◌⊎
 ghost use Rattle.iv_types.specs.SessionSets.{Has, IsSomebody, HaveCommon, IsFirstCommon};
 
 /// A set of sessions. Bit k - 1 stands for session k, from 1 to 64.
-#[derive(Clone, Copy, Debug, PartialEq, Eq)]
+#[derive(Clone, Copy, PartialEq, Eq)]
 pub struct Sessions {
     pub bits: u64,
 }

@@ -2,14 +2,14 @@
 use crate::{Bytes, Expr, ExprList, Kind, NameList, Ref, RefList, Sequence};
 
 /// How a transaction reads: serializable by locks, or a snapshot that writes nothing.
-#[derive(Clone, Copy, Debug, PartialEq, Eq)]
+#[derive(Clone, Copy, PartialEq, Eq)]
 pub enum Mode {
     Serial,
     Snapshot,
 }
 
 /// A column of a table.
-#[derive(Debug, Drop)]
+#[derive(Drop)]
 pub struct ColumnDef {
     pub name: Bytes,
     pub kind: Kind,
@@ -22,14 +22,14 @@ pub type ColumnList = Sequence<ColumnDef>;
 pub type TupleList = Sequence<ExprList>;
 
 /// A relation of FROM: a table or a view, and the name by which the statement calls it where that is another.
-#[derive(Debug, Drop)]
+#[derive(Drop)]
 pub struct Relation {
     pub name: Bytes,
     pub alias: Option<Bytes>,
 }
 
 /// A further relation of FROM and its ON condition.
-#[derive(Debug, Drop)]
+#[derive(Drop)]
 pub struct Join {
     pub relation: Relation,
     pub on: Expr,
@@ -39,7 +39,7 @@ pub struct Join {
 pub type JoinList = Sequence<Join>;
 
 /// An item of a SELECT, with the name that AS gives it.
-#[derive(Debug, Drop)]
+#[derive(Drop)]
 pub enum Item {
     /// `*`: all columns of FROM.
     All,
@@ -54,7 +54,7 @@ pub enum Item {
 pub type ItemList = Sequence<Item>;
 
 /// A query, without its ORDER BY. An empty `group` means that it has no GROUP BY.
-#[derive(Debug, Drop)]
+#[derive(Drop)]
 pub struct Query {
     pub items: ItemList,
     pub first: Relation,
@@ -64,14 +64,14 @@ pub struct Query {
 }
 
 /// By what an ORDER BY sorts: the item of this number, counted from 1, or the item of this name.
-#[derive(Debug, Drop)]
+#[derive(Drop)]
 pub enum OrderKey {
     Place(i128),
     Name(Bytes),
 }
 
 /// One term of an ORDER BY.
-#[derive(Debug, Drop)]
+#[derive(Drop)]
 pub struct Order {
     pub by: OrderKey,
     pub descending: bool,
@@ -81,7 +81,7 @@ pub struct Order {
 pub type OrderList = Sequence<Order>;
 
 /// One assignment of an UPDATE.
-#[derive(Debug, Drop)]
+#[derive(Drop)]
 pub struct Set {
     pub name: Bytes,
     pub value: Expr,
@@ -91,7 +91,7 @@ pub struct Set {
 pub type SetList = Sequence<Set>;
 
 /// A statement.
-#[derive(Debug, Drop)]
+#[derive(Drop)]
 pub enum Statement {
     CreateTable {
         name: Bytes,
@@ -134,9 +134,20 @@ pub enum Statement {
     },
 }
 
+impl Query {
+    /// Lets a query go. Its drop is proved here, so that no crate above proves it again.
+    pub fn let_go(self) {
+        let _ = self;
+    }
+}
+
 impl Statement {
     /// Lets a statement go. Its drop is proved here, so that no crate above proves it again.
     pub fn let_go(self) {
-        let _ = self;
+        match self {
+            Statement::CreateView { name: _, query } => query.let_go(),
+            Statement::Select { query, order: _ } => query.let_go(),
+            _ => {}
+        }
     }
 }

@@ -5,7 +5,7 @@ use crate::{Bytes, NoMemory, Sequence};
 use std::alloc::Global;
 
 /// The type of a column.
-#[derive(Clone, Copy, Debug, PartialEq, Eq)]
+#[derive(Clone, Copy, PartialEq, Eq)]
 pub enum Kind {
     /// Whole numbers of 64 bits.
     Int,
@@ -57,7 +57,7 @@ pub type Row = Sequence<Value>;
 pub type RowList = Sequence<Row>;
 
 /// The rows of a table, by its object number.
-#[derive(Debug, Drop)]
+#[derive(Drop)]
 pub struct RowsOf {
     pub table: u32,
     pub rows: RowList,
@@ -68,7 +68,7 @@ pub type TableRows = Sequence<RowsOf>;
 
 /// A range of encoded keys: those at or after `low` and, where there is a high end, before `high`, in lexicographic
 /// order of their bytes.
-#[derive(Debug, Drop)]
+#[derive(Drop)]
 pub struct Interval {
     pub low: Bytes,
     pub high: Option<Bytes>,

@@ -7,8 +7,9 @@
 //! one text and that text. A size is counted to a limit.
 use crate::parts::write_statement;
 use case_text::write_escaped;
-use iv_types::{Bytes, Statement, statement_bytes};
+use iv_types::{Bytes, Statement};
 use sql_parse::parse;
+use sql_pieces::statement_bytes;
 use sql_print::statement_text;
 use std::alloc::Global;
 use std::fmt::Write;

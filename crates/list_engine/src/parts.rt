@@ -7,14 +7,14 @@ use std::alloc::Global;
 use txn_book::LastRefusal;
 
 /// An open transaction, and the greatest commit number as it began.
-#[derive(Clone, Copy, Debug)]
+#[derive(Clone, Copy)]
 pub struct Opened {
     pub mode: Mode,
     pub number: u64,
 }
 
 /// A session's open transaction, and the last step of it that was refused.
-#[derive(Clone, Copy, Debug)]
+#[derive(Clone, Copy)]
 pub struct Part {
     pub opened: Option<Opened>,
     pub refused: Option<LastRefusal>,

@@ -10,7 +10,7 @@ use sql_bind::{kinds_at, kinds_of};
 use std::alloc::Global;
 
 /// The columns of a key, by their places in a row, and their kinds.
-#[derive(Debug, Drop)]
+#[derive(Drop)]
 pub struct Key<'a> {
     pub kinds: KindList,
     pub places: &'a [u32],

@@ -127,7 +127,7 @@ fn keep(locks: &mut Vec<Want>, want: Want)
 
 /// The locks of a session: those of one key, which are the great majority, apart from those of true ranges, so that a
 /// search begins at the first that can overlap an interval and goes no further than the last.
-#[derive(Debug, Drop)]
+#[derive(Drop)]
 pub struct Held {
     points: Vec<Want>,
     ranges: Vec<Want>,

@@ -8,7 +8,7 @@ use std::alloc::Global;
 use std::marker::Model;
 
 /// The locks of a session, what it waits for, and how many locks more it may be granted.
-#[derive(Debug, Drop)]
+#[derive(Drop)]
 pub struct SessionPart {
     held: Held,
     waiting: WantList,

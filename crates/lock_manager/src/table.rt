@@ -42,7 +42,7 @@ fn in_the_way(parts: &[SessionPart], session: u32, wants: &[Want]) -> Sessions
 ///
 /// Each session's locks are kept in the order of their indexes and low ends, so that a request looks, of each session,
 /// only at locks of its own indexes that can overlap what it asks for.
-#[derive(Debug, Drop)]
+#[derive(Drop)]
 pub struct LockTable {
     alloc: Global,
     parts: Vec<SessionPart>,

@@ -14,7 +14,7 @@ use Rattle.lock_manager.specs.Table as table
 use Rattle.lock_manager.specs.Table.{Table}
 use Rattle.txn_machine.specs.Acts as act
 use Rattle.txn_machine.specs.Answers as machine_answer
-use Rattle.txn_machine.specs.Counts.{put_size, kept_change_size}
+use Rattle.txn_machine.specs.Counts.{put_size, kept_change_size, definition_sizes}
 use Rattle.iv_types.specs.declared.catalog.TableDef.{TableDef}
 use Rattle.iv_types.specs.declared.catalog.Definition.TheVariants as definition
 use Rattle.iv_types.specs.Definitions as definitions
@@ -39,7 +39,7 @@ use Rattle.plain_machine.specs.declared.act.Answer.TheVariants as answer
 use Rattle.plain_machine.specs.declared.machine.Machine.{Machine}
 use Rattle.plain_machine.proofs.Standing.{moved_parts, own_txn, rows_like, kept_txn}
 use Rattle.plain_machine.proofs.Weighing.{put_at_most, kept_at_most, takes_adds, writes_adds}
-use Rattle.plain_machine.proofs.Telling.{told_by, fits_history}
+use Rattle.plain_machine.proofs.Telling.{told_by, fits_history, fits_log, fits_data}
 use Rattle.plain_machine.proofs.Granting.{taken, own_taken, now_taken, others_taken, fits_transaction}
 
 abbrev the_change : ℕ → List ℕ → Option Row → Option Row → RowChange
@@ -91,10 +91,12 @@ changed_told m n s i number key new after d said h may d_is g keeps told =
     kept_txn r.before r.after ks (kept.Put d ds ∷ r.before.kept.items) ds 0 (Put (row_change d) ds ∷ ks.kept) x1 r.differs (ap (λ steps. Put (row_change d) ds ∷ steps) x.kept) in
     let same : IsTxn r.after (record ks { kept = Put c (owed (schema_of s.store) s.store.rows c) ∷ ks.kept; owed = owed (schema_of s.store) s.store.rows c; back = 0 }) =
     subst (λ e. IsTxn r.after (record ks { kept = Put c e ∷ ks.kept; owed = e; back = 0 })) owed_is (subst (λ e. IsTxn r.after (record ks { kept = Put e ds ∷ ks.kept; owed = ds; back = 0 })) change_is x2) in
-    told_by m n s i (act.Put number key new) (machine_answer.Changed former ds) (Takes wants ∷ Writes place new ∷ []) h
+    told_by m n s i (act.Put number key new) (machine_answer.Changed former ds) (Takes wants ∷ Writes place new ∷ []) refl h
     (record {
       free = g.free;
       room = fits_transaction m s i (put_size (schema_of s.store) c (owed (schema_of s.store) s.store.rows c)) (put_weight c (owed (schema_of s.store) s.store.rows c)) h is (put_at_most (schema_of s.store) c (owed (schema_of s.store) s.store.rows c)) fits;
+      log_room = fits_log m s _ h;
+      data_room = fits_data m s _ h;
       history_room =
           let one : kept_change_size (schema_of s.store) c ≤ put_weight c (owed (schema_of s.store) s.store.rows c) = kept_at_most (schema_of s.store) c (owed (schema_of s.store) s.store.rows c) in
           fits_history m s (kept_change_size (schema_of s.store) c) h (omega (arith, one, fits));
@@ -115,6 +117,6 @@ changed_told m n s i number key new after d said h may d_is g keeps told =
     others (λ sessions e. absurd (cc))
     (let first : store_weight s1 ≤ store_weight s.store = takes_adds s.store i is (now s.store i) own.0 wants in
     let more : store_weight (does the_views s1 i (Writes place new)) ≤ store_weight s1 + put_weight c (owed (schema_of s.store) s.store.rows c) = writes_adds s1 i is ks (own_taken s.store i wants) place new in
-    let weight : store_weight s.store + s.definitions ≤ m.weight = h.weight in
+    let weight : store_weight s.store + definition_sizes s.definitions ≤ m.weight = h.weight in
     omega (arith, first, more, weight, grown))
     k.small (ap (λ (y : Machine). y.steps) k.rest))

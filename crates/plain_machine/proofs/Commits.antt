@@ -43,6 +43,7 @@ use Rattle.plain_machine.specs.declared.machine.Machine.{Machine}
 use Rattle.plain_machine.proofs.Standing.{own_txn}
 use Rattle.plain_machine.proofs.Weighing.{commits_adds}
 use Rattle.plain_machine.proofs.Telling.{told_by, left_told}
+use Rattle.txn_machine.specs.Counts.{definition_sizes}
 
 -- ---- whether there is an entry
 
@@ -74,7 +75,7 @@ pub unchanged_told : (m n : Machine) (s : State) (i number : ℕ) (t : Txn) → 
     → Sets m.txns.items n.txns.items i None → n ≡ record m { txns = n.txns; locks = n.locks } → table.IsReleased m.locks n.locks i → Told s i act.Commit (answer.Committed number) n
 unchanged_told m n s i number t h is was none number_is placed rest released =
     let x = (own_txn m s.store i t h.store is was).1 in
-    left_told m n s i act.Commit (answer.Committed number) h is
+    left_told m n s i act.Commit (answer.Committed number) refl h is
     (commits_none s.store i number (changes_by s.store i) (sym (ap changes_of x.kept) ∙ none_changed (kept_steps t.kept.items) none) number_is)
     (λ sessions e. cc) refl placed rest released
 
@@ -195,13 +196,13 @@ module _ (m l n : Machine) (s : State) (i number : ℕ) (t : Txn) (h : Stands m 
 
   pub entered_told : Told s i act.Commit (answer.Committed number) n
   entered_told =
-      told_by m n s i act.Commit (answer.Committed number) (Commits ∷ []) h
+      told_by m n s i act.Commit (answer.Committed number) (Commits ∷ []) refl h
       (commits_some s.store i number (changes_by s.store i) (subst (λ cs. cs ≢ []) (ap changes_of steps_are) (some_changed (kept_steps t.kept.items) keeps)) number_is)
       holds
       (subst (λ b. table.KeepsOthers m.locks b i) (sym (ap (λ (y : Machine). y.locks) rest)) released.others)
       (λ sessions e. absurd (cc))
       (let less : store_weight u ≤ store_weight s.store = commits_adds s.store i is (now s.store i) open_is in
-      let weight : store_weight s.store + s.definitions ≤ m.weight = h.weight in
+      let weight : store_weight s.store + definition_sizes s.definitions ≤ m.weight = h.weight in
       let same : n.weight ≡ m.weight = ap (λ (y : Machine). y.weight) rest in
       omega (arith, less, weight, same))
       (subst (λ w. w ≤ most_weight) (ap (λ (y : Machine). y.weight) (sym rest)) h.small) (ap (λ (y : Machine). y.steps) rest)

@@ -17,7 +17,7 @@ use Rattle.lock_manager.specs.Table as table
 use Rattle.row_eval.specs.Grouped.{Gives}
 use Rattle.txn_machine.specs.Acts as act
 use Rattle.txn_machine.specs.Answers as answer
-use Rattle.txn_machine.specs.Counts.{entry_size, definition_size}
+use Rattle.txn_machine.specs.Counts.{entry_size, definition_size, definition_sizes}
 use Rattle.txn_machine.specs.Fresh.{fresh, made_of}
 use Rattle.txn_machine.specs.Ghosts.{the_views}
 use Rattle.txn_machine.specs.Keeping.{Open}
@@ -35,8 +35,10 @@ use Rattle.plain_machine.specs.Weights.{store_weight, most_weight}
 use Rattle.plain_machine.specs.declared.txn.Txn.{Txn}
 use Rattle.plain_machine.specs.declared.machine.Machine.{Machine}
 use Rattle.plain_machine.proofs.Commits.{deltas_push}
-use Rattle.plain_machine.proofs.Telling.{told_by, told_still, fits_history}
+use Rattle.plain_machine.proofs.Telling.{told_by, told_still, fits_history, fits_log, fits_data}
 use Rattle.plain_machine.proofs.Weighing.{defines_adds}
+use Rattle.txn_machine.proofs.LogSums.{sizes_more}
+use Rattle.iv_types.specs.Printing.{statement_text}
 
 -- ---- whether an object can be made
 
@@ -81,7 +83,7 @@ module _ (m : Machine) (s : State) (i : ℕ) (statement : StatementTree) (h : St
   makes_here bound o e is = record { bound = bound_here (Ok bound) e ∙ ap Ok is }
 
   denied_told : (why : Refusal) → IsDenied s.store statement why → Told s i (act.Schema statement) (answer.Denied why) m
-  denied_told why d = told_still m s i (act.Schema statement) (answer.Denied why) h (d, refl) (λ sessions e. cc) refl
+  denied_told why d = told_still m s i (act.Schema statement) (answer.Denied why) refl h (d, refl) (λ sessions e. cc) refl
 
   pub unbound_told : (why : Refusal) → binding.bind (schema.schema_of m.catalog) statement ≡ Err why → Told s i (act.Schema statement) (answer.Denied why) m
   unbound_told why e = denied_told why (unbound (bound_here (Err why) e))
@@ -91,7 +93,7 @@ module _ (m : Machine) (s : State) (i : ℕ) (statement : StatementTree) (h : St
 
   pub busy_told : (least : ℕ) (o : Object) → Makes s.store statement o → IsLeastOpen m.txns.items (Some least) → Told s i (act.Schema statement) (answer.Refused (SchemaBusy least)) m
   busy_told least o makes l =
-      told_still m s i (act.Schema statement) (answer.Refused (SchemaBusy least)) h (record { object = o; makes = makes; least = is_busy m s.store least h.store l }, refl)
+      told_still m s i (act.Schema statement) (answer.Refused (SchemaBusy least)) refl h (record { object = o; makes = makes; least = is_busy m s.store least h.store l }, refl)
       (λ sessions e. cc) refl
 
 -- ---- what is defined
@@ -154,12 +156,14 @@ module _ (m l n : Machine) (s : State) (i number : ℕ) (statement : StatementTr
 
   pub defined_told : Told s i (act.Schema statement) (answer.Committed number) n
   defined_told =
-      told_by m n s i (act.Schema statement) (answer.Committed number) (Defines o ∷ []) h
+      told_by m n s i (act.Schema statement) (answer.Committed number) (Defines o ∷ []) refl h
       (record {
         object = o;
         makes = makes;
         none_open = none;
         accepted = (0, defines o ∷ [], accepted);
+        log_room = fits_log m s _ h;
+        data_room = fits_data m s _ h;
         room = fits_history m s (entry_size + definition_size statement) h (subst (λ w. w ≤ most_weight) grown small);
         number_is = number_is;
         effects = refl;
@@ -168,7 +172,8 @@ module _ (m l n : Machine) (s : State) (i number : ℕ) (statement : StatementTr
       (λ j ne. ap (λ (x : Machine). table.of_session x.locks j) rest)
       (λ sessions e. absurd (cc))
       (let more : store_weight u ≤ store_weight s.store + 256 = defines_adds s.store i o in
-      let weight : store_weight s.store + s.definitions ≤ m.weight = h.weight in
+      let weight : store_weight s.store + definition_sizes s.definitions ≤ m.weight = h.weight in
       let same : n.weight ≡ l.weight = ap (λ (y : Machine). y.weight) rest in
-      omega (arith, more, weight, same, grown))
+      let texts : definition_sizes (s.definitions ++ statement_text statement ∷ []) ≡ definition_sizes s.definitions + definition_size statement = sizes_more s.definitions (statement_text statement) in
+      omega (arith, more, weight, same, grown, texts))
       (subst (λ w. w ≤ most_weight) (ap (λ (y : Machine). y.weight) (sym rest)) small) (ap (λ (y : Machine). y.steps) rest)

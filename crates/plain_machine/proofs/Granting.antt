@@ -19,7 +19,7 @@ use Rattle.txn_machine.specs.Acts.{Act}
 use Rattle.txn_machine.specs.Answers as answer
 use Rattle.txn_machine.specs.Locks.{IsDeadlock}
 use Rattle.txn_machine.specs.Keeping.{Note, Open, idle}
-use Rattle.txn_machine.specs.Counts.{fetch_size, transaction_size}
+use Rattle.txn_machine.specs.Counts.{fetch_size, transaction_size, definition_sizes}
 use Rattle.txn_machine.specs.Store.{Store, schema_of, now, locks_of, Takes, Notes, Loses, does}
 use Rattle.txn_machine.specs.Ghosts.{the_views}
 use Rattle.txn_machine.specs.State.{State}
@@ -58,7 +58,7 @@ module _ (s : Store) (i : ℕ) (wants : List Want) where
 pub fits_transaction : (m : Machine) (s : State) (i need weight : ℕ) → Stands m s → IsSession i → need ≤ weight → m.weight + weight ≤ most_weight → FitsTransaction s.store i need
 fits_transaction m s i need weight h is le small =
     let own : transaction_size (schema_of s.store) (now s.store i) ≤ store_weight s.store = now_at_most (schema_of s.store) s.store i is in
-    let all : store_weight s.store + s.definitions ≤ m.weight = h.weight in
+    let all : store_weight s.store + definition_sizes s.definitions ≤ m.weight = h.weight in
     omega (arith, own, all, le, small)
 
 -- ---- a deadlock
@@ -76,7 +76,7 @@ lost_told m n s i a wants cycle after said h is may is_asked deadlock keeps lost
     let o : Option Open = Some (record (now s.store i) { is_lost = true }) in
     let table_is : n.locks ≡ after = ap (λ (k : Machine). k.locks) rest in
     let others : table.KeepsOthers m.locks n.locks i = subst (λ t. table.KeepsOthers m.locks t i) (sym table_is) keeps in
-    told_by m n s i a (answer.Refused (refusal.Deadlock cycle)) (Loses ∷ []) h
+    told_by m n s i a (answer.Refused (refusal.Deadlock cycle)) (Loses ∷ []) refl h
     (may, subst (λ ws. IsDeadlock (locks_of s.store) s.waiting i ws (sessions_of cycle)) (sym is_asked) deadlock.0, refl)
     (moved_parts m n s.store (does the_views s.store i Loses) i (Some r.after) o h.store
     (rest ∙ ap (λ (k : Machine). record m { rows = k.rows; view = k.view; txns = n.txns; locks = k.locks; weight = k.weight }) (sym rest))
@@ -88,9 +88,10 @@ lost_told m n s i a wants cycle after said h is may is_asked deadlock keeps lost
     (subst (λ t. HasLocks (table.locks_of t i) (locks_of s.store i)) (sym table_is) deadlock.1) others)
     others (λ sessions e. absurd (cc))
     (let more : store_weight (does the_views s.store i Loses) ≤ store_weight s.store = loses_adds s.store i is (now s.store i) own.0 in
-    let weight : store_weight s.store + s.definitions ≤ m.weight = h.weight in
+    let weight : store_weight s.store + definition_sizes s.definitions ≤ m.weight = h.weight in
     let same : n.weight ≡ m.weight = ap (λ (k : Machine). k.weight) rest in
-    omega (arith, more, weight, same, bytes))
+    let same_bytes : definition_sizes (definitions_after s.definitions a (answer.Refused (refusal.Deadlock cycle))) ≡ definition_sizes s.definitions = ap definition_sizes bytes in
+    omega (arith, more, weight, same, same_bytes))
     (subst (λ w. w ≤ most_weight) (ap (λ (k : Machine). k.weight) (sym rest)) h.small) (ap (λ (k : Machine). k.steps) rest))
 
 -- ---- a Fetch
@@ -107,7 +108,7 @@ fetched_told m n s i number interval mode rows h may g keeps found rest grown sm
     let t = open_txn m s.store i may.transaction h.store is may.is_open in
     let x = t.2 in
     let o : Option Open = Some (record (now s.store i) { locks = wants ++ (now s.store i).locks; notes = note ∷ (now s.store i).notes }) in
-    told_by m n s i (act.Fetch number interval mode) (answer.Rows rows) (Takes wants ∷ Notes note ∷ []) h
+    told_by m n s i (act.Fetch number interval mode) (answer.Rows rows) (Takes wants ∷ Notes note ∷ []) refl h
     (record {
       free = g.free;
       found = found;
@@ -127,6 +128,6 @@ fetched_told m n s i number interval mode rows h may g keeps found rest grown sm
     (let open_is = own_txn m s.store i t.0 h.store is t.1 in
     let first : store_weight s1 ≤ store_weight s.store = takes_adds s.store i is (now s.store i) open_is.0 wants in
     let more : store_weight (does the_views s1 i (Notes note)) ≤ store_weight s1 + note_weight note = notes_adds s1 i is (record (now s.store i) { locks = wants ++ (now s.store i).locks }) (own_taken s.store i wants) note in
-    let weight : store_weight s.store + s.definitions ≤ m.weight = h.weight in
+    let weight : store_weight s.store + definition_sizes s.definitions ≤ m.weight = h.weight in
     omega (arith, first, more, weight, grown))
     small (ap (λ (k : Machine). k.steps) rest)

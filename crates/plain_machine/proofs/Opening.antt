@@ -16,6 +16,7 @@ use Rattle.plain_machine.specs.Weights.{opens_weight}
 use Rattle.plain_machine.specs.Txns.{txn_at}
 use Rattle.plain_machine.specs.Stands.{IsSame, Stands, version_deltas}
 use Rattle.plain_machine.specs.declared.machine.Machine.{Machine}
+use Rattle.txn_machine.specs.Log.{unlimited}
 
 none_at : (n j : ℕ) → txn_at (replicate n None) j ≡ None
 none_at zero j = refl
@@ -29,9 +30,9 @@ opens_nothing (suc n) = ap (λ k. k + 0) (opens_nothing n)
 
 pub new_stands : (m : Machine) (n number : ℕ) → m.number ≡ number → m.committed ≡ empty → m.rows ≡ empty → m.view ≡ empty → m.mark ≡ number → m.versions.items ≡ []
     → m.txns.items ≡ replicate n None → n ≡ 65 → table.IsNew m.locks → m.weight ≡ 0 → m.steps ≡ 0
-    → (db : Database) → db ≡ record { number = number; schema = schema_of m.catalog; rows = empty } → IsOpened db empty → Stands m (opened_state (opened db empty))
+    → (db : Database) → db ≡ record { number = number; schema = schema_of m.catalog; rows = empty } → IsOpened db empty → Stands m (opened_state unlimited (opened db empty))
 new_stands m n number' number committed rows view mark versions txns many locks weight steps db db_is is_opened = record {
-  reached = record { db = db; view = empty; was_opened = is_opened; steps = []; run = refl };
+  reached = record { db = db; view = empty; opening = unlimited; was_opened = is_opened; steps = []; run = refl };
   store = record {
     definitions = sym (ap (λ (d : Database). d.schema) db_is);
     number = number ∙ sym (ap (λ (d : Database). d.number) db_is);
@@ -50,4 +51,5 @@ new_stands m n number' number committed rows view mark versions txns many locks 
   small = omega (arith, weight);
   steps = steps;
   stop = refl;
+  unlimited = refl;
 }

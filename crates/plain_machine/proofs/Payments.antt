@@ -1,6 +1,6 @@
 -- What a Pay tells, by what it changes in a machine.
 use Rattle.std.proofs.Common.{◌≡◌, ℕ, ℤ, ◌+◌, ◌≤◌, List, [], ◌∷◌, ◌++◌, length, get_or, Option, Some, None, IsSome, refl, sym, ap, ◌∙◌, subst, arith, inl, inr}
-use Rattle.std.specs.Prelude.{◌≢◌, pos}
+use Rattle.std.specs.Prelude.{◌≢◌, pos, false}
 use Rattle.std.specs.FinMap.{get}
 use Rattle.std.specs.Option.{option_map_or, unwrap_or}
 use Rattle.std.proofs.lemmas.Option.{same_Some}
@@ -20,7 +20,7 @@ use Rattle.txn_machine.specs.Keeping.{Open, Pay, idle, increments}
 use Rattle.txn_machine.specs.Stored.{ViewRows, add_to, zeros}
 use Rattle.txn_machine.specs.Store.{Store, now, locks_of, Takes, Pays, Ghosts, does, paid_first}
 use Rattle.txn_machine.specs.Ghosts.{the_views, account_of}
-use Rattle.txn_machine.specs.State.{State}
+use Rattle.txn_machine.specs.State.{State, is_fault}
 use Rattle.txn_machine.specs.May as may
 use Rattle.txn_machine.specs.Steps as steps
 use Rattle.txn_machine.specs.Steps.{asked, Says, group_want, first_want}
@@ -40,6 +40,7 @@ use Rattle.plain_machine.proofs.Standing.{moved_parts, own_txn, open_txn, rows_l
 use Rattle.plain_machine.proofs.Weighing.{takes_adds, pays_adds, ghosts_adds}
 use Rattle.plain_machine.proofs.Telling.{told_by, told_still}
 use Rattle.plain_machine.proofs.Granting.{taken, own_taken, now_taken, others_taken}
+use Rattle.txn_machine.specs.Counts.{definition_sizes}
 
 -- what a session keeps, in the machine and in the state
 kept_same : (t : Option Txn) (o : Option Open) → IsSame t o → option_map_or (λ (x : Txn). kept_steps x.kept.items) t [] ≡ (unwrap_or o idle).kept
@@ -77,16 +78,16 @@ took m n s i after wants h goes locks keeps rest =
     (subst (λ b. HasLocks (table.locks_of b i) (wants ++ locks_of s.store i)) (sym table_is) locks) (subst (λ b. table.KeepsOthers m.locks b i) (sym table_is) keeps)
 
 -- and told so
-took_told : (m n : Machine) (s : State) (i : ℕ) (after : Table) (said : machine_answer.Answer) → Stands m s → may.GoesOn s.store i Serial → IsGranted (locks_of s.store) i (asked s.store i act.Pay) after → table.KeepsOthers m.locks after i
+took_told : (m n : Machine) (s : State) (i : ℕ) (after : Table) (said : machine_answer.Answer) → is_fault said ≡ false → Stands m s → may.GoesOn s.store i Serial → IsGranted (locks_of s.store) i (asked s.store i act.Pay) after → table.KeepsOthers m.locks after i
     → n ≡ record m { locks = after } → Says s i act.Pay said (Takes (asked s.store i act.Pay) ∷ []) → ((sessions : _) → said ≢ machine_answer.Blocked sessions) → Told s i act.Pay said n
-took_told m n s i after said h goes g keeps rest says not_blocked =
+took_told m n s i after said fine h goes g keeps rest says not_blocked =
     let wants : List Want = asked s.store i act.Pay in
     let is = goes.of_session in
     let t = open_txn m s.store i goes.transaction h.store is goes.is_open in
-    told_by m n s i act.Pay said (Takes wants ∷ []) h says (took m n s i after wants h goes g.locks keeps rest)
+    told_by m n s i act.Pay said (Takes wants ∷ []) fine h says (took m n s i after wants h goes g.locks keeps rest)
     (subst (λ b. table.KeepsOthers m.locks b i) (ap (λ (k : Machine). k.locks) (sym rest)) keeps) (λ sessions e. absurd (not_blocked sessions e))
     (let first : store_weight (taken s.store i wants) ≤ store_weight s.store = takes_adds s.store i is (now s.store i) (own_txn m s.store i t.0 h.store is t.1).0 wants in
-    let weight : store_weight s.store + s.definitions ≤ m.weight = h.weight in
+    let weight : store_weight s.store + definition_sizes s.definitions ≤ m.weight = h.weight in
     let same : n.weight ≡ m.weight = ap (λ (k : Machine). k.weight) rest in
     omega (arith, first, weight, same))
     (subst (λ w. w ≤ most_weight) (ap (λ (k : Machine). k.weight) (sym rest)) h.small) (ap (λ (k : Machine). k.steps) rest)
@@ -105,13 +106,13 @@ pub paid_told : (m n : Machine) (s : State) (i : ℕ) (d : GroupDelta) (after : 
     → IsGranted (locks_of s.store) i (asked s.store i act.Pay) after → table.KeepsOthers m.locks after i → PaysFirst (record m { locks = after }) n i d said → Told s i act.Pay (answer_of said) n
 paid_told m n s i d after said h goes owes g keeps (lacks is_said absent same) =
     subst (λ x. Told s i act.Pay (answer_of x) n) (sym is_said)
-    (took_told m n s i after machine_answer.NeedsGhost h goes g keeps same
+    (took_told m n s i after machine_answer.NeedsGhost refl h goes g keeps same
     (record { pays = first_paid m s i d h goes owes g.free; absent = ap (λ (v : ViewRows). get v (place_of d)) (sym h.store.view) ∙ absent; effects = refl })
     (λ sessions e. cc))
 paid_told m n s i d after said h goes owes g keeps (refuses numbers column range is_said there refused same) =
     let r = refused (account_of s.store (place_of d)) (λ c lt. account_is m s (place_of d) c numbers h there) in
     subst (λ x. Told s i act.Pay (answer_of x) n) (sym is_said)
-    (took_told m n s i after (machine_answer.Refused (refusal.Escrow column range.inf range.sup)) h goes g keeps same
+    (took_told m n s i after (machine_answer.Refused (refusal.Escrow column range.inf range.sup)) refl h goes g keeps same
     (record {
       pays = first_paid m s i d h goes owes g.free;
       there = subst IsSome (sym (ap (λ (v : ViewRows). get v (place_of d)) (sym h.store.view) ∙ there)) refl;
@@ -145,7 +146,7 @@ paid_told m n s i d after said h goes owes g keeps (pays numbers left is_said th
     (one_same s1.open_of i mid i refl ∙ ap (λ (y : Open). Some (record y { kept = Pay d ∷ y.kept; owed = paid.others })) (now_taken s.store i wants))
     (λ j ne. one_other s1.open_of i mid j ne ∙ others_taken s.store i wants j ne)
     (subst (λ b. HasLocks (table.locks_of b i) (wants ++ locks_of s.store i)) (sym table_is) g.locks) others in
-    told_by m n s i act.Pay (machine_answer.Paid left) (Takes wants ∷ Pays ∷ []) h
+    told_by m n s i act.Pay (machine_answer.Paid left) (Takes wants ∷ Pays ∷ []) refl h
     (record {
       pays = record { free = g.free; first = d; others = paid.others; owed_is = owed_is };
       there = subst IsSome (sym (ap (λ (v : ViewRows). get v (place_of d)) (sym h.store.view) ∙ there)) refl;
@@ -156,7 +157,7 @@ paid_told m n s i d after said h goes owes g keeps (pays numbers left is_said th
     (subst (HoldsStore n) path holds) others (λ sessions e. absurd (cc))
     (let first : store_weight s1 ≤ store_weight s.store = takes_adds s.store i is (now s.store i) own.0 wants in
     let more : store_weight (does the_views s1 i Pays) ≤ store_weight s1 = pays_adds s1 i is ks (own_taken s.store i wants) in
-    let weight : store_weight s.store + s.definitions ≤ m.weight = h.weight in
+    let weight : store_weight s.store + definition_sizes s.definitions ≤ m.weight = h.weight in
     let same : n.weight ≡ m.weight = ap (λ (y : Machine). y.weight) paid.rest in
     omega (arith, first, more, weight, same))
     (subst (λ w. w ≤ most_weight) (ap (λ (y : Machine). y.weight) (sym paid.rest)) h.small) (ap (λ (y : Machine). y.steps) paid.rest))
@@ -172,7 +173,7 @@ owed_first m s i d h is owes = sym (own_txn m s.store i owes.txn h.store is owes
 
 pub ghost_there : (m : Machine) (s : State) (i : ℕ) (d : GroupDelta) → Stands m s → IsSession i → Owes m i d → IsSome (get m.view (place_of d)) → Told s i act.Ghost machine_answer.Ghosted m
 ghost_there m s i d h is owes there =
-    told_still m s i act.Ghost machine_answer.Ghosted h
+    told_still m s i act.Ghost machine_answer.Ghosted refl h
     (record { first = d; others = owes.others; owed_is = owed_first m s i d h is owes; effects = inr (subst (λ (v : ViewRows). IsSome (get v (place_of d))) h.store.view there, refl) })
     (λ sessions e. cc) refl
 
@@ -183,7 +184,7 @@ ghost_made m n s i d h is owes absent rest =
     let columns : ℕ = length (columns_of d) in
     let locks : n.locks ≡ m.locks = ap (λ (y : Machine). y.locks) rest in
     let others : table.KeepsOthers m.locks n.locks i = λ j ne. ap (λ b. table.of_session b j) locks in
-    told_by m n s i act.Ghost machine_answer.Ghosted (Ghosts place columns ∷ []) h
+    told_by m n s i act.Ghost machine_answer.Ghosted (Ghosts place columns ∷ []) refl h
     (record { first = d; others = owes.others; owed_is = owed_first m s i d h is owes; effects = inl (sym (ap (λ (v : ViewRows). get v place) h.store.view) ∙ absent, refl) })
     (moved_parts m n s.store (does the_views s.store i (Ghosts place columns)) i (txn_at m.txns.items i) (s.store.open_of i) h.store
     (rest ∙ ap (λ (y : Machine). record m { rows = y.rows; view = y.view; txns = y.txns; locks = y.locks; weight = y.weight }) (sym rest))
@@ -193,7 +194,7 @@ ghost_made m n s i d h is owes absent rest =
     (subst (λ b. HasLocks (table.locks_of b i) (locks_of s.store i)) (sym locks) (h.store.locks i is)) others)
     others (λ sessions e. absurd (cc))
     (let more : store_weight (does the_views s.store i (Ghosts place columns)) ≤ store_weight s.store = ghosts_adds s.store i place columns in
-    let weight : store_weight s.store + s.definitions ≤ m.weight = h.weight in
+    let weight : store_weight s.store + definition_sizes s.definitions ≤ m.weight = h.weight in
     let same : n.weight ≡ m.weight = ap (λ (y : Machine). y.weight) rest in
     omega (arith, more, weight, same))
     (subst (λ w. w ≤ most_weight) (ap (λ (y : Machine). y.weight) (sym rest)) h.small) (ap (λ (y : Machine). y.steps) rest)

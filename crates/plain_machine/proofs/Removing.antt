@@ -40,8 +40,9 @@ use Rattle.plain_machine.specs.declared.machine.Version.{Version}
 use Rattle.plain_machine.proofs.Least.{least_above}
 use Rattle.plain_machine.proofs.Payments.{kept_now, account_is}
 use Rattle.plain_machine.proofs.Standing.{stored_parts}
-use Rattle.plain_machine.proofs.Telling.{told_by}
+use Rattle.plain_machine.proofs.Telling.{told_by, fits_log}
 use Rattle.plain_machine.proofs.Weighing.{cleans_adds, prunes_adds}
+use Rattle.txn_machine.specs.Counts.{definition_sizes}
 
 -- ---- versions
 
@@ -166,13 +167,13 @@ module _ (m : Machine) (s : State) (es : List (Place × List ℤ)) (h : Stands m
 
 pub cleaned_told : (m n : Machine) (s : State) (place : Place) → Stands m s → IsFirstCleanable s.store place → n ≡ record m { view = write m.view place None } → Told s 0 act.Clean (answer.Cleaned 1) n
 cleaned_told m n s place h first rest =
-    told_by m n s 0 act.Clean (answer.Cleaned 1) (Cleans place ∷ []) h (place, first, refl)
+    told_by m n s 0 act.Clean (answer.Cleaned 1) (Cleans place ∷ []) refl h (place, first, refl, fits_log m s _ h)
     (stored_parts m n s.store (write s.store.view place None) s.store.mark h.store
     (rest ∙ ap (λ (x : Machine). record m { view = x.view; mark = x.mark }) (sym rest))
     (ap (λ (x : Machine). x.view) rest ∙ ap (λ v. write v place None) h.store.view) (ap (λ (x : Machine). x.mark) rest ∙ h.store.mark) (omega arith))
     (λ j ne. ap (λ (x : Machine). table.of_session x.locks j) rest) (λ sessions e. absurd (cc))
     (let less : store_weight (does the_views s.store 0 (Cleans place)) ≤ store_weight s.store = cleans_adds s.store 0 place in
-    let weight : store_weight s.store + s.definitions ≤ m.weight = h.weight in
+    let weight : store_weight s.store + definition_sizes s.definitions ≤ m.weight = h.weight in
     let same : n.weight ≡ m.weight = ap (λ (x : Machine). x.weight) rest in
     omega (arith, less, weight, same))
     (subst (λ w. w ≤ most_weight) (ap (λ (x : Machine). x.weight) (sym rest)) h.small) (ap (λ (x : Machine). x.steps) rest)
@@ -184,13 +185,13 @@ mark_rises s m h = least_above s.store.open_of s.store.mark 64 (committed s.stor
 
 pub pruned_told : (m n : Machine) (s : State) (least : ℕ) → Stands m s → least ≡ least_snapshot s.store.open_of 64 m.number → n ≡ record m { mark = least } → Told s 0 act.Prune answer.Pruned n
 pruned_told m n s least h is rest =
-    told_by m n s 0 act.Prune answer.Pruned (Prunes ∷ []) h refl
+    told_by m n s 0 act.Prune answer.Pruned (Prunes ∷ []) refl h refl
     (stored_parts m n s.store s.store.view (least_snapshot s.store.open_of 64 (committed s.store).number) h.store
     (rest ∙ ap (λ (x : Machine). record m { view = x.view; mark = x.mark }) (sym rest))
     (ap (λ (x : Machine). x.view) rest ∙ h.store.view) (ap (λ (x : Machine). x.mark) rest ∙ (is ∙ ap (least_snapshot s.store.open_of 64) h.store.number)) (mark_rises s m h))
     (λ j ne. ap (λ (x : Machine). table.of_session x.locks j) rest) (λ sessions e. absurd (cc))
     (let less : store_weight (does the_views s.store 0 Prunes) ≤ store_weight s.store = prunes_adds s.store 0 in
-    let weight : store_weight s.store + s.definitions ≤ m.weight = h.weight in
+    let weight : store_weight s.store + definition_sizes s.definitions ≤ m.weight = h.weight in
     let same : n.weight ≡ m.weight = ap (λ (x : Machine). x.weight) rest in
     omega (arith, less, weight, same))
     (subst (λ w. w ≤ most_weight) (ap (λ (x : Machine). x.weight) (sym rest)) h.small) (ap (λ (x : Machine). x.steps) rest)

@@ -33,6 +33,7 @@ use Rattle.plain_machine.proofs.Standing.{moved_parts, own_txn, rows_like}
 use Rattle.plain_machine.proofs.Weighing.{undoes_adds}
 use Rattle.plain_machine.proofs.Telling.{told_by}
 use Rattle.plain_machine.proofs.Replacing.{taken_set}
+use Rattle.txn_machine.specs.Counts.{definition_sizes}
 
 -- m without the transaction is l
 module _ (m l n : Machine) (s : State) (i : ℕ) (t left : Txn) (h : Stands m s) (is : IsSession i) (was : txn_at m.txns.items i ≡ Some t) (l_is : l ≡ record m { txns = l.txns }) (takes : KeepsOthers m.txns.items l.txns.items i)
@@ -50,11 +51,11 @@ module _ (m l n : Machine) (s : State) (i : ℕ) (t left : Txn) (h : Stands m s)
       (let latest : (now s.store i).kept ≡ last ∷ kept_steps ks = sym own.1.kept ∙ kept_is in
       let path : u ≡ does the_views s.store i Undoes = u_is ∙ ap (undone s.store i (now s.store i)) (sym latest) in
       let others : table.KeepsOthers m.locks n.locks i = λ j ne. ap (λ b. table.of_session b j) locks in
-      told_by m n s i act.UndoOne (machine_answer.Undone (length ks)) (Undoes ∷ []) h
+      told_by m n s i act.UndoOne (machine_answer.Undone (length ks)) (Undoes ∷ []) refl h
       (record { latest = last; earlier = kept_steps ks; kept_is = latest; left_is = sym (length-map ks kept_of); effects = refl })
       (subst (HoldsStore n) path holds) others (λ sessions e. absurd (cc))
       (let less : store_weight (does the_views s.store i Undoes) ≤ store_weight s.store = undoes_adds s.store i is (now s.store i) own.0 in
-      let weight : store_weight s.store + s.definitions ≤ m.weight = h.weight in
+      let weight : store_weight s.store + definition_sizes s.definitions ≤ m.weight = h.weight in
       omega (arith, less, weight, weighs))
       (subst (λ w. w ≤ most_weight) (sym weighs) h.small) steps)
 

@@ -1,6 +1,6 @@
 -- A step, by what its act tells.
 use Rattle.std.proofs.Common.{◌≡◌, ℕ, ◌+◌, ◌<◌, ◌≤◌, List, [], ◌∷◌, ◌++◌, Option, Some, None, true, false, ne_eqb, refl, sym, ap, ◌∙◌, subst, arith, inl}
-use Rattle.std.specs.Prelude.{◌≢◌, cond}
+use Rattle.std.specs.Prelude.{◌≢◌, cond, ◌==◌}
 use Rattle.iv_types.specs.declared.session.Sessions.{Sessions}
 use Rattle.iv_meaning.specs.Escrow.{IsSession}
 use Rattle.table_laws.proofs.Stored.{by_session}
@@ -11,9 +11,9 @@ use Rattle.txn_machine.specs.Answers as machine_answer
 use Rattle.txn_machine.specs.Locks.{with_one}
 use Rattle.txn_machine.specs.Store.{Store, locks_of, run}
 use Rattle.txn_machine.specs.Ghosts.{the_views}
-use Rattle.txn_machine.specs.State.{State, Stop, counted, stop_after, most_steps}
+use Rattle.txn_machine.specs.State.{State, Stop, counted, stop_after, most_steps, is_fault}
 use Rattle.txn_machine.specs.May.{May}
-use Rattle.txn_machine.specs.Steps.{asked, waits_after, definitions_after, Step, Did, Run}
+use Rattle.txn_machine.specs.Steps.{asked, waits_after, definitions_after, Step, Did, Run, log_after}
 use Rattle.txn_machine.specs.Laws.{IsReached}
 use Rattle.txn_machine.proofs.Basics.{one_same, one_other}
 use Rattle.plain_machine.specs.Acts.{answer_of}
@@ -24,6 +24,7 @@ use Rattle.plain_machine.specs.Stepping.{is_blocked}
 use Rattle.plain_machine.specs.declared.act.Answer.{Answer}
 use Rattle.plain_machine.specs.declared.act.Answer.TheVariants as answer
 use Rattle.plain_machine.specs.declared.machine.Machine.{Machine}
+use Rattle.txn_machine.specs.Counts.{definition_sizes}
 
 -- ---- steps lead on
 
@@ -35,6 +36,7 @@ pub leads_on : (s : State) (i : ℕ) (a : Act) (said : machine_answer.Answer) (a
 leads_on s i a said after r step = record {
   db = r.db;
   view = r.view;
+  opening = r.opening;
   was_opened = r.was_opened;
   steps = r.steps ++ record { session = i; act = a; said = said } ∷ [];
   run = run_push _ r.steps s (record { session = i; act = a; said = said }) after r.run step;
@@ -81,8 +83,9 @@ waits_no_more s i a (answer.Denied w) e = refl
 
 -- ---- the step
 
-not_last : (former : Option Stop) (steps : ℕ) (a : Act) → steps + 1 < most_steps → former ≡ None → stop_after former (steps + 1) a ≡ None
-not_last former steps a lt none = ap (λ b. cond b (Some (record { step = steps + 1; act = a })) former) (ne_eqb (steps + 1) most_steps (λ e. absurd (omega (arith, lt, e)))) ∙ none
+not_last : (former : Option Stop) (steps : ℕ) (a : Act) (said : machine_answer.Answer) → is_fault said ≡ false → steps + 1 < most_steps → former ≡ None → stop_after former (steps + 1) a said ≡ None
+not_last former steps a said fine lt none =
+    ap (λ b. cond b (Some (record { step = steps + 1; act = a })) (cond (steps + 1 == most_steps) (Some (record { step = steps + 1; act = a })) former)) fine ∙ ap (λ b. cond b (Some (record { step = steps + 1; act = a })) former) (ne_eqb (steps + 1) most_steps (λ e. absurd (omega (arith, lt, e)))) ∙ none
 
 -- the machine is counted one step further, and the session's part of its locks is this
 pub stepped : (m n : Machine) (s : State) (i : ℕ) (a : Act) (said : Answer) → IsReached s → s.stop ≡ None → May s i a → Told s i a (answer_of said) m
@@ -90,7 +93,7 @@ pub stepped : (m n : Machine) (s : State) (i : ℕ) (a : Act) (said : Answer) �
     → (IsSession i → table.waiting_of n.locks i ≡ waits_after s.store i a (answer_of said)) → s.steps + 1 < most_steps → Moved s i a (answer_of said) n
 stepped m n s i a said reached runs may t rest locks others waits lt =
     let u : Store = run the_views s.store i t.effects in
-    let after : State = counted s i a (answer_of said) u (waits_after s.store i a (answer_of said)) (definitions_after s.definitions a (answer_of said)) in
+    let after : State = counted s i a (answer_of said) u (waits_after s.store i a (answer_of said)) (definitions_after s.definitions a (answer_of said)) (log_after s i a (answer_of said) t.effects) in
     let does : Step s i a (answer_of said) after = record { may = may; does = inl (record { runs = runs; effects = t.effects; says = t.says; left = refl }) } in
     let h : HoldsStore m u = t.store in
     record {
@@ -114,10 +117,11 @@ stepped m n s i a said reached runs may t rest locks others waits lt =
         waiting = λ j js. by_session j i
             (λ e. subst (λ k. table.waiting_of n.locks k ≡ with_one s.waiting i (waits_after s.store i a (answer_of said)) k) (sym e) (waits (subst IsSession e js) ∙ sym (one_same s.waiting i (waits_after s.store i a (answer_of said)) i refl)))
             (λ ne. others j ne ∙ (t.waiting j js ne ∙ sym (one_other s.waiting i (waits_after s.store i a (answer_of said)) j ne)));
-        weight = subst (λ w. store_weight u + definitions_after s.definitions a (answer_of said) ≤ w) (ap (λ (x : Machine). x.weight) (sym rest)) t.weight;
+        weight = subst (λ w. store_weight u + definition_sizes (definitions_after s.definitions a (answer_of said)) ≤ w) (ap (λ (x : Machine). x.weight) (sym rest)) t.weight;
         small = subst (λ w. w ≤ most_weight) (ap (λ (x : Machine). x.weight) (sym rest)) t.small;
         steps = ap (λ (x : Machine). x.steps) rest ∙ ap (λ k. k + 1) t.steps;
-        stop = not_last s.stop s.steps a lt runs;
+        stop = not_last s.stop s.steps a (answer_of said) t.no_fault lt runs;
+        unlimited = t.unlimited;
       };
     }
 

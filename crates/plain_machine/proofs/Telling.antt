@@ -20,11 +20,11 @@ use Rattle.txn_machine.specs.Acts.{Act}
 use Rattle.txn_machine.specs.Answers as answer
 use Rattle.txn_machine.specs.Answers.{Answer}
 use Rattle.txn_machine.specs.Keeping.{begun, idle}
-use Rattle.txn_machine.specs.Counts.{history_size}
+use Rattle.txn_machine.specs.Counts.{history_size, definition_sizes}
 use Rattle.txn_machine.specs.Store.{Store, committed, schema_of, locks_of, Effect, Opens, Ends, run, does}
 use Rattle.txn_machine.specs.Ghosts.{the_views}
-use Rattle.txn_machine.specs.State.{State}
-use Rattle.txn_machine.specs.Steps.{Says, asked, MayWait, MayBegin, FitsHistory, IsBlocked, definitions_after}
+use Rattle.txn_machine.specs.State.{State, is_fault}
+use Rattle.txn_machine.specs.Steps.{Says, asked, MayWait, MayBegin, FitsHistory, IsBlocked, definitions_after, FitsLog, FitsData, texts_of}
 use Rattle.txn_machine.proofs.Basics.{one_same, one_other}
 use Rattle.txn_machine.proofs.Moving.{state_now}
 use Rattle.txn_machine.proofs.Reached.{reached}
@@ -38,11 +38,12 @@ use Rattle.plain_machine.specs.declared.machine.Machine.{Machine}
 use Rattle.plain_machine.proofs.Finding.{committed_is_sound}
 use Rattle.plain_machine.proofs.Standing.{moved, moved_parts}
 use Rattle.plain_machine.proofs.Weighing.{history_at_most, opens_adds, ends_adds}
+use Rattle.txn_machine.specs.Log.{Opening, Within, reserved, data_bytes, end_bytes}
 
-pub told_by : (m n : Machine) (s : State) (i : ℕ) (a : Act) (said : Answer) (es : List Effect) → Stands m s → Says s i a said es → HoldsStore n (run the_views s.store i es)
+pub told_by : (m n : Machine) (s : State) (i : ℕ) (a : Act) (said : Answer) (es : List Effect) → is_fault said ≡ false → Stands m s → Says s i a said es → HoldsStore n (run the_views s.store i es)
     → table.KeepsOthers m.locks n.locks i → ((sessions : Sessions) → said ≡ answer.Blocked sessions → table.waiting_of n.locks i ≡ asked s.store i a)
-    → store_weight (run the_views s.store i es) + definitions_after s.definitions a said ≤ n.weight → n.weight ≤ most_weight → n.steps ≡ m.steps → Told s i a said n
-told_by m n s i a said es h says holds k own weight small steps = record {
+    → store_weight (run the_views s.store i es) + definition_sizes (definitions_after s.definitions a said) ≤ n.weight → n.weight ≤ most_weight → n.steps ≡ m.steps → Told s i a said n
+told_by m n s i a said es fine h says holds k own weight small steps = record {
   effects = es;
   says = says;
   store = holds;
@@ -51,6 +52,8 @@ told_by m n s i a said es h says holds k own weight small steps = record {
   weight = weight;
   small = small;
   steps = steps ∙ h.steps;
+  no_fault = fine;
+  unlimited = h.unlimited;
 }
 
 -- the table has the locks of the state and what sessions wait for
@@ -63,15 +66,22 @@ has_stored m s h = record { reached = h.reached; definitions = h.store.definitio
 -- there is room in the history
 pub fits_history : (m : Machine) (s : State) (need : ℕ) → Stands m s → m.weight + need ≤ most_weight → FitsHistory s need
 fits_history m s need h small =
-    let bytes : history_size (schema_of s.store) s.store.history s.definitions s.store.open_of ≤ store_weight s.store + s.definitions = history_at_most (schema_of s.store) s.store s.definitions in
-    let weight : store_weight s.store + s.definitions ≤ m.weight = h.weight in
+    let bytes : history_size (schema_of s.store) s.store.history (definition_sizes s.definitions) s.store.open_of ≤ store_weight s.store + definition_sizes s.definitions = history_at_most (schema_of s.store) s.store (definition_sizes s.definitions) in
+    let weight : store_weight s.store + definition_sizes s.definitions ≤ m.weight = h.weight in
     omega (arith, bytes, weight, small)
+
+-- the log and the data have no limit
+pub fits_log : (m : Machine) (s : State) (need : ℕ) → Stands m s → FitsLog s need
+fits_log m s need h = subst (λ (o : Opening). Within o.log_limit (s.log.used + reserved s.store s.log + need)) (sym h.unlimited) tt
+
+pub fits_data : (m : Machine) (s : State) (need : ℕ) → Stands m s → FitsData s need
+fits_data m s need h = subst (λ (o : Opening). Within o.data_limit (data_bytes s.store s.log (texts_of s) + need)) (sym h.unlimited) tt
 
 -- ---- a transaction begins
 
-may_begin : (s : State) (mode : Mode) → FitsHistory s 256 → MayBegin s mode
-may_begin s Serial h = h
-may_begin s Snapshot h = tt
+may_begin : (s : State) (mode : Mode) → FitsLog s end_bytes → FitsHistory s 256 → MayBegin s mode
+may_begin s Serial l h = (l, h)
+may_begin s Snapshot l h = tt
 
 -- a transaction as it begins
 pub record IsNew (m : Machine) (begins : Mode) (t : Txn) : Type 0 where
@@ -95,9 +105,9 @@ pub begun_told : (m n : Machine) (s : State) (i : ℕ) (mode : Mode) (t : Txn) (
     → Sets m.txns.items n.txns.items i (Some t) → n ≡ record m { txns = n.txns; weight = n.weight } → n.weight ≡ m.weight + 256 → n.weight ≤ most_weight
     → Told s i (act.Begin mode) (answer.Begun m.number defs) n
 begun_told m n s i mode t defs h is none count new sets rest grown small =
-    told_by m n s i (act.Begin mode) (answer.Begun m.number defs) (Opens mode ∷ []) h
+    told_by m n s i (act.Begin mode) (answer.Begun m.number defs) (Opens mode ∷ []) refl h
     (record {
-      room = may_begin s mode (fits_history m s 256 h (subst (λ w. w ≤ most_weight) grown small));
+      room = may_begin s mode (fits_log m s end_bytes h) (fits_history m s 256 h (subst (λ w. w ≤ most_weight) grown small));
       number_is = h.store.number;
       defs_are = count ∙ (sym (length-map m.catalog schema.object_of) ∙ ap length h.store.definitions);
       effects = refl;
@@ -124,7 +134,7 @@ begun_told m n s i mode t defs h is none count new sets rest grown small =
     (λ j ne. ap (λ (x : Machine). table.of_session x.locks j) rest)
     (λ sessions e. absurd (cc))
     (let more : store_weight (does the_views s.store i (Opens mode)) ≤ store_weight s.store + 256 = opens_adds s.store i is mode none in
-    let weight : store_weight s.store + s.definitions ≤ m.weight = h.weight in
+    let weight : store_weight s.store + definition_sizes s.definitions ≤ m.weight = h.weight in
     omega (arith, more, weight, grown))
     small (ap (λ (x : Machine). x.steps) rest)
   where
@@ -164,29 +174,29 @@ stays m n s i h is rest locks keeps =
     })
 
 -- an answer without effects
-pub told_still : (m : Machine) (s : State) (i : ℕ) (a : Act) (said : Answer) → Stands m s → Says s i a said [] → ((sessions : Sessions) → said ≢ answer.Blocked sessions) → definitions_after s.definitions a said ≡ s.definitions → Told s i a said m
-told_still m s i a said h says not_blocked bytes =
-    told_by m m s i a said [] h says h.store (λ j ne. refl) (λ sessions e. absurd (not_blocked sessions e)) (subst (λ d. store_weight s.store + d ≤ m.weight) (sym bytes) h.weight) h.small refl
+pub told_still : (m : Machine) (s : State) (i : ℕ) (a : Act) (said : Answer) → is_fault said ≡ false → Stands m s → Says s i a said [] → ((sessions : Sessions) → said ≢ answer.Blocked sessions) → definitions_after s.definitions a said ≡ s.definitions → Told s i a said m
+told_still m s i a said fine h says not_blocked bytes =
+    told_by m m s i a said [] fine h says h.store (λ j ne. refl) (λ sessions e. absurd (not_blocked sessions e)) (subst (λ (d : List (List ℕ)). store_weight s.store + definition_sizes d ≤ m.weight) (sym bytes) h.weight) h.small refl
 
 -- the step waits
 pub blocked_told : (m n : Machine) (s : State) (i : ℕ) (a : Act) (wants : List Want) (sessions : Sessions) → Stands m s → IsSession i → MayWait a → asked s.store i a ≡ wants
     → IsWaiting (locks_of s.store) s.waiting i wants sessions n.locks → table.KeepsOthers m.locks n.locks i → n ≡ record m { locks = n.locks } → definitions_after s.definitions a (answer.Blocked sessions) ≡ s.definitions
     → Told s i a (answer.Blocked sessions) n
 blocked_told m n s i a wants sessions h is may is_asked w keeps rest bytes =
-    told_by m n s i a (answer.Blocked sessions) [] h
+    told_by m n s i a (answer.Blocked sessions) [] refl h
     (may, subst (λ ws. IsBlocked s i ws sessions) (sym is_asked) (record { in_the_way = w.in_the_way; not_empty = w.not_empty; no_cycle = w.no_cycle }), refl)
     (stays m n s i h is rest w.locks keeps) keeps (λ ss e. w.waits ∙ sym is_asked)
-    (subst (λ d. store_weight s.store + d ≤ n.weight) (sym bytes) (subst (λ w. store_weight s.store + s.definitions ≤ w) (ap (λ (x : Machine). x.weight) (sym rest)) h.weight))
+    (subst (λ (d : List (List ℕ)). store_weight s.store + definition_sizes d ≤ n.weight) (sym bytes) (subst (λ w. store_weight s.store + definition_sizes s.definitions ≤ w) (ap (λ (x : Machine). x.weight) (sym rest)) h.weight))
     (subst (λ w. w ≤ most_weight) (ap (λ (x : Machine). x.weight) (sym rest)) h.small) (ap (λ (x : Machine). x.steps) rest)
 
 -- ---- a transaction ends
 
 -- an act that ends it without an entry
-pub left_told : (m n : Machine) (s : State) (i : ℕ) (a : Act) (said : Answer) → Stands m s → IsSession i → Says s i a said (Ends ∷ []) → ((sessions : Sessions) → said ≢ answer.Blocked sessions) → definitions_after s.definitions a said ≡ s.definitions
+pub left_told : (m n : Machine) (s : State) (i : ℕ) (a : Act) (said : Answer) → is_fault said ≡ false → Stands m s → IsSession i → Says s i a said (Ends ∷ []) → ((sessions : Sessions) → said ≢ answer.Blocked sessions) → definitions_after s.definitions a said ≡ s.definitions
     → Sets m.txns.items n.txns.items i None → n ≡ record m { txns = n.txns; locks = n.locks } → table.IsReleased m.locks n.locks i → Told s i a said n
-left_told m n s i a said h is says not_blocked bytes sets rest released =
+left_told m n s i a said fine h is says not_blocked bytes sets rest released =
     let empty : table.locks_of n.locks i ≡ [] = ap (λ (x : SessionLocks). x.locks) released.changed in
-    told_by m n s i a said (Ends ∷ []) h says
+    told_by m n s i a said (Ends ∷ []) fine h says
     (moved_parts m n s.store (does the_views s.store i Ends) i None None h.store
     (rest ∙ ap (λ (x : Machine). record m { rows = x.rows; view = x.view; txns = n.txns; locks = n.locks; weight = x.weight }) (sym rest))
     (ap (λ (x : Machine). x.rows) rest ∙ h.store.rows) (ap (λ (x : Machine). x.view) rest ∙ h.store.view) refl refl refl sets tt
@@ -195,11 +205,12 @@ left_told m n s i a said h is says not_blocked bytes sets rest released =
     (subst (λ ls. HasLocks ls []) (sym empty) (λ w. (λ c. c, λ c. c))) released.others)
     released.others (λ sessions e. absurd (not_blocked sessions e))
     (let less : store_weight (does the_views s.store i Ends) ≤ store_weight s.store = ends_adds s.store i is in
-    let weight : store_weight s.store + s.definitions ≤ m.weight = h.weight in
+    let weight : store_weight s.store + definition_sizes s.definitions ≤ m.weight = h.weight in
     let same : n.weight ≡ m.weight = ap (λ (x : Machine). x.weight) rest in
-    omega (arith, less, weight, same, bytes))
+    let same_bytes : definition_sizes (definitions_after s.definitions a said) ≡ definition_sizes s.definitions = ap definition_sizes bytes in
+    omega (arith, less, weight, same, same_bytes))
     (subst (λ w. w ≤ most_weight) (ap (λ (x : Machine). x.weight) (sym rest)) h.small) (ap (λ (x : Machine). x.steps) rest)
 
 pub ended_told : (m n : Machine) (s : State) (i : ℕ) → Stands m s → IsSession i → Sets m.txns.items n.txns.items i None → n ≡ record m { txns = n.txns; locks = n.locks } → table.IsReleased m.locks n.locks i
     → Told s i act.End answer.Ended n
-ended_told m n s i h is sets rest released = left_told m n s i act.End answer.Ended h is refl (λ sessions e. cc) refl sets rest released
+ended_told m n s i h is sets rest released = left_told m n s i act.End answer.Ended refl h is refl (λ sessions e. cc) refl sets rest released

@@ -1,5 +1,5 @@
 -- In which state of the step relation a machine is.
-use Rattle.std.specs.Prelude.{◌≡◌, ◌≢◌, ℕ, ◌+◌, ◌≤◌, nat_le, List, [], length, Option, None, Some, if◌then◌else◌}
+use Rattle.std.specs.Prelude.{◌≡◌, ◌≢◌, ℕ, ◌+◌, ◌≤◌, nat_le, List, [], length, Option, None, Some, if◌then◌else◌, false}
 use Rattle.std.specs.List.{flat_map}
 use Rattle.iv_types.specs.declared.lock.GroupDelta.{GroupDelta}
 use Rattle.iv_types.specs.declared.session.Sessions.{Sessions}
@@ -15,7 +15,7 @@ use Rattle.txn_machine.specs.Answers.{Blocked}
 use Rattle.txn_machine.specs.Keeping.{Open}
 use Rattle.txn_machine.specs.Store.{Store, committed, schema_of, locks_of, Effect, deltas_above, run}
 use Rattle.txn_machine.specs.Ghosts.{the_views}
-use Rattle.txn_machine.specs.State.{State}
+use Rattle.txn_machine.specs.State.{State, is_fault}
 use Rattle.txn_machine.specs.Steps.{Says, asked, definitions_after, Step}
 use Rattle.txn_machine.specs.Laws.{IsReached}
 use Rattle.plain_machine.specs.Acts.{kept_steps}
@@ -25,6 +25,8 @@ use Rattle.plain_machine.specs.Weights.{store_weight, most_weight}
 use Rattle.plain_machine.specs.declared.txn.Txn.{Txn}
 use Rattle.plain_machine.specs.declared.machine.Machine.{Machine}
 use Rattle.plain_machine.specs.declared.machine.Version.{Version}
+use Rattle.txn_machine.specs.Counts.{definition_sizes}
+use Rattle.txn_machine.specs.Log.{unlimited}
 
 -- ---- open transactions
 
@@ -78,15 +80,16 @@ pub record HoldsStore (m : Machine) (s : Store) : Type 0 where
 
 -- ---- the state
 
--- the machine is in a state that steps lead to, and the state is small
+-- the machine is in a state that steps lead to without limits of log and data, and the state is small
 pub record Stands (m : Machine) (s : State) : Type 0 where
   pub reached : IsReached s
   pub store : HoldsStore m s.store
   pub waiting : (session : ℕ) → IsSession session → table.waiting_of m.locks session ≡ s.waiting session
-  pub weight : store_weight s.store + s.definitions ≤ m.weight
+  pub weight : store_weight s.store + definition_sizes s.definitions ≤ m.weight
   pub small : m.weight ≤ most_weight
   pub steps : m.steps ≡ s.steps
   pub stop : s.stop ≡ None
+  pub unlimited : s.opening ≡ unlimited
 
 -- it has the definitions and the stored rows of a state that steps lead to
 pub record HasStored (m : Machine) (s : State) : Type 0 where
@@ -104,9 +107,11 @@ pub record Told (s : State) (session : ℕ) (a : Act) (said : Answer) (m : Machi
   pub store : HoldsStore m (run the_views s.store session effects)
   pub waiting : (other : ℕ) → IsSession other → other ≢ session → table.waiting_of m.locks other ≡ s.waiting other
   pub own : (sessions : Sessions) → said ≡ Blocked sessions → table.waiting_of m.locks session ≡ asked s.store session a
-  pub weight : store_weight (run the_views s.store session effects) + definitions_after s.definitions a said ≤ m.weight
+  pub weight : store_weight (run the_views s.store session effects) + definition_sizes (definitions_after s.definitions a said) ≤ m.weight
   pub small : m.weight ≤ most_weight
   pub steps : m.steps ≡ s.steps
+  pub no_fault : is_fault said ≡ false
+  pub unlimited : s.opening ≡ unlimited
 
 -- a step was answered so, and led to the state in which the machine is
 pub record Moved (s : State) (session : ℕ) (a : Act) (said : Answer) (m : Machine) : Type 0 where

@@ -5,7 +5,7 @@ use iv_types::{
 };
 
 /// What a step is to do.
-#[derive(Debug, Drop)]
+#[derive(Drop)]
 pub enum Act {
     /// Opens a transaction.
     Begin(Mode),
@@ -48,7 +48,7 @@ pub enum Act {
 }
 
 /// What a step is answered.
-#[derive(Debug, Drop)]
+#[derive(Drop)]
 pub enum Answer {
     /// The greatest commit number, and the number of definitions.
     Begun {

@@ -25,12 +25,10 @@ use crate::owing::{add_all, all_contributions};
 use crate::place_map::PlaceMap;
 use crate::reading::view_afresh;
 use crate::txns::least_open;
-use iv_types::{
-    Catalog, Definition, DeltaList, EngineRefusal, NoMemory, Refusal, Row, Statement,
-    statement_bytes,
-};
+use iv_types::{Catalog, Definition, DeltaList, EngineRefusal, NoMemory, Refusal, Row, Statement};
 use list_store::add;
 use sql_bind::{Bound, bind};
+use sql_pieces::statement_bytes;
 use std::alloc::Global;
 
 // What a definition and its entry weigh, if its text is as short as that of one that is made.

@@ -11,7 +11,7 @@ use lock_manager::{LockAnswer, LockTable};
 use wait_graph::would_close;
 
 /// What became of a request.
-#[derive(Clone, Copy, Debug)]
+#[derive(Clone, Copy)]
 pub enum Asked {
     Granted,
     /// It waits for these sessions.

@@ -7,6 +7,7 @@ ghost use Rattle.txn_machine.specs.Acts as act;
 ghost use Rattle.txn_machine.specs.May.{MayAct};
 ghost use Rattle.txn_machine.specs.Laws.{IsOpened};
 ghost use Rattle.txn_machine.specs.Store.{opened};
+ghost use Rattle.txn_machine.specs.Log.{unlimited};
 ghost use Rattle.txn_machine.specs.State.{State, opened_state};
 ghost use Rattle.txn_machine.specs.Stored as stored;
 ghost use Rattle.plain_machine.specs.Acts.{answer_of};
@@ -91,7 +92,7 @@ impl Machine {
     ///
     /// Where there is no memory for it.
     pub fn new(alloc: Global, catalog: Catalog, number: u64) -> Result<Machine, NoMemory>
-        ensures { IfOk result (λ machine. (db : Database) → db ≡ record { number = number; schema = schema_of catalog; rows = empty } → IsOpened db empty → Stands machine (opened_state (opened db empty))) }
+        ensures { IfOk result (λ machine. (db : Database) → db ≡ record { number = number; schema = schema_of catalog; rows = empty } → IsOpened db empty → Stands machine (opened_state unlimited (opened db empty))) }
     {
         let mut txns = Vec::with_capacity(alloc, 65)?;
         for _ in 0..65u32 {

@@ -3,7 +3,7 @@ use crate::place_map::PlaceMap;
 use iv_types::{Change, DeltaList, GroupDelta, Mode, Row};
 
 /// A step that can be taken back.
-#[derive(Debug, Drop)]
+#[derive(Drop)]
 pub enum Kept {
     /// A change of a row, and the deltas that it owed.
     Put { change: Change, owed: DeltaList },

@@ -5,7 +5,7 @@ use iv_types::{
 };
 
 /// An assignment of an UPDATE, to the column of this place.
-#[derive(Debug, Drop)]
+#[derive(Drop)]
 pub struct BoundSet {
     pub column: u32,
     pub value: Expr,
@@ -15,7 +15,7 @@ pub struct BoundSet {
 pub type BoundSetList = Sequence<BoundSet>;
 
 /// An item of a SELECT.
-#[derive(Debug, Drop)]
+#[derive(Drop)]
 pub enum BoundItem {
     Count,
     Sum(ColumnAt),
@@ -37,7 +37,7 @@ pub type BoundOrderList = Sequence<BoundOrder>;
 
 /// A statement whose names are numbers: objects by their object numbers, columns by their relation's place in FROM and
 /// their own place in it, each counted from 0.
-#[derive(Debug, Drop)]
+#[derive(Drop)]
 pub enum Bound {
     Table(TableDef),
     Index(IndexDef),
@@ -70,7 +70,7 @@ pub enum Bound {
 }
 
 /// What a leading column of an index is equal to.
-#[derive(Debug, Drop)]
+#[derive(Drop)]
 pub enum Equal {
     Literal(Value),
     /// A column of an earlier relation of FROM.
@@ -81,7 +81,7 @@ pub enum Equal {
 pub type EqualList = Sequence<Equal>;
 
 /// A range of a column: `Less`, `AtMost`, `Greater` or `AtLeast` a value.
-#[derive(Debug, Drop)]
+#[derive(Drop)]
 pub struct RangeTerm {
     pub op: Op,
     pub value: Value,
@@ -91,7 +91,7 @@ pub struct RangeTerm {
 pub type RangeTermList = Sequence<RangeTerm>;
 
 /// How a relation is read: the index, what its leading columns are equal to, and the ranges of the column behind them.
-#[derive(Debug, Drop)]
+#[derive(Drop)]
 pub struct PlanPart {
     pub index: u32,
     pub equal: EqualList,
@@ -103,7 +103,7 @@ pub type PlanPartList = Sequence<PlanPart>;
 
 /// How the relations of a statement are read: one part for each relation of a SELECT's FROM, one for UPDATE and DELETE, none
 /// for every other statement.
-#[derive(Debug, Drop)]
+#[derive(Drop)]
 pub struct Plan {
     pub parts: PlanPartList,
 }

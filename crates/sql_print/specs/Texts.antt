@@ -1,7 +1,7 @@
 -- A text as it is written.
 use Rattle.std.specs.Prelude.{◌≡◌, ℕ, Bool, ◌||◌, List, [], codes, if◌then◌else◌}
 use Rattle.iv_types.specs.Printing.{Written}
-use Rattle.iv_types.specs.Sinks.{is_tight}
+use Rattle.sql_pieces.specs.Sinks.{is_tight}
 
 -- the space before a piece
 abbrev pub gap_text : Bool → Bool → List ℕ

@@ -6,9 +6,8 @@ ghost use Rattle.sql_print.specs.Texts.{gap_text};
 ghost use Rattle.sql_print.specs.Law.{PrintedAgain};
 
 use crate::bytes::{push_bytes, push_quoted, push_signed};
-use iv_types::{
-    Bytes, NoMemory, PieceSink, Statement, Terminal, leaves_tight, stands_close, write_statement,
-};
+use iv_types::{Bytes, NoMemory, Statement, Terminal};
+use sql_pieces::{PieceSink, leaves_tight, stands_close, write_statement};
 use std::alloc::Global;
 
 // A text that is being written.

@@ -1,3 +1,4 @@
+pub mod Exchanges
 pub mod Histories
 pub mod Latched
 pub mod Turns

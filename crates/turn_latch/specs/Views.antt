@@ -1,8 +1,9 @@
 -- What a seat knows, and what each step makes of it.
-use Rattle.std.specs.Prelude.{◌≡◌, ℕ, ◌+◌, true, false, List, [], ◌∷◌, ◌++◌, length, nat_lt, if◌then◌else◌, Option, Some, None}
+use Rattle.std.specs.Prelude.{◌≡◌, ◌+◌, true, false, List, [], ◌∷◌, ◌++◌, length, nat_lt, if◌then◌else◌, Option, Some, None}
 use Rattle.atomic_table.specs.Table.{Me}
 use Rattle.turn_latch.specs.declared.view.View.{View}
 use Rattle.turn_latch.specs.declared.view.Retired.{Retired}
+use Rattle.turn_latch.specs.declared.view.Exchange.{Exchange}
 
 module _ {T E : Type 0} (history : T → List E) where
   -- the history that was seen with a value
@@ -21,42 +22,38 @@ module _ {T E : Type 0} (history : T → List E) where
 module _ {T : Type 0} where
   -- the first seat of a new latch
   abbrev pub first_view : T → View T
-  first_view x = record { numbered = true; number = 0; made = 0; origin = Some x; seen = None; knew = Some x; held = None; tries = 0; found = 0; met = None; retired = [] }
+  first_view x = record { numbered = true; number = 0; made = 0; origin = Some x; seen = None; knew = Some x; held = None; log = []; met = None; retired = [] }
 
   -- a view without a number, which has seen as much
   abbrev pub note_of : Option T → View T
-  note_of seen = record { numbered = false; number = 0; made = 0; origin = None; seen = seen; knew = None; held = None; tries = 0; found = 0; met = None; retired = [] }
+  note_of seen = record { numbered = false; number = 0; made = 0; origin = None; seen = seen; knew = None; held = None; log = []; met = None; retired = [] }
 
   -- the first seat after a split
   abbrev pub parent : View T → View T
   parent v = record v { made = v.made + 1 }
 
-  -- the new seat: it has the next number, has seen as much as the first, and knows its part of the value as it was put in
+  -- the new seat: it has the next number, has seen as much as the first, exchanges too, and knows its part of the value as it was put in
   abbrev pub child : View T → View T
-  child v = record { numbered = true; number = v.made + 1; made = 0; origin = None; seen = v.seen; knew = v.origin; held = None; tries = 0; found = 0; met = None; retired = [] }
+  child v = record { numbered = true; number = v.made + 1; made = 0; origin = v.origin; seen = v.seen; knew = v.origin; held = None; log = v.log; met = None; retired = [] }
 
-  -- the seat has asked for a turn, and found the word n
-  abbrev pub tried : View T → ℕ → View T
-  tried v n = record v { tries = v.tries + 1; found = n }
+  -- the seat has asked for a turn in vain, after which these are the exchanges that it knows
+  abbrev pub tried : View T → List (Exchange T) → View T
+  tried v log = record v { log = log }
 
   -- the seat has taken the value
-  abbrev pub holding : View T → ℕ → T → View T
-  holding v n x = record v { tries = v.tries + 1; found = n; held = Some x }
+  abbrev pub holding : View T → List (Exchange T) → T → View T
+  holding v log x = record v { log = log; held = Some x }
 
-  -- the seat has put the value back
-  abbrev pub rested : View T → T → View T
-  rested v y = record v { seen = Some y; knew = Some y; held = None }
-
-  -- the seat after a turn: it has seen the history that the turn left, and knows the part that it left
-  abbrev pub after_turn : View T → ℕ → T → View T
-  after_turn v n y = record v { seen = Some y; knew = Some y; held = None; tries = v.tries + 1; found = n }
+  -- the seat after a turn: it has put the value back, has seen the history that the turn left, and knows the part that it left
+  abbrev pub after_turn : View T → List (Exchange T) → T → View T
+  after_turn v log y = record v { log = log; seen = Some y; knew = Some y; held = None }
 
   -- a seat that has taken a note in
   abbrev pub meeting : View T → View T → View T
   meeting v w = record v { met = w.seen }
 
   abbrev pub retired_of : View T → Retired T
-  retired_of w = record { number = w.number; seen = w.seen; knew = w.knew }
+  retired_of w = record { number = w.number; seen = w.seen; knew = w.knew; log = w.log }
 
   -- the first seat has taken a seat in
   abbrev pub retiring : View T → View T → View T

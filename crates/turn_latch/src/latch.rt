@@ -1,9 +1,9 @@
 //! The calls of the latch and of its seats.
 ghost use Rattle.std.specs.Prelude.{◌≡◌, ◌≢◌, ℕ, ◌+◌, ◌*◌, ◌%◌, ◌<◌, ◌≤◌, List, [], ◌^◌, length, map, All, Contains, IfOk, IfErr, MatchResult};
 ghost use Rattle.turn_latch.specs.Histories.{Begins, of};
-ghost use Rattle.turn_latch.specs.Views.{first_view, seen_of, tried, parent, child, has_met};
-ghost use Rattle.turn_latch.specs.Turns.{Turned};
-ghost use Rattle.turn_latch.specs.Latched.{IsBusy, Ends, Rest};
+ghost use Rattle.turn_latch.specs.Views.{first_view, seen_of, parent, child, has_met};
+ghost use Rattle.turn_latch.specs.Turns.{Turned, FoundHeld, OneList};
+ghost use Rattle.turn_latch.specs.Latched.{Ends, Rest};
 ghost use Rattle.turn_latch.specs.Words.{latch_of, seat_latch, knows, seats_of};
 
 use crate::seat::{Latch, Seat, SeatList};
@@ -98,19 +98,20 @@ impl<T: Parted> Latch<T> {
 
     /// Takes a turn, in which the work is done on the value. It waits for nobody.
     ///
-    /// The turn finds its seat's part as the seat's last turn left it, and a history that begins with what the seat has
-    /// seen and has no other entry of the seat's number. Afterwards the seat has seen the history that the turn left.
+    /// The turn finds the value as the last turn of any seat left it. So it finds its seat's part as the seat's own last
+    /// turn left it, and a history that begins with what the seat has seen and has no other entry of the seat's number.
+    /// Afterwards the seat has seen the history that the turn left.
     ///
     /// # Errors
     ///
-    /// `Busy` where the one exchange of this call found that another seat holds the turn. The work is dropped, and the
-    /// seat has seen what it had.
+    /// `Busy` exactly where the one exchange of this call found an odd word, which is given: another seat holds the turn.
+    /// The work is dropped, and the seat has seen what it had.
     pub fn try_turn<W: Turn<T>>(&self, seat: &mut Seat<T>, work: W) -> Result<W::Out, Busy>
         requires latch { seat_latch seat.old ≡ latch_of self.now }
         requires number { W.seat work ≡ (knows seat.old).number }
         requires needs { (x : T) → Ends T.history T.by T.part x (knows seat.old) → W.needs work x }
         ensures latch { seat_latch seat.new ≡ seat_latch seat.old }
-        ensures turn { MatchResult result (λ out. Turned T.history T.by T.part (λ x y. W.does work x out y) (knows seat.old) (knows seat.new)) (λ busy. IsBusy T.history T.by T.part (knows seat.old) busy.0 × (knows seat.new ≡ tried (knows seat.old) busy.0)) }
+        ensures turn { MatchResult result (λ out. Turned T.history T.by T.part (λ x y. W.does work x out y) (knows seat.old) (knows seat.new)) (λ busy. FoundHeld T.history T.by T.part (knows seat.old) busy.0 (knows seat.new)) }
     {
         let table = &self.table.shared;
         let found = table.fetch_or::<Take>(&mut seat.pass, 0, 1);
@@ -186,6 +187,7 @@ impl<T: Parted> Latch<T> {
         ensures first { Ends T.history T.by T.part result (knows first) }
         ensures seats { All (λ s. Ends T.history T.by T.part result (knows s)) (seats_of seats) }
         ensures rest { Rest T.history T.by T.part result (knows first) }
+        ensures exchanges { OneList T.history result (knows first) (map knows (seats_of seats)) }
         ensures short { length (T.history result) ≤ 2 ^ 62 }
     {
         let Latch { table } = self;

@@ -42,14 +42,14 @@ impl<T: Parted> Play<Option<T>, View<T>> for Take {
 pub struct Release;
 
 impl<T: Parted> Play<Option<T>, View<T>> for Release {
-    ghost then = { released };
+    ghost then = { released T.history };
 }
 
 /// A seat ends its turn, which added an entry.
 pub struct ReleaseWithEntry;
 
 impl<T: Parted> Play<Option<T>, View<T>> for ReleaseWithEntry {
-    ghost then = { released };
+    ghost then = { released T.history };
 }
 
 /// The first seat sees that the next number has no entry.

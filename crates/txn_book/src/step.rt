@@ -5,7 +5,7 @@ use iv_types::{
 };
 
 /// What a session asks of an engine: the atomic step.
-#[derive(Debug, Drop)]
+#[derive(Drop)]
 pub struct Step {
     /// From 1 to 64, or 0 for the engine's own steps.
     pub session: u32,
@@ -25,7 +25,7 @@ impl Step {
 }
 
 /// What a step is to do.
-#[derive(Debug, Drop)]
+#[derive(Drop)]
 pub enum Act {
     /// Opens a transaction.
     Begin(Mode),
@@ -46,7 +46,7 @@ pub enum Act {
 }
 
 /// What a step is answered.
-#[derive(Debug, Drop)]
+#[derive(Drop)]
 pub enum Answer {
     /// A transaction is open, with the greatest commit number and the number of definitions.
     Begun { number: u64, defs: u32 },
@@ -79,14 +79,14 @@ impl Answer {
 }
 
 /// The last refusal of a session's steps, and the number of that step, counted from 1.
-#[derive(Clone, Copy, Debug)]
+#[derive(Clone, Copy)]
 pub struct LastRefusal {
     pub step: u64,
     pub refusal: EngineRefusal,
 }
 
 /// What a statement that runs step by step does next.
-#[derive(Debug, Drop)]
+#[derive(Drop)]
 pub enum Turn {
     /// It wants this step, and its answer.
     Want(Step),

@@ -23,7 +23,7 @@ use Rattle.txn_machine.specs.Store.{Store, committed, now, changes_by, locks_of,
 use Rattle.txn_machine.specs.Ghosts.{the_views}
 use Rattle.txn_machine.specs.State.{State, counted}
 use Rattle.txn_machine.specs.May.{IsReady, MayAct}
-use Rattle.txn_machine.specs.Steps.{asked, IsFree, IsBlocked, MayWait, CommitsAs, Says, waits_after, definitions_after, Does, IsTold, number_unchanged}
+use Rattle.txn_machine.specs.Steps.{asked, IsFree, IsBlocked, MayWait, CommitsAs, Says, waits_after, definitions_after, Does, IsTold, number_unchanged, log_after}
 use Rattle.txn_machine.specs.Laws.{IsBlockedToo, BlockedLaw, IsDeadlockToo, DeadlockLaw, RollBackLaw, CanCommitLaw}
 use Rattle.txn_machine.proofs.Holding.{contains_here}
 use Rattle.txn_machine.proofs.Basics.{one_same}
@@ -66,6 +66,8 @@ blocked_says s i (act.Fetch number interval mode) x (answer.Rows rows) es may w 
 blocked_says s i (act.Fetch number interval mode) x (answer.Refused (refusal.TxnFull kept need)) es may w b h = not_free s i (asked s.store i (act.Fetch number interval mode)) x b h.0.free
 blocked_says s i (act.Put number key new) x (answer.Changed before deltas) es may w b h = not_free s i (asked s.store i (act.Put number key new)) x b h.free
 blocked_says s i (act.Put number key new) x (answer.Refused (refusal.TxnFull kept need)) es may w b h = not_free s i (asked s.store i (act.Put number key new)) x b h.0.free
+blocked_says s i (act.Put number key new) x (answer.Refused (refusal.LogFull used reserved need)) es may w b h = not_free s i (asked s.store i (act.Put number key new)) x b h.0.free
+blocked_says s i (act.Put number key new) x (answer.Refused (refusal.DataFull used need)) es may w b h = not_free s i (asked s.store i (act.Put number key new)) x b h.0.free
 blocked_says s i (act.Put number key new) x (answer.Refused (refusal.HistoryFull kept need)) es may w b h = not_free s i (asked s.store i (act.Put number key new)) x b h.0.free
 blocked_says s i act.Pay x (answer.Paid left) es may w b h = not_free s i (asked s.store i act.Pay) x b h.pays.free
 blocked_says s i act.Pay x answer.NeedsGhost es may w b h = not_free s i (asked s.store i act.Pay) x b h.pays.free
@@ -80,6 +82,7 @@ blocked_says s i act.Commit x _ es may w b h = absurd w
 blocked_says s i (act.Schema statement) x _ es may w b h = absurd w
 blocked_says s i act.Clean x _ es may w b h = absurd w
 blocked_says s i act.Prune x _ es may w b h = absurd w
+blocked_says s i act.Checkpoint x _ es may w b h = absurd w
 blocked_says s i act.Cancel x _ es may w b h = absurd w
 blocked_says s i _ x _ es may w b h = absurd h
 
@@ -117,6 +120,8 @@ deadlock_says s i (act.Fetch number interval mode) cycle (answer.Rows rows) es m
 deadlock_says s i (act.Fetch number interval mode) cycle (answer.Refused (refusal.TxnFull kept need)) es may w d h = first_in_way s i (asked s.store i (act.Fetch number interval mode)) cycle may.0.goes_on.of_session d h.0.free
 deadlock_says s i (act.Put number key new) cycle (answer.Changed before deltas) es may w d h = first_in_way s i (asked s.store i (act.Put number key new)) cycle may.0.goes_on.of_session d h.free
 deadlock_says s i (act.Put number key new) cycle (answer.Refused (refusal.TxnFull kept need)) es may w d h = first_in_way s i (asked s.store i (act.Put number key new)) cycle may.0.goes_on.of_session d h.0.free
+deadlock_says s i (act.Put number key new) cycle (answer.Refused (refusal.LogFull used reserved need)) es may w d h = first_in_way s i (asked s.store i (act.Put number key new)) cycle may.0.goes_on.of_session d h.0.free
+deadlock_says s i (act.Put number key new) cycle (answer.Refused (refusal.DataFull used need)) es may w d h = first_in_way s i (asked s.store i (act.Put number key new)) cycle may.0.goes_on.of_session d h.0.free
 deadlock_says s i (act.Put number key new) cycle (answer.Refused (refusal.HistoryFull kept need)) es may w d h = first_in_way s i (asked s.store i (act.Put number key new)) cycle may.0.goes_on.of_session d h.0.free
 deadlock_says s i act.Pay cycle (answer.Paid left) es may w d h = first_in_way s i (asked s.store i act.Pay) cycle may.goes_on.of_session d h.pays.free
 deadlock_says s i act.Pay cycle answer.NeedsGhost es may w d h = first_in_way s i (asked s.store i act.Pay) cycle may.goes_on.of_session d h.pays.free
@@ -131,6 +136,7 @@ deadlock_says s i act.Commit cycle _ es may w d h = absurd w
 deadlock_says s i (act.Schema statement) cycle _ es may w d h = absurd w
 deadlock_says s i act.Clean cycle _ es may w d h = absurd w
 deadlock_says s i act.Prune cycle _ es may w d h = absurd w
+deadlock_says s i act.Checkpoint cycle _ es may w d h = absurd w
 deadlock_says s i act.Cancel cycle _ es may w d h = absurd w
 deadlock_says s i _ cycle _ es may w d h = absurd h
 
@@ -146,7 +152,7 @@ deadlock_law s i a cycle said one other runs first second = elim first.does [
 -- ---- what is always answered
 
 does_it : (s : State) (i : ℕ) (a : Act) (said : Answer) (es : List Effect) → s.stop ≡ None → Says s i a said es
-    → Does s i a said (counted s i a said (run the_views s.store i es) (waits_after s.store i a said) (definitions_after s.definitions a said))
+    → Does s i a said (counted s i a said (run the_views s.store i es) (waits_after s.store i a said) (definitions_after s.definitions a said) (log_after s i a said es))
 does_it s i a said es runs says = record { runs = runs; effects = es; says = says; left = refl }
 
 pub roll_back_law : RollBackLaw

@@ -22,5 +22,6 @@ empty_law number = record {
     typed = λ n v e. absurd (no_object n (view v) e);
   };
   rows = λ place column. ap (number_in_row column) (get-empty place_cmp place);
+  stored = λ place numbers e. absurd (none-some numbers (sym (get-empty place_cmp place) ∙ e));
   in_range = λ place column. huge_zero;
 }

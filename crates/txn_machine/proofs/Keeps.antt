@@ -44,7 +44,7 @@ kept_same kept i cs e = λ x j. one j x
     one : (j : ℕ) → kept j ≡ with_kept kept i cs j
     one j = elim (eqb j i) as (λ b. eqb j i ≡ b → kept j ≡ cond b cs (kept j)) [ true ↦ λ k. ap kept (eqb-true j i k) ∙ sym e | false ↦ λ k. refl ] refl
 
-by_less : {P : Type 0} (m n : ℕ) → (m < n → P) → (n ≤ m → P) → P
+pub by_less : {P : Type 0} (m n : ℕ) → (m < n → P) → (n ≤ m → P) → P
 by_less m n f g = elim (cases_lt m n) [ inl h ↦ f h | inr h ↦ g h ]
 
 -- more locks hold what was held

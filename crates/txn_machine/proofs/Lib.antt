@@ -40,3 +40,14 @@ pub mod Played
 pub mod Replays
 pub mod Missing
 pub mod Peeking
+pub mod Always
+pub mod Lengths
+pub mod PaidSums
+pub mod RowsAt
+pub mod OwnRows
+pub mod Sizes
+pub mod LogSums
+pub mod LogRoom
+pub mod LogSteps
+pub mod Shapes
+pub mod Filling

@@ -38,7 +38,7 @@ pub flat_same : {X Y : Type 0} (f g : X → List Y) (xs : List X) → AllByRecur
 flat_same f g [] h = refl
 flat_same f g (x ∷ xs) h = λ i. h.0 i ++ flat_same f g xs h.1 i
 
-map_same : {X Y : Type 0} (f g : X → Y) (xs : List X) → AllByRecursion (λ x. f x ≡ g x) xs → map f xs ≡ map g xs
+pub map_same : {X Y : Type 0} (f g : X → Y) (xs : List X) → AllByRecursion (λ x. f x ≡ g x) xs → map f xs ≡ map g xs
 map_same f g [] h = refl
 map_same f g (x ∷ xs) h = λ i. h.0 i ∷ map_same f g xs h.1 i
 
@@ -47,7 +47,7 @@ get_more [] y i x e = absurd (none-some x e)
 get_more (z ∷ xs) y zero x e = refl
 get_more (z ∷ xs) y (suc i) x e = get_more xs y i x e
 
-numbered_more : (objects : Schema) (o : Object) (n : ℕ) (x : Object) → numbered objects n ≡ Some x → numbered (objects ++ o ∷ []) n ≡ numbered objects n
+pub numbered_more : (objects : Schema) (o : Object) (n : ℕ) (x : Object) → numbered objects n ≡ Some x → numbered (objects ++ o ∷ []) n ≡ numbered objects n
 numbered_more objects o zero x e = refl
 numbered_more objects o (suc n) x e = get_more objects o n x e
 
@@ -59,7 +59,7 @@ module _ (objects : Schema) (o : Object) (v : ViewTree) (is : IsView objects v) 
   abbrev more : Schema
   more = objects ++ o ∷ []
 
-  kinds_stay : group_kinds more v ≡ group_kinds objects v
+  pub kinds_stay : group_kinds more v ≡ group_kinds objects v
   kinds_stay = ap (λ (l : List (List Kind)). filter_map (kind_at l) v.group)
       (map_same (λ n. kinds_of_table (numbered more n)) (λ n. kinds_of_table (numbered objects n)) (sources_of v)
       (each_map (IsTable objects) (λ n. kinds_of_table (numbered more n) ≡ kinds_of_table (numbered objects n)) (sources_of v) (λ n t. ap kinds_of_table (numbered_more objects o n (table t.0) t.1)) (recursion_from_All (IsTable objects) (sources_of v) is.tables)))

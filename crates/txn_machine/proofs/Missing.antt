@@ -34,6 +34,7 @@ use Rattle.txn_machine.specs.Deltas.{place_of, columns_of, worth}
 use Rattle.txn_machine.specs.Keeping.{Open, idle}
 use Rattle.txn_machine.specs.Stored.{IsShown, is_shown}
 use Rattle.txn_machine.specs.Store.{opened, locks_of, Effect}
+use Rattle.txn_machine.specs.Log.{unlimited}
 use Rattle.txn_machine.specs.State.{State, opened_state}
 use Rattle.txn_machine.specs.May.{MayAct, IsReady}
 use Rattle.txn_machine.specs.Steps.{Says, history_bytes, first_want}
@@ -52,7 +53,7 @@ use Rattle.txn_machine.proofs.Played.{start_is, run_to}
 use Rattle.txn_machine.proofs.Replays.{turn, one_putting, one_paying, both_paying, both_inserting, one_undoing, one_deleting, other_near, one_crossing, three_crossing}
 
 -- a step of an engine that runs is one that it says
-refuses : (s : State) (session : ℕ) (a : Act) (said : Answer) → s.stop ≡ None → ((es : List Effect) → MayAct s.store session a → Says s session a said es → ⊥) → Refuses s session a said
+pub refuses : (s : State) (session : ℕ) (a : Act) (said : Answer) → s.stop ≡ None → ((es : List Effect) → MayAct s.store session a → Says s session a said es → ⊥) → Refuses s session a said
 refuses s session a said runs h after step = elim step.does [
   | inl d ↦ h d.effects (may_of s session a d.runs step.may.1) d.says
   | inr t ↦ none-some t.stop (sym runs ∙ t.stopped)
@@ -209,7 +210,7 @@ cleans_not p sorted h = refused p 0 sorted act.Clean (answer.Cleaned 1) (λ es m
 -- ---- at the opened state
 
 abbrev first : State
-first = opened_state (opened shop_database empty)
+first = opened_state unlimited (opened shop_database empty)
 
 pub misses_at_first : MissesAtFirst
 misses_at_first = record {
@@ -224,6 +225,8 @@ misses_at_first = record {
   no_catalog = refuses first 1 act.Defs (answer.Defs []) refl (λ es may h. absurd (cc h.0));
   no_ghost = subst (λ (s : State). Refuses s 0 act.Clean (answer.Cleaned 1)) start_is (cleans_not start (in_order start tt) tt);
   never_stopped = λ n. refuses first 1 act.Defs (answer.Refused (refusal.Stopped n)) refl (λ es may h. h);
+  full_log = λ used reserved need. refuses first 1 (act.Begin Serial) (answer.Refused (refusal.LogFull used reserved need)) refl (λ es may h. h.3.full);
+  wrong_save = refuses first 0 act.Checkpoint (answer.Saved 3) refl (λ es may h. let e : 3 ≡ 2 = h.1 in omega (arith, e));
 }
 
 -- ---- at later states

@@ -45,29 +45,39 @@ use Rattle.txn_machine.specs.Keeping.{KeptStep, Put, Pay, changes_of, increments
 use Rattle.txn_machine.specs.Stored.{ViewRows, zeros, IsShown, is_shown}
 use Rattle.txn_machine.specs.Store.{Store, committed, with_txn, entry_changes, change_at, now, locks_of, run, paid_first, undone, Effect, Opens, Takes, Writes, Pays, Ghosts, Undoes, Commits, Ends}
 use Rattle.txn_machine.specs.Ghosts.{the_views, account_of, Holds}
-use Rattle.txn_machine.specs.Counts.{fetch_size, put_size, transaction_size, most_of_transaction, entry_size, kept_change_size, history_size, most_of_history}
+use Rattle.txn_machine.specs.Counts.{fetch_size, put_size, transaction_size, most_of_transaction, entry_size, kept_change_size, history_size, most_of_history, definition_sizes}
 use Rattle.txn_machine.specs.State.{State, counted}
 use Rattle.txn_machine.specs.May.{GoesOn, IsReady, Owes, FitsUnder, MayLock, MayAct, MayAsk}
-use Rattle.txn_machine.specs.Steps.{Step, Says, MayBegin, FindsIn, IsFree, CommitsAs, group_want, put_wants, first_want, waits_after, definitions_after}
+use Rattle.txn_machine.specs.Steps.{Step, Says, MayBegin, FindsIn, IsFree, CommitsAs, group_want, put_wants, first_want, waits_after, FitsLog, FitsData, used_data, definitions_after, log_after}
 use Rattle.txn_machine.specs.Example.{sale, by_shop}
 use Rattle.txn_machine.proofs.Basics.{one_same}
 use Rattle.txn_machine.proofs.Playing.{shop_schema, table_of, entry_of, Plain, state_of, base, number_of, txn, found_in, shown_in, int_fits, fit, fit_all, are_shown, owed_in, is_session, is_serial, is_nil, is_free, goes_on, is_ready, fits_txn, fits_history, fits_under, differ, account_in, inf_in, sup_in, allows, all_below, row_want, view_want, seen, change_in, put_wants_in, number_left, said_of, owes, lacks_first, pays_first, holds_in, makes_first, rest, is_increment, test, after_makes, locked, paid_txn, after_pays, after_undoes, after, is_in_order, begins, fetches, views, puts, lacks, undoes, ends, commits, leaves}
 use Rattle.txn_machine.proofs.Tabled.{InOrder, entries_are, get_is, write_is, add_is, plain_db, base_sorted, committed_is, read_is, owed_is, fresh_is}
 use Rattle.txn_machine.proofs.Testing.{is_true, left_one, right_one, at_most, equal, there_is, none_is_there, serial_is, nil_is, not_nil, false_is, session_is, below_so, some_is, huge_is, free_is, lies_is}
+use Rattle.txn_machine.specs.Log.{Within, end_bytes, reserved}
 
 -- the tables are in order, and the engine is not stopped
 pub record Sorted (p : Plain) : Type 0 where
   pub rows : InOrder p.rows
   pub view : InOrder p.view
   pub runs : p.of.stop ≡ None
+  pub no_log_limit : p.of.opening.log_limit ≡ None
+  pub no_data_limit : p.of.opening.data_limit ≡ None
 
 pub in_order : (p : Plain) → T (is_in_order p) → Sorted p
 in_order p h =
-    let more = right_one (is_sorted place_cmp p.rows) (is_sorted place_cmp p.view && not (is_some p.of.stop)) h in
+    let no_data : Bool = not (is_some p.of.opening.data_limit) in
+    let unlimited : Bool = not (is_some p.of.opening.log_limit) && no_data in
+    let runs : Bool = not (is_some p.of.stop) && unlimited in
+    let more = right_one (is_sorted place_cmp p.rows) (is_sorted place_cmp p.view && runs) h in
+    let last = right_one (is_sorted place_cmp p.view) runs more in
+    let limits = right_one (not (is_some p.of.stop)) unlimited last in
     record {
-      rows = left_one (is_sorted place_cmp p.rows) (is_sorted place_cmp p.view && not (is_some p.of.stop)) h;
-      view = left_one (is_sorted place_cmp p.view) (not (is_some p.of.stop)) more;
-      runs = none_is_there p.of.stop (right_one (is_sorted place_cmp p.view) (not (is_some p.of.stop)) more);
+      rows = left_one (is_sorted place_cmp p.rows) (is_sorted place_cmp p.view && runs) h;
+      view = left_one (is_sorted place_cmp p.view) runs more;
+      runs = none_is_there p.of.stop (left_one (not (is_some p.of.stop)) unlimited last);
+      no_log_limit = none_is_there p.of.opening.log_limit (left_one (not (is_some p.of.opening.log_limit)) no_data limits);
+      no_data_limit = none_is_there p.of.opening.data_limit (right_one (not (is_some p.of.opening.log_limit)) no_data limits);
     }
 
 bytes_same : (xs ys : List ℕ) → T (bytes_eq xs ys) → xs ≡ ys
@@ -133,7 +143,7 @@ shown_lists (e ∷ es) (n ∷ ns) h =
     )
 
 -- who may act may ask
-asks : (s : Store) (i : ℕ) (a : Act) → i ≤ 64 → MayAct s i a → MayAsk i a
+pub asks : (s : Store) (i : ℕ) (a : Act) → i ≤ 64 → MayAct s i a → MayAsk i a
 asks s i (act.Begin mode) l may = l
 asks s i act.Defs l may = may
 asks s i (act.Fetch number interval mode) l may = l
@@ -147,6 +157,7 @@ asks s i act.Commit l may = l
 asks s i (act.Schema statement) l may = may.0
 asks s i act.Clean l may = l
 asks s i act.Prune l may = l
+asks s i act.Checkpoint l may = l
 asks s i act.Cancel l may = may
 
 module _ (p : Plain) (i : ℕ) (sorted : Sorted p) (session : i ≤ 64) where
@@ -154,7 +165,7 @@ module _ (p : Plain) (i : ℕ) (sorted : Sorted p) (session : i ≤ 64) where
   here = state_of p
 
   pub step : (a : Act) (said : Answer) (es : List Effect) (to : State) → MayAct here.store i a → Says here i a said es
-      → to ≡ counted here i a said (run the_views here.store i es) (waits_after here.store i a said) (definitions_after here.definitions a said) → Step here i a said to
+      → to ≡ counted here i a said (run the_views here.store i es) (waits_after here.store i a said) (definitions_after here.definitions a said) (log_after here i a said es) → Step here i a said to
   step a said es to may says left = record { may = (asks here.store i a session may, inr may); does = inl (record { runs = sorted.runs; effects = es; says = says; left = left }) }
 
   -- what is said of the committed database
@@ -191,15 +202,24 @@ module _ (p : Plain) (i : ℕ) (sorted : Sorted p) (session : i ≤ 64) where
   room : (need : Database → ℕ) → T (fits_txn p i (need (plain_db p))) → transaction_size (committed here.store).schema (now here.store i) + need (committed here.store) ≤ most_of_transaction
   room need h = of_db (λ db. transaction_size db.schema (now here.store i) + need db ≤ most_of_transaction) (at_most (transaction_size shop_schema (txn p i) + need (plain_db p)) most_of_transaction h)
 
-  history_room : (need : Database → ℕ) → T (fits_history p (need (plain_db p))) → history_size (committed here.store).schema here.store.history here.definitions here.store.open_of + need (committed here.store) ≤ most_of_history
-  history_room need h = of_db (λ db. history_size db.schema here.store.history here.definitions here.store.open_of + need db ≤ most_of_history)
-      (at_most (history_size shop_schema (map entry_of p.sold) p.of.definitions p.of.store.open_of + need (plain_db p)) most_of_history h)
+  history_room : (need : Database → ℕ) → T (fits_history p (need (plain_db p))) → history_size (committed here.store).schema here.store.history (definition_sizes here.definitions) here.store.open_of + need (committed here.store) ≤ most_of_history
+  history_room need h = of_db (λ db. history_size db.schema here.store.history (definition_sizes here.definitions) here.store.open_of + need db ≤ most_of_history)
+      (at_most (history_size shop_schema (map entry_of p.sold) (definition_sizes p.of.definitions) p.of.store.open_of + need (plain_db p)) most_of_history h)
+
+  -- without limits there is room
+  pub log_room : (need : ℕ) → FitsLog here need
+  log_room need = subst (λ (limit : Option ℕ). Within limit (here.log.used + reserved here.store here.log + need)) (sym sorted.no_log_limit) tt
+
+  data_room : (need : ℕ) → FitsData here need
+  data_room need = subst (λ (limit : Option ℕ). Within limit (used_data here + need)) (sym sorted.no_data_limit) tt
 
   -- ---- Begin
 
   begin_room : (mode : Mode) → T (test p i (begins mode)) → MayBegin here mode
-  begin_room Serial h =
-      history_room (λ db. entry_size) (right_one (not (is_some (p.of.store.open_of i))) (fits_history p entry_size) (right_one (is_session i) (not (is_some (p.of.store.open_of i)) && fits_history p entry_size) h))
+  begin_room Serial h = (
+    log_room end_bytes,
+    history_room (λ db. entry_size) (right_one (not (is_some (p.of.store.open_of i))) (fits_history p entry_size) (right_one (is_session i) (not (is_some (p.of.store.open_of i)) && fits_history p entry_size) h)),
+  )
   begin_room Snapshot h = tt
 
   begin_may : (mode : Mode) → T (test p i (begins mode)) → IsSession i × (here.store.open_of i ≡ None)
@@ -214,7 +234,7 @@ module _ (p : Plain) (i : ℕ) (sorted : Sorted p) (session : i ≤ 64) where
   begins_so mode h = step (act.Begin mode) (answer.Begun (number_of p) 2) (Opens mode ∷ []) (state_of (after p i (begins mode)))
       (begin_may mode h)
       (record { room = begin_room mode h; number_is = number_is; defs_are = of_db (λ db. 2 ≡ length db.schema) refl; effects = refl })
-      (ap (λ n. counted here i (act.Begin mode) (answer.Begun (number_of p) 2) (with_txn here.store i (Some (begun mode n))) [] here.definitions) number_is)
+      (ap (λ n. counted here i (act.Begin mode) (answer.Begun (number_of p) 2) (with_txn here.store i (Some (begun mode n))) [] here.definitions (log_after here i (act.Begin mode) (answer.Begun (number_of p) 2) (Opens mode ∷ []))) number_is)
 
   -- ---- Fetch
 
@@ -313,12 +333,14 @@ module _ (p : Plain) (i : ℕ) (sorted : Sorted p) (session : i ≤ 64) where
         (record {
           free = subst (IsFree here.store i) (sym wants_are) (free (put_wants_in p key new) (left_one is_free_here (fits && (differs && (has_room && has_history))) h1));
           room = room (λ db. put_size db.schema change_here (owed db.schema (table_of p.rows) change_here)) (subst (λ n. T (fits_txn p i n)) (sym put_size_is) (left_one has_room has_history h4));
+          log_room = log_room _;
+          data_room = data_room _;
           history_room = history_room (λ db. kept_change_size db.schema change_here) (subst (λ (c : RowChange). T (fits_history p (kept_change_size shop_schema c))) (sym change_is) (right_one has_room has_history h4));
           before_is = sym (get_is p.rows place sorted.rows);
           owed_is = sym owes_here;
           effects = refl;
         })
-        (ap (λ (t : Store). counted here i put (said_of p i (puts key new)) t [] here.definitions)
+        (ap (λ (t : Store). counted here i put (said_of p i (puts key new)) t [] here.definitions (log_after here i put (said_of p i (puts key new)) (Takes wants_here ∷ Writes place new ∷ [])))
         (λ j. wrote_as (sym wants_are j) (sym change_is j) (sym owes_here j) (sym (write_is place new p.rows sorted.rows) j)))
 
   -- ---- Pay and Ghost
@@ -378,7 +400,7 @@ module _ (p : Plain) (i : ℕ) (sorted : Sorted p) (session : i ≤ 64) where
         owed_is = e;
         effects = inl (get_is p.view (place_of d) sorted.view ∙ none_is_there (view_at d) (left_one (not (is_some (view_at d))) (holds_in (txn p i).locks (place_of d)) h), refl);
       })
-      (ap (λ (v : ViewRows). counted here i act.Ghost answer.Ghosted (record here.store { view = v }) [] here.definitions) (sym (write_is (place_of d) (Some (zeros n)) p.view sorted.view)))
+      (ap (λ (v : ViewRows). counted here i act.Ghost answer.Ghosted (record here.store { view = v }) [] here.definitions (log_after here i act.Ghost answer.Ghosted (Ghosts (place_of d) n ∷ []))) (sym (write_is (place_of d) (Some (zeros n)) p.view sorted.view)))
 
   -- ---- the account of a column
 
@@ -422,7 +444,7 @@ module _ (p : Plain) (i : ℕ) (sorted : Sorted p) (session : i ≤ 64) where
         left_is = refl;
         effects = refl;
       })
-      (ap (λ (t : Store). counted here i act.Pay (answer.Paid (length ds)) t [] here.definitions)
+      (ap (λ (t : Store). counted here i act.Pay (answer.Paid (length ds)) t [] here.definitions (log_after here i act.Pay (answer.Paid (length ds)) (Takes wants ∷ Pays ∷ [])))
       (sym (ap (paid_first (locked here.store i wants) i (now (locked here.store i wants) i)) (ap (λ (t : Open). t.owed) (locked_is wants) ∙ e)
       ∙ (λ j. paid_as (first_want (e j)) (add_is d p.view sorted.view j)))))
 
@@ -436,13 +458,13 @@ module _ (p : Plain) (i : ℕ) (sorted : Sorted p) (session : i ≤ 64) where
   undoes_by is o (Put c ds ∷ ks) e h = step act.UndoOne (answer.Undone (length ks)) (Undoes ∷ []) (state_of (after_undoes p i (Put c ds ∷ ks)))
       (record { of_session = is; transaction = txn p i; is_open = o }, λ none. not_nil (Put c ds ∷ ks) tt (sym e ∙ none))
       (record { latest = Put c ds; earlier = ks; kept_is = e; left_is = refl; effects = refl })
-      (ap (λ (t : Store). counted here i act.UndoOne (answer.Undone (length ks)) t [] here.definitions)
+      (ap (λ (t : Store). counted here i act.UndoOne (answer.Undone (length ks)) t [] here.definitions (log_after here i act.UndoOne (answer.Undone (length ks)) (Undoes ∷ [])))
       (sym (ap (undone here.store i (txn p i)) e
       ∙ ap (λ (m : Rows). record (undone here.store i (txn p i) (Put c ds ∷ ks)) { rows = m }) (write_is c.key c.before p.rows sorted.rows))))
   undoes_by is o (Pay d ∷ ks) e h = step act.UndoOne (answer.Undone (length ks)) (Undoes ∷ []) (state_of (after_undoes p i (Pay d ∷ ks)))
       (record { of_session = is; transaction = txn p i; is_open = o }, λ none. not_nil (Pay d ∷ ks) tt (sym e ∙ none))
       (record { latest = Pay d; earlier = ks; kept_is = e; left_is = refl; effects = refl })
-      (ap (λ (t : Store). counted here i act.UndoOne (answer.Undone (length ks)) t [] here.definitions)
+      (ap (λ (t : Store). counted here i act.UndoOne (answer.Undone (length ks)) t [] here.definitions (log_after here i act.UndoOne (answer.Undone (length ks)) (Undoes ∷ [])))
       (sym (ap (undone here.store i (txn p i)) e
       ∙ ap (λ (v : ViewRows). record (undone here.store i (txn p i) (Pay d ∷ ks)) { view = v }) (add_is (negated d) p.view sorted.view))))
 
@@ -479,7 +501,7 @@ module _ (p : Plain) (i : ℕ) (sorted : Sorted p) (session : i ≤ 64) where
       step act.Commit (answer.Committed (number_of p + 1)) (Commits ∷ []) (state_of (after p i commits))
       (inl (ready (left_one (is_ready p i) some h)))
       (changed (changes_of (txn p i).kept) (Commits ∷ []) (right_one (is_ready p i) some h) refl)
-      (ap (λ (l : List Entry). counted here i act.Commit (answer.Committed (number_of p + 1)) (record (with_txn here.store i None) { history = l }) [] here.definitions)
+      (ap (λ (l : List Entry). counted here i act.Commit (answer.Committed (number_of p + 1)) (record (with_txn here.store i None) { history = l }) [] here.definitions (log_after here i act.Commit (answer.Committed (number_of p + 1)) (Commits ∷ [])))
       (map-append entry_of p.sold (record { number = number_of p + 1; session = i; changes = reverse (changes_of (txn p i).kept) } ∷ [])
       ∙ ap (λ n. map entry_of p.sold ++ entry n ∷ []) number_is))
 

@@ -35,13 +35,13 @@ use Rattle.txn_machine.specs.Store.{Store, committed, least_snapshot, entry_delt
 use Rattle.txn_machine.specs.Ghosts.{the_views, Holds, IsCleanable, versions}
 use Rattle.txn_machine.specs.State.{counted}
 use Rattle.txn_machine.specs.May.{MayPeek}
-use Rattle.txn_machine.specs.Steps.{Step}
+use Rattle.txn_machine.specs.Steps.{Step, log_after}
 use Rattle.txn_machine.specs.Example.{by_shop, shop_database}
 use Rattle.txn_machine.proofs.Holding.{contains_here, contains_next}
 use Rattle.txn_machine.proofs.Playing.{shop_schema, set_in, Sold, entry_of, Plain, state_of, redo_in, base, number_after, txn, sales_in, fresh_in, each_to, each_of, is_serial, is_nil, is_zero, is_increment, goes_on, holds_in, peeked, sold_by, changes_deltas, deltas_in, is_cleanable, said_of, test, after, peeks, cleans_none, cleans, prunes}
 use Rattle.txn_machine.proofs.Tabled.{key_cmp, InOrder, entries_are, get_is, write_is, set_sorted, redo_sorted, sold_sorted, with_sales, keeps_is, fold_is, origin_is, base_sorted, committed_is, listed_is, owed_is, fresh_is}
 use Rattle.txn_machine.proofs.Testing.{is_true, holds, left_one, right_one, both, either, not_so, not_that, equal, there_is, nil_is, each_so, each_in, some_in, lies_so}
-use Rattle.txn_machine.proofs.MovesAlone.{Sorted, step, of_db, number_is, going, holds_so}
+use Rattle.txn_machine.proofs.MovesAlone.{Sorted, step, of_db, number_is, log_room, going, holds_so}
 
 -- ---- tests of the cleaner
 
@@ -221,9 +221,10 @@ module _ (p : Plain) (i : ℕ) (sorted : Sorted p) (session : i ≤ 64) where
           ];
         },
         refl,
+        log_room p i sorted session _,
       )
-      (ap (λ (v : ViewRows). counted (state_of p) i act.Clean (answer.Cleaned 1) (record s { view = v }) [] (state_of p).definitions) (sym (write_is k None p.view sorted.view)))
+      (ap (λ (v : ViewRows). counted (state_of p) i act.Clean (answer.Cleaned 1) (record s { view = v }) [] (state_of p).definitions (log_after (state_of p) i act.Clean (answer.Cleaned 1) (Cleans k ∷ []))) (sym (write_is k None p.view sorted.view)))
 
   pub prunes_so : T (test p i prunes) → Step (state_of p) i act.Prune answer.Pruned (state_of (after p i prunes))
   prunes_so h = step p i sorted session act.Prune answer.Pruned (Prunes ∷ []) (state_of (after p i prunes)) (equal i 0 h) refl
-      (ap (λ (n : ℕ). counted (state_of p) i act.Prune answer.Pruned (record s { mark = least_snapshot s.open_of 64 n }) [] (state_of p).definitions) (number_is p i sorted session))
+      (ap (λ (n : ℕ). counted (state_of p) i act.Prune answer.Pruned (record s { mark = least_snapshot s.open_of 64 n }) [] (state_of p).definitions (log_after (state_of p) i act.Prune answer.Pruned (Prunes ∷ []))) (number_is p i sorted session))

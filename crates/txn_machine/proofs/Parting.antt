@@ -38,14 +38,16 @@ use Rattle.txn_machine.proofs.Moving.{same_pays, same_undoes, may_of}
 use Rattle.txn_machine.proofs.Rings.{other_opens}
 
 -- only the cleaner's own acts are answered by what it counts
-cleaner_stays : (s : State) (i : ℕ) (a : Act) (said : Answer) (es : List Effect) (c : Cleaner) (n : ℕ) → i ≢ 0 → MayAct s.store i a → Says s i a said es → cleaner_after c n said ≡ c
-cleaner_stays s i act.Prune answer.Pruned es c n not_zero may h = absurd (not_zero may)
-cleaner_stays s i act.Clean (answer.Cleaned count) es c n not_zero may h = absurd (not_zero may)
-cleaner_stays s i _ answer.Pruned es c n not_zero may h = absurd h
-cleaner_stays s i _ (answer.Cleaned zero) es c n not_zero may h = absurd h
-cleaner_stays s i _ (answer.Cleaned (suc zero)) es c n not_zero may h = absurd h
-cleaner_stays s i _ (answer.Cleaned (suc (suc m))) es c n not_zero may h = absurd h
-cleaner_stays s i a _ es c n not_zero may h = refl
+cleaner_stays : (s : State) (i : ℕ) (a : Act) (said : Answer) (es : List Effect) (c : Cleaner) (n m : ℕ) → i ≢ 0 → MayAct s.store i a → Says s i a said es → cleaner_after c n m said ≡ c
+cleaner_stays s i act.Prune answer.Pruned es c n m not_zero may h = absurd (not_zero may)
+cleaner_stays s i act.Clean (answer.Cleaned count) es c n m not_zero may h = absurd (not_zero may)
+cleaner_stays s i act.Checkpoint (answer.Saved number) es c n m not_zero may h = absurd (not_zero may)
+cleaner_stays s i _ answer.Pruned es c n m not_zero may h = absurd h
+cleaner_stays s i _ (answer.Cleaned zero) es c n m not_zero may h = absurd h
+cleaner_stays s i _ (answer.Cleaned (suc zero)) es c n m not_zero may h = absurd h
+cleaner_stays s i _ (answer.Cleaned (suc (suc k))) es c n m not_zero may h = absurd h
+cleaner_stays s i _ (answer.Saved number) es c n m not_zero may h = absurd h
+cleaner_stays s i a _ es c n m not_zero may h = refl
 
 -- ---- what was opened, and the schema
 
@@ -153,6 +155,16 @@ module _ (s : State) (i : ℕ) (Q : Effect → Type 0) (usual : (e : Effect) →
   each_effect act.Clean (answer.Cleaned zero) es h = subst Each (sym h.1) tt
   each_effect act.Clean (answer.Cleaned (suc zero)) es h = subst Each (sym h.2) (cleans h.0 h.1, tt)
   each_effect act.Prune answer.Pruned es h = one_effect es Prunes h tt
+  each_effect (act.Begin mode) (answer.Refused (refusal.LogFull used reserved need)) es h = subst Each (sym h.0) tt
+  each_effect (act.Put number key new) (answer.Refused (refusal.LogFull used reserved need)) es h = subst Each (sym h.1) tt
+  each_effect (act.Put number key new) (answer.Refused (refusal.DataFull used need)) es h = subst Each (sym h.1) tt
+  each_effect act.Commit (answer.Refused refusal.DiskFault) es h = subst Each (sym h.0) tt
+  each_effect (act.Schema statement) (answer.Refused (refusal.LogFull used reserved need)) es h = subst Each (sym h.1) tt
+  each_effect (act.Schema statement) (answer.Refused (refusal.DataFull used need)) es h = subst Each (sym h.1) tt
+  each_effect (act.Schema statement) (answer.Refused refusal.DiskFault) es h = subst Each (sym h.0) tt
+  each_effect act.Clean (answer.Refused (refusal.LogFull used reserved need)) es h = subst Each (sym h.0) tt
+  each_effect act.Checkpoint (answer.Saved greatest) es h = subst Each (sym h.0) tt
+  each_effect act.Checkpoint (answer.Refused refusal.DiskFault) es h = subst Each (sym h) tt
   each_effect act.Cancel answer.Cancelled es h = subst Each (sym h) tt
   each_effect _ _ es h = absurd h
 
@@ -185,7 +197,7 @@ added_there m [] p h = h
 added_there m (d ∷ ds) p h = added_there (add_to m d) ds p (written_there m (place_of d) (plus (unwrap_or (get m (place_of d)) []) (columns_of d)) p h)
 
 -- the row is not removed
-abbrev Leaves : Place → Effect → Type 0
+abbrev pub Leaves : Place → Effect → Type 0
 Leaves p (Cleans q) = p ≢ q
 Leaves p _ = Unit {0}
 
@@ -204,7 +216,7 @@ usual_leaves p Ends u = tt
 usual_leaves p Commits u = tt
 usual_leaves p Prunes u = tt
 
-stays_there : (s : Store) (i : ℕ) (e : Effect) (p : Place) → Leaves p e → IsSome (get s.view p) → IsSome (get (does the_views s i e).view p)
+pub stays_there : (s : Store) (i : ℕ) (e : Effect) (p : Place) → Leaves p e → IsSome (get s.view p) → IsSome (get (does the_views s i e).view p)
 stays_there s i Pays p l h = pays (now s i).owed
   where
     pays : (ds : List GroupDelta) → IsSome (get (paid_first s i (now s i) ds).view p)
@@ -243,7 +255,7 @@ part_law s d after step = elim step.does [
       subst (λ (z : State). ((j : ℕ) → j ≢ i → SamePart s z j) × (z.store.origin ≡ s.store.origin) × (i ≢ 0 → z.cleaner ≡ s.cleaner) × ((j : ℕ) → j ≢ i → IsOpen s.store j → schema_of z.store ≡ schema_of s.store)) (sym x.left) (
         λ j n. record { open_is = other_opens s.store i x.effects j n; waiting = one_other s.waiting i wants j n; seat = one_other s.seat_of i seat j n },
         same_origins s.store i x.effects,
-        λ n. cleaner_stays s i d.act d.said x.effects s.cleaner (s.steps + 1) n (may_of s i d.act x.runs step.may.1) x.says,
+        λ n. cleaner_stays s i d.act d.said x.effects s.cleaner (s.steps + 1) (length s.store.history) n (may_of s i d.act x.runs step.may.1) x.says,
         λ j n o. same_schemas s.store i x.effects (plain_says s i d.act d.said x.effects j o x.says),
       )
   | inr x ↦

@@ -3,6 +3,7 @@ use Rattle.std.specs.Prelude.{◌≡◌, ℕ, ◌≤◌, nat_le, ◌&&◌, T, Li
 use mathlib.Core.Path.{refl, sym, subst}
 use Rattle.std.specs.FinMap.{empty}
 use Rattle.txn_machine.specs.Store.{opened}
+use Rattle.txn_machine.specs.Log.{unlimited}
 use Rattle.txn_machine.specs.State.{State, opened_state}
 use Rattle.txn_machine.specs.Steps.{Step, Run}
 use Rattle.txn_machine.specs.Example.{shop_database}
@@ -48,11 +49,11 @@ runs p (t ∷ ts) h =
     )
 
 -- the moves begin where the example does
-pub start_is : state_of start ≡ opened_state (opened shop_database empty)
-start_is = λ j. put_in (opened_state (opened shop_database empty)) [] (sym none_is j) (sym none_is j)
+pub start_is : state_of start ≡ opened_state unlimited (opened shop_database empty)
+start_is = λ j. put_in (opened_state unlimited (opened shop_database empty)) [] (sym none_is j) (sym none_is j)
 
-pub run_to : (ts : List Turn) → T (fine start ts) → Run (opened_state (opened shop_database empty)) (told start ts) (state_of (played start ts))
+pub run_to : (ts : List Turn) → T (fine start ts) → Run (opened_state unlimited (opened shop_database empty)) (told start ts) (state_of (played start ts))
 run_to ts h = subst (λ (s : State). Run s (told start ts) (state_of (played start ts))) start_is (runs start ts h)
 
-pub run_of : (ts : List Turn) → T (fine start ts) → (after : State) × Run (opened_state (opened shop_database empty)) (told start ts) after
+pub run_of : (ts : List Turn) → T (fine start ts) → (after : State) × Run (opened_state unlimited (opened shop_database empty)) (told start ts) after
 run_of ts h = (state_of (played start ts), run_to ts h)

@@ -45,11 +45,12 @@ use Rattle.txn_machine.specs.Locks.{with_one}
 use Rattle.txn_machine.specs.Deltas.{RowChange, contribution, contributions, is_counted, exchanged, columns_of, worth, place_of, due, is_for, negated}
 use Rattle.txn_machine.specs.Keeping.{KeptStep, Put, Pay, changes_of, increments, Open, begun}
 use Rattle.txn_machine.specs.Stored.{ViewRows, zeros, plus, first_numbers, is_shown}
-use Rattle.txn_machine.specs.Store.{Store, opened, with_txn, least_snapshot, now, locks_of, does, run, notes_before, Effect, Takes, Notes, Loses, Ends}
+use Rattle.txn_machine.specs.Store.{Store, opened, with_txn, least_snapshot, now, locks_of, does, run, notes_before, Effect, Takes, Notes, Loses, Ends, Ghosts, Pays, Writes, Undoes, Opens, Commits, Cleans, Prunes}
 use Rattle.txn_machine.specs.Ghosts.{the_views}
-use Rattle.txn_machine.specs.Counts.{fetch_size, put_size, transaction_size, most_of_transaction, entry_size, kept_change_size, history_size, most_of_history}
+use Rattle.txn_machine.specs.Counts.{fetch_size, put_size, transaction_size, most_of_transaction, entry_size, kept_change_size, history_size, most_of_history, definition_sizes}
+use Rattle.txn_machine.specs.Log.{unlimited}
 use Rattle.txn_machine.specs.State.{State, opened_state, counted}
-use Rattle.txn_machine.specs.Steps.{Did, group_want, first_want, put_wants}
+use Rattle.txn_machine.specs.Steps.{Did, group_want, first_want, put_wants, log_after}
 use Rattle.txn_machine.specs.Example.{sale, by_shop, shop_database, did}
 
 abbrev pub shop_schema : Schema
@@ -93,7 +94,7 @@ state_of p = put_in p.of (map entry_of p.sold) (table_of p.rows) (table_of p.vie
 
 -- the shop as it is opened
 abbrev pub start : Plain
-start = record { sold = []; rows = []; view = []; of = opened_state (opened shop_database empty) }
+start = record { sold = []; rows = []; view = []; of = opened_state unlimited (opened shop_database empty) }
 
 -- the rows after changes, of which the first was made first
 abbrev pub redo_in : List RowChange → List (Place × Row) → List (Place × Row)
@@ -250,7 +251,7 @@ abbrev pub fits_txn : Plain → ℕ → ℕ → Bool
 fits_txn p i need = nat_le (transaction_size shop_schema (txn p i) + need) most_of_transaction
 
 abbrev pub fits_history : Plain → ℕ → Bool
-fits_history p need = nat_le (history_size shop_schema (map entry_of p.sold) p.of.definitions p.of.store.open_of + need) most_of_history
+fits_history p need = nat_le (history_size shop_schema (map entry_of p.sold) (definition_sizes p.of.definitions) p.of.store.open_of + need) most_of_history
 
 -- ---- tests of rows
 
@@ -511,19 +512,19 @@ test p i prunes = i == 0
 
 -- ---- what moves leave
 
-abbrev pub left_as : Plain → ℕ → Act → Answer → Store → List Want → State
-left_as p i a said store waits = counted p.of i a said store waits p.of.definitions
+abbrev pub left_as : Plain → ℕ → Act → Answer → Store → List Want → List Effect → State
+left_as p i a said store waits es = counted p.of i a said store waits p.of.definitions (log_after (state_of p) i a said es)
 
 -- effects that leave the tables
 abbrev pub left_by : Plain → ℕ → Act → Answer → List Effect → Plain
-left_by p i a said es = record p { of = left_as p i a said (run the_views p.of.store i es) [] }
+left_by p i a said es = record p { of = left_as p i a said (run the_views p.of.store i es) [] es }
 
 abbrev pub after_lacks : Plain → ℕ → List GroupDelta → Plain
 after_lacks p i owed = left_by p i act.Pay answer.NeedsGhost (Takes (first_want owed) ∷ [])
 
 abbrev pub after_makes : Plain → ℕ → List GroupDelta → Plain
 after_makes p i [] = p
-after_makes p i (d ∷ ds) = record p { view = set_in (place_of d) (Some (zeros (length (columns_of d)))) p.view; of = left_as p i act.Ghost answer.Ghosted p.of.store [] }
+after_makes p i (d ∷ ds) = record p { view = set_in (place_of d) (Some (zeros (length (columns_of d)))) p.view; of = left_as p i act.Ghost answer.Ghosted p.of.store [] (Ghosts (place_of d) (length (columns_of d)) ∷ []) }
 
 -- with these locks
 abbrev pub locked : Store → ℕ → List Want → Store
@@ -539,7 +540,7 @@ abbrev pub after_pays : Plain → ℕ → List GroupDelta → Plain
 after_pays p i [] = p
 after_pays p i (d ∷ ds) =
     let s : Store = locked p.of.store i (group_want d ∷ []) in
-    record p { view = add_in d p.view; of = left_as p i act.Pay (answer.Paid (length ds)) (with_txn s i (Some (paid_txn (now s i) d ds))) [] }
+    record p { view = add_in d p.view; of = left_as p i act.Pay (answer.Paid (length ds)) (with_txn s i (Some (paid_txn (now s i) d ds))) [] (Takes (first_want (txn p i).owed) ∷ Pays ∷ []) }
 
 abbrev pub after_puts : Plain → ℕ → List ℕ → Option Row → List Want → List GroupDelta → Plain
 after_puts p i key new wants ds =
@@ -547,22 +548,22 @@ after_puts p i key new wants ds =
     let c : RowChange = change_in p key new in
     record p {
       rows = set_in (1, key) new p.rows;
-      of = left_as p i (act.Put 1 key new) (answer.Changed c.before ds) (with_txn s i (Some (record (now s i) { kept = Put c ds ∷ (now s i).kept; owed = ds; back = 0 }))) [];
+      of = left_as p i (act.Put 1 key new) (answer.Changed c.before ds) (with_txn s i (Some (record (now s i) { kept = Put c ds ∷ (now s i).kept; owed = ds; back = 0 }))) [] (Takes wants ∷ Writes (1, key) new ∷ []);
     }
 
 abbrev pub after_undoes : Plain → ℕ → List KeptStep → Plain
 after_undoes p i [] = p
 after_undoes p i (Put c ds ∷ ks) = record p {
   rows = set_in c.key c.before p.rows;
-  of = left_as p i act.UndoOne (answer.Undone (length ks)) (with_txn p.of.store i (Some (record (txn p i) { kept = ks; owed = []; back = 0; notes = notes_before (length ks) (txn p i).notes }))) [];
+  of = left_as p i act.UndoOne (answer.Undone (length ks)) (with_txn p.of.store i (Some (record (txn p i) { kept = ks; owed = []; back = 0; notes = notes_before (length ks) (txn p i).notes }))) [] (Undoes ∷ []);
 }
 after_undoes p i (Pay d ∷ ks) = record p {
   view = add_in (negated d) p.view;
-  of = left_as p i act.UndoOne (answer.Undone (length ks)) (with_txn p.of.store i (Some (record (txn p i) { kept = ks; owed = d ∷ (txn p i).owed; back = (txn p i).back + 1 }))) [];
+  of = left_as p i act.UndoOne (answer.Undone (length ks)) (with_txn p.of.store i (Some (record (txn p i) { kept = ks; owed = d ∷ (txn p i).owed; back = (txn p i).back + 1 }))) [] (Undoes ∷ []);
 }
 
 abbrev pub after : Plain → ℕ → Move → Plain
-after p i (begins mode) = record p { of = left_as p i (act.Begin mode) (answer.Begun (number_of p) 2) (with_txn p.of.store i (Some (begun mode (number_of p)))) [] }
+after p i (begins mode) = record p { of = left_as p i (act.Begin mode) (answer.Begun (number_of p) 2) (with_txn p.of.store i (Some (begun mode (number_of p)))) [] (Opens mode ∷ []) }
 after p i (fetches key) =
     let rows : List Row = found_in p.rows (point key) in
     left_by p i (act.Fetch 1 (point key) Exclusive) (answer.Rows rows) (Takes (row_want key) ∷ Notes (record { index = 1; interval = point key; rows = rows; kept = length (txn p i).kept }) ∷ [])
@@ -577,22 +578,22 @@ after p i undoes = after_undoes p i (txn p i).kept
 after p i ends = left_by p i act.End answer.Ended (Ends ∷ [])
 after p i commits = record p {
   sold = p.sold ++ record { number = number_of p + 1; session = i; changes = reverse (changes_of (txn p i).kept) } ∷ [];
-  of = left_as p i act.Commit (answer.Committed (number_of p + 1)) (with_txn p.of.store i None) [];
+  of = left_as p i act.Commit (answer.Committed (number_of p + 1)) (with_txn p.of.store i None) [] (Commits ∷ []);
 }
 after p i leaves = left_by p i act.Commit (answer.Committed (number_left p i)) (Ends ∷ [])
 after p i (refuses column) = left_by p i act.Pay (bounds_in p (txn p i).owed column) (Takes (first_want (txn p i).owed) ∷ [])
-after p i (blocks sessions) = record p { of = left_as p i act.Pay (answer.Blocked sessions) p.of.store (first_want (txn p i).owed) }
+after p i (blocks sessions) = record p { of = left_as p i act.Pay (answer.Blocked sessions) p.of.store (first_want (txn p i).owed) [] }
 after p i (deadlocks other mine theirs) = left_by p i act.Pay (answer.Refused (refusal.Deadlock (ring_of i other))) (Loses ∷ [])
 after p i (peeks interval) = left_by p i (act.Peek 2 interval) (said_of p i (peeks interval)) []
 after p i cleans_none = left_by p i act.Clean (answer.Cleaned 0) []
-after p i (cleans place) = record p { view = set_in place None p.view; of = left_as p i act.Clean (answer.Cleaned 1) p.of.store [] }
-after p i prunes = record p { of = left_as p i act.Prune answer.Pruned (record p.of.store { mark = least_snapshot p.of.store.open_of 64 (number_of p) }) [] }
+after p i (cleans place) = record p { view = set_in place None p.view; of = left_as p i act.Clean (answer.Cleaned 1) p.of.store [] (Cleans place ∷ []) }
+after p i prunes = record p { of = left_as p i act.Prune answer.Pruned (record p.of.store { mark = least_snapshot p.of.store.open_of 64 (number_of p) }) [] (Prunes ∷ []) }
 
 -- ---- moves one after the other
 
--- its tables are in order, and it is not stopped
+-- its tables are in order, and it is neither stopped nor limited
 abbrev pub is_in_order : Plain → Bool
-is_in_order p = is_sorted place_cmp p.rows && (is_sorted place_cmp p.view && not (is_some p.of.stop))
+is_in_order p = is_sorted place_cmp p.rows && (is_sorted place_cmp p.view && (not (is_some p.of.stop) && (not (is_some p.of.opening.log_limit) && not (is_some p.of.opening.data_limit))))
 
 -- the session and its move
 pub record Turn : Type 0 where

@@ -31,6 +31,7 @@ use Rattle.txn_machine.proofs.Bounds.{over_zero}
 use Rattle.txn_machine.proofs.Entered.{IsProper, IsHistoryOf, fold_push, history_push, keep_changes, entry_changes_right}
 use Rattle.txn_machine.proofs.Good.{HoldsFor, the_open, PaysOn, TxnGood, all_paid, all_lo, all_hi, Good, base_sound}
 use Rattle.txn_machine.proofs.Keeps.{shift, leaves, stays, takes, writes, pays, undoes, commits, ghosts, cleans, prunes}
+use Rattle.std.specs.List.{Contains}
 
 module _ (views : Views) (value : Schema → Rows → Place → ℕ → ℤ) (laws : ViewLaws views value) where
   abbrev pub IsGood : Store → Type 0
@@ -54,7 +55,7 @@ module _ (views : Views) (value : Schema → Rows → Place → ℕ → ℤ) (la
   Can s i (Notes n) = IsSession i
   Can s i (Writes key new) = IsSession i × ((now s i).owed ≡ []) × HoldsFor (schema_of s) (locks_of s i) (change_at s key new) × IsProper (schema_of s) (change_at s key new)
   Can s i Pays = IsSession i × CanPay s i (now s i).owed
-  Can s i (Ghosts p n) = get s.view p ≡ None
+  Can s i (Ghosts p n) = (get s.view p ≡ None) × IsSession i × ((d : GroupDelta) × Contains (now s i).owed d × (p ≡ place_of d) × (n ≡ length (columns_of d)))
   Can s i Undoes = IsSession i
   Can s i Loses = IsSession i
   Can s i Ends = IsSession i × ((now s i).kept ≡ [])
@@ -94,7 +95,7 @@ module _ (views : Views) (value : Schema → Rows → Place → ℕ → ℤ) (la
     new_base = record base { number = base.number + 1; schema = objects }
 
     -- no transaction changed a row
-    rows_are : s.rows ≡ base.rows
+    pub rows_are : s.rows ≡ base.rows
     rows_are = same_table place_cmp_total place_cmp-IsAntisymmetric s.rows base.rows (λ q. g.stored.others q (λ j js t. subst (λ (ks : List KeptStep). Touches q (changes_of ks)) (none_kept s j (can.none_open j js)) t))
 
     define : (i : ℕ) (view : ViewRows) → view ≡ add_all s.view (views.made_of objects s.rows o) → (history : List Entry) → IsHistoryOf s.origin history
@@ -128,7 +129,7 @@ module _ (views : Views) (value : Schema → Rows → Place → ℕ → ℤ) (la
   keeps s i (Notes n) g can = stays views value laws (committed s) s g i can (record (now s i) { notes = n ∷ (now s i).notes }) refl refl refl
   keeps s i (Writes key new) g can = writes views value laws (committed s) s g i can.0 key new can.1 can.2 can.3
   keeps s i Pays g can = pays_first s i g can.0 (now s i).owed refl can.1
-  keeps s i (Ghosts p n) g can = ghosts views value laws (committed s) s g p n can
+  keeps s i (Ghosts p n) g can = ghosts views value laws (committed s) s g p n can.0
   keeps s i Undoes g can = undoes_kept s i g can (now s i).kept refl
   keeps s i Loses g can = stays views value laws (committed s) s g i can (record (now s i) { is_lost = true }) refl refl refl
   keeps s i Ends g can = leaves views value laws (committed s) s g i can.0 None refl refl refl can.1

@@ -109,7 +109,7 @@ rows_fit ks n (e ∷ es) h = elim (e.0.0 == n) as (λ b. (e.0.0 == n) ≡ b → 
   | false ↦ λ t. rows_fit ks n es h.1
 ] refl
 
-table_fits : (objects : Schema) (rows : Rows) → AreSound objects rows → (n : ℕ) → IsTable objects n → AllByRecursion (FitAll (kinds_of_table (numbered objects n))) (rows_of rows n)
+pub table_fits : (objects : Schema) (rows : Rows) → AreSound objects rows → (n : ℕ) → IsTable objects n → AllByRecursion (FitAll (kinds_of_table (numbered objects n))) (rows_of rows n)
 table_fits objects rows sound n t = rows_fit (kinds_of_table (numbered objects n)) n (entries rows)
     (all_entries (λ (e : Place × Row). e.0.0 ≡ n → FitAll (kinds_of_table (numbered objects n)) e.1) rows (λ k r e g.
     let row : IsRow objects k r = sound.rows k r e in

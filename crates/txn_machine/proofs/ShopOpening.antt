@@ -72,5 +72,6 @@ shop_opened = record {
     typed = typed_are;
   };
   rows = λ place column. ap (number_in_row column) (get-empty place_cmp place) ∙ sym (all_zero place column);
+  stored = λ place numbers e. absurd (none-some numbers (sym (get-empty place_cmp place) ∙ e));
   in_range = λ place column. subst IsHuge (sym (all_zero place column)) huge_zero;
 }

@@ -175,7 +175,7 @@ module _ (laws : ViewLaws the_views fresh) where
     can_says s i act.Pay answer.NeedsGhost es g may h = subst (CanAll' s.store i) (sym h.effects) ((may.goes_on.of_session, h.pays.free), tt)
     can_says s i act.Pay (answer.Refused (refusal.Escrow column low high)) es g may h = subst (CanAll' s.store i) (sym h.effects) ((may.goes_on.of_session, h.pays.free), tt)
     can_says s i act.Ghost answer.Ghosted es g may h = elim h.effects [
-      | inl m ↦ subst (CanAll' s.store i) (sym m.1) (m.0, tt)
+      | inl m ↦ subst (CanAll' s.store i) (sym m.1) ((m.0, may.0.goes_on.of_session, (h.first, subst (λ (l : List GroupDelta). Contains l h.first) (sym h.owed_is) (contains_here h.first h.others), refl, refl)), tt)
       | inr m ↦ subst (CanAll' s.store i) (sym m.1) tt
     ]
     can_says s i act.UndoOne (answer.Undone left) es g may h = subst (CanAll' s.store i) (sym h.effects) (may.0.of_session, tt)
@@ -193,6 +193,16 @@ module _ (laws : ViewLaws the_views fresh) where
     can_says s i act.Clean (answer.Cleaned zero) es g may h = subst (CanAll' s.store i) (sym h.1) tt
     can_says s i act.Clean (answer.Cleaned (suc zero)) es g may h = subst (CanAll' s.store i) (sym h.2) ((h.1.is.ghost.count, h.1.is.not_locked), tt)
     can_says s i act.Prune answer.Pruned es g may h = subst (CanAll' s.store i) (sym h) (tt, tt)
+    can_says s i (act.Begin mode) (answer.Refused (refusal.LogFull used reserved need)) es g may h = subst (CanAll' s.store i) (sym h.0) tt
+    can_says s i (act.Put number key new) (answer.Refused (refusal.LogFull used reserved need)) es g may h = subst (CanAll' s.store i) (sym h.1) tt
+    can_says s i (act.Put number key new) (answer.Refused (refusal.DataFull used need)) es g may h = subst (CanAll' s.store i) (sym h.1) tt
+    can_says s i act.Commit (answer.Refused refusal.DiskFault) es g may h = subst (CanAll' s.store i) (sym h.0) tt
+    can_says s i (act.Schema statement) (answer.Refused (refusal.LogFull used reserved need)) es g may h = subst (CanAll' s.store i) (sym h.1) tt
+    can_says s i (act.Schema statement) (answer.Refused (refusal.DataFull used need)) es g may h = subst (CanAll' s.store i) (sym h.1) tt
+    can_says s i (act.Schema statement) (answer.Refused refusal.DiskFault) es g may h = subst (CanAll' s.store i) (sym h.0) tt
+    can_says s i act.Clean (answer.Refused (refusal.LogFull used reserved need)) es g may h = subst (CanAll' s.store i) (sym h.0) tt
+    can_says s i act.Checkpoint (answer.Saved greatest) es g may h = subst (CanAll' s.store i) (sym h.0) tt
+    can_says s i act.Checkpoint (answer.Refused refusal.DiskFault) es g may h = subst (CanAll' s.store i) (sym h) tt
     can_says s i act.Cancel answer.Cancelled es g may h = subst (CanAll' s.store i) (sym h) tt
     can_says s i _ _ es g may h = absurd h
 

@@ -162,6 +162,16 @@ own_says s i (act.Schema statement) (answer.Refused (refusal.HistoryFull kept ne
 own_says s i act.Clean (answer.Cleaned zero) es g may h can told t = own_by s.store i es [] h.1 g can tt told told refl t
 own_says s i act.Clean (answer.Cleaned (suc zero)) es g may h can told t = own_by s.store i es (Cleans h.0 ∷ []) h.2 g can ((tt, tt), tt) told told refl t
 own_says s i act.Prune answer.Pruned es g may h can told t = own_by s.store i es (Prunes ∷ []) h g can ((tt, tt), tt) told told refl t
+own_says s i (act.Begin mode) (answer.Refused (refusal.LogFull used reserved need)) es g may h can told t = own_by s.store i es [] h.0 g can tt told told refl t
+own_says s i (act.Put number key new) (answer.Refused (refusal.LogFull used reserved need)) es g may h can told t = own_by s.store i es [] h.1 g can tt told told refl t
+own_says s i (act.Put number key new) (answer.Refused (refusal.DataFull used need)) es g may h can told t = own_by s.store i es [] h.1 g can tt told told refl t
+own_says s i act.Commit (answer.Refused refusal.DiskFault) es g may h can told t = own_by s.store i es [] h.0 g can tt told told refl t
+own_says s i (act.Schema statement) (answer.Refused (refusal.LogFull used reserved need)) es g may h can told t = own_by s.store i es [] h.1 g can tt told told refl t
+own_says s i (act.Schema statement) (answer.Refused (refusal.DataFull used need)) es g may h can told t = own_by s.store i es [] h.1 g can tt told told refl t
+own_says s i (act.Schema statement) (answer.Refused refusal.DiskFault) es g may h can told t = own_by s.store i es [] h.0 g can tt told told refl t
+own_says s i act.Clean (answer.Refused (refusal.LogFull used reserved need)) es g may h can told t = own_by s.store i es [] h.0 g can tt told told refl t
+own_says s i act.Checkpoint (answer.Saved greatest) es g may h can told t = own_by s.store i es [] h.0 g can tt told told refl t
+own_says s i act.Checkpoint (answer.Refused refusal.DiskFault) es g may h can told t = own_by s.store i es [] h g can tt told told refl t
 own_says s i act.Cancel answer.Cancelled es g may h can told t = own_by s.store i es [] h g can tt told told refl t
 own_says s i _ _ es g may h can told t = absurd h
 
@@ -247,7 +257,7 @@ goes_kept : {R : Type 0} (p : Program R) (told : List Told) (q : Program R) (cs 
 goes_kept p [] q cs h = h.1
 goes_kept p (t ∷ told) q cs h = next_kept h.0 h.1 t q cs told h.3 (goes_kept p told h.0 h.1 h.2)
 
-notes_true : (base : Database) (locks : List Want) (told : List Told) → AllByRecursion (NoteGood base locks) told → AllByRecursion (IsTrueIn base) told
+pub notes_true : (base : Database) (locks : List Want) (told : List Told) → AllByRecursion (NoteGood base locks) told → AllByRecursion (IsTrueIn base) told
 notes_true base locks [] h = tt
 notes_true base locks (Found n interval rows cs ∷ told) h = (h.0.so, notes_true base locks told h.1)
 notes_true base locks (WasThere p new before cs ∷ told) h = (h.0.so, notes_true base locks told h.1)

@@ -27,6 +27,7 @@ use Rattle.txn_machine.specs.Ghosts.{Holds, MayReadIn, the_views}
 use Rattle.txn_machine.specs.Store.{Store, committed, schema_of, now, changes_by, locks_of, change_at, notes_before, paid_first, undone, entry_changes, Effect, Opens, Takes, Notes, Writes, Pays, Ghosts, Undoes, Loses, Ends, Commits, Defines, Cleans, Prunes, does, run}
 use Rattle.txn_machine.specs.Alone.{Told, Found, WasThere, TookBack, told_of_undo, Reads, with_changes, IsReadIn, without_latest}
 use Rattle.txn_machine.specs.ViewLaws.{AreSound}
+pub use Rattle.txn_machine.specs.KeptLaws.{kept_after}
 use Rattle.txn_machine.proofs.Basics.{one_same, one_other, holds_more, read_more}
 use Rattle.txn_machine.proofs.Agreeing.{agree_first}
 use Rattle.txn_machine.proofs.Entered.{AreProper, sound_redo}
@@ -103,13 +104,6 @@ notes_framed base number rows locks f so ss (WasThere p new before cs ∷ told) 
 notes_framed base number rows locks f so ss (TookBack cs ∷ told) h = (tt, notes_framed base number rows locks f so ss told h.1)
 
 -- ---- what a transaction was told
-
--- the changes that what was told left
-abbrev pub kept_after : List Told → List RowChange
-kept_after [] = []
-kept_after (Found n interval rows cs ∷ told) = kept_after told
-kept_after (WasThere p new before cs ∷ told) = record { key = p; before = before; after = new } ∷ kept_after told
-kept_after (TookBack cs ∷ told) = without_latest (kept_after told)
 
 pub record SerialTold (base : Database) (t : Open) (told : List Told) : Type 0 where
   pub notes : AllByRecursion (NoteGood base t.locks) told

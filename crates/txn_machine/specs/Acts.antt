@@ -32,5 +32,7 @@ pub data Act : Type 0 where
   Clean : Act
   -- drops the versions that no open snapshot can need
   Prune : Act
+  -- writes what is stored to the disk's pages, with the records of open transactions
+  Checkpoint : Act
   -- forgets what the session waits for
   Cancel : Act

@@ -24,6 +24,8 @@ pub data Answer : Type 0 where
   Committed : (number : ℕ) → Answer
   Cleaned : (count : ℕ) → Answer
   Pruned : Answer
+  -- with the greatest commit number
+  Saved : (number : ℕ) → Answer
   Cancelled : Answer
   -- it waits for these sessions
   Blocked : Sessions → Answer

@@ -79,9 +79,12 @@ entry_size = 256
 abbrev pub kept_change_size : Schema → RowChange → ℕ
 kept_change_size objects c = 32 + change_size objects c
 
--- a definition that an entry keeps: its text
+-- a definition that an entry keeps, by its text
+abbrev pub text_size : List ℕ → ℕ
+text_size text = 32 + length text
+
 abbrev pub definition_size : StatementTree → ℕ
-definition_size statement = 32 + length (statement_text statement)
+definition_size statement = text_size (statement_text statement)
 
 -- the rows that an entry set. The size of a definition is not told by what it defined, so that definitions are counted apart.
 abbrev pub set_size : Schema → Kept → ℕ
@@ -98,14 +101,22 @@ open_size objects (Some t) = elim t.mode [
   | Snapshot ↦ 0
 ]
 
+-- over the sessions 1 to n
+abbrev pub sum_over : ℕ → (ℕ → ℕ) → ℕ
+sum_over ℕ.zero f = 0
+sum_over (ℕ.suc n) f = sum_over n f + f (ℕ.suc n)
+
 abbrev pub open_sizes : Schema → (ℕ → Option Open) → ℕ → ℕ
-open_sizes objects open_of ℕ.zero = 0
-open_sizes objects open_of (ℕ.suc n) = open_sizes objects open_of n + open_size objects (open_of (ℕ.suc n))
+open_sizes objects open_of n = sum_over n (λ session. open_size objects (open_of session))
 
 -- of the sessions 1 to 64, and of definitions with so many bytes
 abbrev pub history_size : Schema → List Entry → ℕ → (ℕ → Option Open) → ℕ
 history_size objects history definitions open_of =
     sum (map (size_of_entry objects) history) + definitions + open_sizes objects open_of 64
+
+-- the bytes of definitions with these texts
+abbrev pub definition_sizes : List (List ℕ) → ℕ
+definition_sizes texts = sum (map text_size texts)
 
 abbrev pub most_of_history : ℕ
 most_of_history = 268435456

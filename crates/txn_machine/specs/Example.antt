@@ -21,6 +21,7 @@ use Rattle.txn_machine.specs.Answers as answer
 use Rattle.txn_machine.specs.Answers.{Answer}
 use Rattle.txn_machine.specs.Deltas.{contribution, negated}
 use Rattle.txn_machine.specs.Store.{opened}
+use Rattle.txn_machine.specs.Log.{unlimited, Opening}
 use Rattle.txn_machine.specs.State.{State, opened_state}
 use Rattle.txn_machine.specs.Steps.{Did, Run, Step}
 use Rattle.txn_machine.specs.Laws.{IsOpened}
@@ -31,7 +32,7 @@ ShopOpened = IsOpened shop_database empty
 
 -- these steps may come one after another, from the shop as it is opened
 abbrev pub MayRun : List Did → Type 0
-MayRun steps = (after : State) × Run (opened_state (opened shop_database empty)) steps after
+MayRun steps = (after : State) × Run (opened_state unlimited (opened shop_database empty)) steps after
 
 -- ---- what sessions do
 
@@ -241,13 +242,35 @@ SnapshotIsKept = MayRun (around_snapshot (starts 3 5 (inserts 3 (sale_row 4 7 10
     did 2 (act.Peek 2 all_keys) (answer.Rows (shop_row 7 1 10 ∷ shop_row 9 1 4 ∷ [])) ∷ commits 2 3 (
     did 0 act.Prune answer.Pruned ∷ did 0 act.Clean (answer.Cleaned 1) ∷ takes_back 3 2 [])))))
 
+-- ---- a log that fills up
+
+-- a log area with room for one transaction
+abbrev pub small : Opening
+small = record unlimited { log_limit = Some 50 }
+
+abbrev pub small_state : State
+small_state = opened_state small (opened shop_database empty)
+
+-- The first begins, and the second is told what is used, what the first reserved, and what it would need; once the first has ended
+-- the second begins. A checkpoint leaves the log as it was opened.
+abbrev pub LogFillsUp : Type 0
+LogFillsUp = (after : State) × Run small_state (
+    did 1 (act.Begin Serial) (answer.Begun 2 2) ∷ did 2 (act.Begin Serial) (answer.Refused (refusal.LogFull 6 40 40)) ∷
+    did 1 act.End answer.Ended ∷ did 0 act.Checkpoint (answer.Saved 2) ∷ did 2 (act.Begin Serial) (answer.Begun 2 2) ∷ []) after
+
+-- A disk that fails a checkpoint stops the engine, which says so from then on.
+abbrev pub DiskFails : Type 0
+DiskFails = (after : State) × Run small_state (
+    did 0 act.Checkpoint (answer.Refused refusal.DiskFault) ∷ did 1 act.Defs (answer.Refused (refusal.Stopped 1)) ∷ did 0 act.Clean (answer.Refused (refusal.Stopped 1)) ∷ []) after
+
 -- ---- near misses
 
 abbrev pub Refuses : State → ℕ → Act → Answer → Type 0
 Refuses s session a said = (after : State) → Step s session a said after → ⊥
 
 -- At the opened state: Begin tells the number and the definitions as they are, and finds room; nobody commits who did not
--- begin; the catalog is told whole; there is nothing to clean; and the engine is not stopped.
+-- begin; the catalog is told whole; there is nothing to clean;
+-- the engine is not stopped; its log is never full; and a checkpoint tells the number.
 pub record NearMisses (s : State) : Type 0 where
   pub wrong_number : Refuses s 1 (act.Begin Serial) (answer.Begun 3 2)
   pub wrong_definitions : Refuses s 1 (act.Begin Serial) (answer.Begun 2 1)
@@ -256,13 +279,27 @@ pub record NearMisses (s : State) : Type 0 where
   pub no_catalog : Refuses s 1 act.Defs (answer.Defs [])
   pub no_ghost : Refuses s 0 act.Clean (answer.Cleaned 1)
   pub never_stopped : (step : ℕ) → Refuses s 1 act.Defs (answer.Refused (refusal.Stopped step))
+  pub full_log : (used reserved need : ℕ) → Refuses s 1 (act.Begin Serial) (answer.Refused (refusal.LogFull used reserved need))
+  pub wrong_save : Refuses s 0 act.Checkpoint (answer.Saved 3)
 
 abbrev pub MissesAtFirst : Type 0
-MissesAtFirst = NearMisses (opened_state (opened shop_database empty))
+MissesAtFirst = NearMisses (opened_state unlimited (opened shop_database empty))
+
+-- While one transaction is open there, a second one does not begin, nor is it told other numbers; and the disk can't fail where
+-- nothing is written.
+pub record MissesFull (s : State) : Type 0 where
+  pub no_room : (number defs : ℕ) → Refuses s 2 (act.Begin Serial) (answer.Begun number defs)
+  pub more_used : Refuses s 2 (act.Begin Serial) (answer.Refused (refusal.LogFull 7 40 40))
+  pub less_reserved : Refuses s 2 (act.Begin Serial) (answer.Refused (refusal.LogFull 6 0 40))
+  pub not_for_snapshots : (used reserved need : ℕ) → Refuses s 2 (act.Begin Snapshot) (answer.Refused (refusal.LogFull used reserved need))
+  pub nothing_written : Refuses s 1 act.Commit (answer.Refused refusal.DiskFault)
+
+abbrev pub FullMisses : Type 0
+FullMisses = (after : State) × Step small_state 1 (act.Begin Serial) (answer.Begun 2 2) after × MissesFull after
 
 -- steps lead to a state of which this holds
 abbrev pub Lead : List Did → (State → Type 0) → Type 0
-Lead steps P = (after : State) × Run (opened_state (opened shop_database empty)) steps after × P after
+Lead steps P = (after : State) × Run (opened_state unlimited (opened shop_database empty)) steps after × P after
 
 -- The first session owes a delta: it can't commit, nor add the delta to a row that is not stored, nor does the second see
 -- its sale.

@@ -36,10 +36,11 @@ use Rattle.txn_machine.specs.Locks.{Meet}
 use Rattle.txn_machine.specs.Waiting.{WaitsOn, IsRing}
 use Rattle.txn_machine.specs.Deltas.{RowChange, due, place_of}
 use Rattle.txn_machine.specs.Keeping.{KeptStep, increments}
-use Rattle.txn_machine.specs.Stored.{ViewRows, stored_number}
+use Rattle.txn_machine.specs.Stored.{ViewRows, stored_number, AreStored}
 use Rattle.txn_machine.specs.Fresh.{fresh}
 use Rattle.txn_machine.specs.Store.{Store, opened, committed, schema_of, now, changes_by, locks_of, deltas_above}
 use Rattle.txn_machine.specs.Ghosts.{Holds, MayReadIn, the_views, account_of, versions}
+use Rattle.txn_machine.specs.Log.{Opening}
 use Rattle.txn_machine.specs.State.{State, opened_state}
 use Rattle.txn_machine.specs.Steps.{Did, Run, Step}
 use Rattle.txn_machine.specs.ViewLaws.{AreSound, ViewLaws}
@@ -85,6 +86,7 @@ ReadableLaw = (db : Database) → AreSound db.schema db.rows → AreInRange db.s
 pub record IsOpened (db : Database) (view : ViewRows) : Type 0 where
   pub sound : AreSound db.schema db.rows
   pub rows : (place : Place) (column : ℕ) → stored_number view place column ≡ fresh db.schema db.rows place column
+  pub stored : AreStored db.schema view
   pub in_range : AreInRange db.schema db.rows
 
 -- a database that defines nothing is one
@@ -95,9 +97,10 @@ EmptyLaw = (number : ℕ) → IsOpened (record { number = number; schema = []; r
 pub record IsReached (s : State) : Type 0 where
   pub db : Database
   pub view : ViewRows
+  pub opening : Opening
   pub was_opened : IsOpened db view
   pub steps : List Did
-  pub run : Run (opened_state (opened db view)) steps s
+  pub run : Run (opened_state opening (opened db view)) steps s
 
 -- ---- what is committed
 
@@ -203,9 +206,10 @@ PartLaw = (s : State) (d : Did) (after : State) → Step s d.session d.act d.sai
 pub record IsReachedStory (story : Story) : Type 0 where
   pub db : Database
   pub view : ViewRows
+  pub opening : Opening
   pub was_opened : IsOpened db view
   pub steps : List Did
-  pub tells : Tells (begun_story (opened_state (opened db view))) steps story
+  pub tells : Tells (begun_story (opened_state opening (opened db view))) steps story
 
 -- A serial transaction that is open was told what it would have been told alone on the database that is committed now, and
 -- keeps what it would keep. This is so just before its commit, its end, each refusal, and where it never ends.

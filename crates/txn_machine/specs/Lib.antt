@@ -7,6 +7,8 @@ pub mod Stored
 pub mod Fresh
 pub mod Store
 pub mod Counts
+pub mod Records
+pub mod Log
 pub mod State
 pub mod Ghosts
 pub mod May
@@ -16,4 +18,6 @@ pub mod Entries
 pub mod ViewLaws
 pub mod Alone
 pub mod Laws
+pub mod KeptLaws
+pub mod LogLaws
 pub mod Example

@@ -96,6 +96,7 @@ MayAct s session act.Commit = IsReady s session Serial ⊎ IsReady s session Sna
 MayAct s session (act.Schema statement) = IsSession session × (s.open_of session ≡ None) × IsCreate statement × IsWritten statement
 MayAct s session act.Clean = session ≡ 0
 MayAct s session act.Prune = session ≡ 0
+MayAct s session act.Checkpoint = session ≡ 0
 MayAct s session act.Cancel = IsSession session
 
 -- who may ask for an act: the sessions, and for most acts the machine itself, which is session 0

@@ -2,12 +2,9 @@
 -- of its session; the effects change what is stored, and every answer is counted alike. Each answer of an act stands here
 -- with all that would come before it excluded, so that the order of answers can be read off.
 --
--- A log, data of limited size and a disk join this so: the state gets a part for each, beside the store; a step leaves them
--- to a record, a size and a call that are functions of the act, of the store before it and of its effects (a Ghost of a row
--- that is there has no effect, and what a CREATE records is its text); Begin, Put, Schema and Clean get an answer for each
--- limit, with the cause of its own and its exclusion as one more field of the answers that come later; and the step that a
--- disk fault stops is one that sets the stop. What is said here stays as it is.
-use Rattle.std.specs.Prelude.{◌≡◌, ◌≢◌, ◌⊎◌, ℕ, ◌+◌, ◌<◌, ◌≤◌, ℤ, List, [], ◌∷◌, length, Option, Some, None, IsSome, Ok, Err}
+-- The log and the limits are a layer over this: they are functions of the act, of its effects and of what was before, and where an
+-- opening has no limits no step is refused for them.
+use Rattle.std.specs.Prelude.{◌≡◌, ◌≢◌, ◌⊎◌, ℕ, ◌+◌, ◌<◌, ◌≤◌, ℤ, true, List, [], ◌∷◌, ◌++◌, length, Option, Some, None, IsSome, Ok, Err}
 use Rattle.std.specs.FinMap.{get}
 use Rattle.iv_types.specs.declared.statement.Mode.{Mode}
 use Rattle.iv_types.specs.declared.statement.Mode.TheVariants.{Serial, Snapshot}
@@ -21,6 +18,7 @@ use Rattle.iv_types.specs.declared.refusal.EngineRefusal.TheVariants as refusal
 use Rattle.iv_types.specs.Replies.{members}
 use Rattle.iv_types.specs.Intervals.{point}
 use Rattle.iv_types.specs.Syntax.{StatementTree}
+use Rattle.iv_types.specs.Printing.{statement_text}
 use Rattle.table_laws.specs.Place.{Place}
 use Rattle.iv_meaning.specs.Schema.{Schema, Object, table, view, numbered}
 use Rattle.iv_meaning.specs.Database.{Row, Database}
@@ -40,8 +38,10 @@ use Rattle.txn_machine.specs.Deltas.{RowChange, owed, columns_of, worth, place_o
 use Rattle.txn_machine.specs.Keeping.{KeptStep, Note, Open}
 use Rattle.txn_machine.specs.Stored.{ViewRows, Lists}
 use Rattle.txn_machine.specs.Store.{Store, committed, schema_of, now, changes_by, locks_of, change_at, Effect, Opens, Takes, Notes, Writes, Pays, Ghosts, Undoes, Loses, Ends, Commits, Defines, Cleans, Prunes, run}
-use Rattle.txn_machine.specs.Counts.{fetch_size, put_size, transaction_size, most_of_transaction, entry_size, kept_change_size, definition_size, history_size, most_of_history}
+use Rattle.txn_machine.specs.Counts.{fetch_size, put_size, transaction_size, most_of_transaction, entry_size, kept_change_size, definition_size, definition_sizes, history_size, most_of_history}
 use Rattle.txn_machine.specs.Ghosts.{the_views, account_of, IsCleanable, IsFirstCleanable}
+use Rattle.txn_machine.specs.Records.{Definition, group_bytes}
+use Rattle.txn_machine.specs.Log.{Log, Within, Above, appended, with_logged, log_all, record_of, end_bytes, block_bytes, reserved, carried, write_need, definition_need, data_bytes, change_need, object_need}
 use Rattle.txn_machine.specs.State.{State, Stop, counted, told_of_stop}
 use Rattle.txn_machine.specs.May.{May}
 
@@ -85,7 +85,7 @@ pub record IsTxnFull (s : Store) (session need kept : ℕ) : Type 0 where
   pub full : most_of_transaction < kept + need
 
 abbrev pub history_bytes : State → ℕ
-history_bytes s = history_size (schema_of s.store) s.store.history s.definitions s.store.open_of
+history_bytes s = history_size (schema_of s.store) s.store.history (definition_sizes s.definitions) s.store.open_of
 
 abbrev pub FitsHistory : State → ℕ → Type 0
 FitsHistory s need = history_bytes s + need ≤ most_of_history
@@ -94,9 +94,33 @@ pub record IsHistoryFull (s : State) (need kept : ℕ) : Type 0 where
   pub kept_is : kept ≡ history_bytes s
   pub full : most_of_history < kept + need
 
+-- in the log, beside what is used and what is reserved
+abbrev pub FitsLog : State → ℕ → Type 0
+FitsLog s need = Within s.opening.log_limit (s.log.used + reserved s.store s.log + need)
+
+pub record IsLogFull (s : State) (need used reserved_bytes : ℕ) : Type 0 where
+  pub used_is : used ≡ s.log.used
+  pub reserved_is : reserved_bytes ≡ reserved s.store s.log
+  pub full : Above s.opening.log_limit (used + reserved_bytes + need)
+
+-- the texts of all definitions
+abbrev pub texts_of : State → List (List ℕ)
+texts_of s = s.opening.definitions ++ s.definitions
+
+abbrev pub used_data : State → ℕ
+used_data s = data_bytes s.store s.log (texts_of s)
+
+-- in the data
+abbrev pub FitsData : State → ℕ → Type 0
+FitsData s need = Within s.opening.data_limit (used_data s + need)
+
+pub record IsDataFull (s : State) (need used : ℕ) : Type 0 where
+  pub used_is : used ≡ used_data s
+  pub full : Above s.opening.data_limit (used + need)
+
 -- a snapshot takes none
 abbrev pub MayBegin : State → Mode → Type 0
-MayBegin s Serial = FitsHistory s entry_size
+MayBegin s Serial = FitsLog s end_bytes × FitsHistory s entry_size
 MayBegin s Snapshot = Unit {0}
 
 -- ---- what is read
@@ -163,9 +187,19 @@ put_owed s c = owed (schema_of s) s.rows c
 abbrev pub put_need : Store → RowChange → ℕ
 put_need s c = put_size (schema_of s) c (put_owed s c)
 
+-- its record, and what it and its deltas reserve
+abbrev pub log_need : Store → RowChange → ℕ
+log_need s c = write_need (schema_of s) c (put_owed s c)
+
+-- what it enlarges, and the view rows of its deltas
+abbrev pub data_need : Store → RowChange → ℕ
+data_need s c = change_need (schema_of s) c (put_owed s c)
+
 pub record Puts (s : State) (session : ℕ) (c : RowChange) (wants : List Want) (before : Option Row) (deltas : List GroupDelta) (es : List Effect) : Type 0 where
   pub free : IsFree s.store session wants
   pub room : FitsTransaction s.store session (put_need s.store c)
+  pub log_room : FitsLog s (log_need s.store c)
+  pub data_room : FitsData s (data_need s.store c)
   pub history_room : FitsHistory s (kept_change_size (schema_of s.store) c)
   pub before_is : before ≡ c.before
   pub owed_is : deltas ≡ put_owed s.store c
@@ -176,9 +210,24 @@ pub record IsPutFull (s : State) (session : ℕ) (c : RowChange) (wants : List W
   pub need_is : need ≡ put_need s.store c
   pub full : IsTxnFull s.store session need kept
 
+pub record IsPutLogFull (s : State) (session : ℕ) (c : RowChange) (wants : List Want) (used reserved_bytes need : ℕ) : Type 0 where
+  pub free : IsFree s.store session wants
+  pub room : FitsTransaction s.store session (put_need s.store c)
+  pub need_is : need ≡ log_need s.store c
+  pub full : IsLogFull s need used reserved_bytes
+
+pub record IsPutDataFull (s : State) (session : ℕ) (c : RowChange) (wants : List Want) (used need : ℕ) : Type 0 where
+  pub free : IsFree s.store session wants
+  pub room : FitsTransaction s.store session (put_need s.store c)
+  pub log_room : FitsLog s (log_need s.store c)
+  pub need_is : need ≡ data_need s.store c
+  pub full : IsDataFull s need used
+
 pub record IsPutHistoryFull (s : State) (session : ℕ) (c : RowChange) (wants : List Want) (kept need : ℕ) : Type 0 where
   pub free : IsFree s.store session wants
   pub room : FitsTransaction s.store session (put_need s.store c)
+  pub log_room : FitsLog s (log_need s.store c)
+  pub data_room : FitsData s (data_need s.store c)
   pub need_is : need ≡ kept_change_size (schema_of s.store) c
   pub full : IsHistoryFull s need kept
 
@@ -249,11 +298,17 @@ pub record IsBusy (s : Store) (session : ℕ) : Type 0 where
 pub record Makes (s : Store) (statement : StatementTree) (object : Object) : Type 0 where
   pub bound : bind (schema_of s) statement ≡ Ok (create object)
 
+-- the entries that it makes
+abbrev pub made_need : Store → StatementTree → Object → ℕ
+made_need s statement object = object_need (schema_of s) (committed s).rows statement object
+
 pub record DefinesIt (s : State) (statement : StatementTree) (number : ℕ) (es : List Effect) : Type 0 where
   pub object : Object
   pub makes : Makes s.store statement object
   pub none_open : NoneIsOpen s.store
   pub accepted : (count : ℕ) × (kept : List Kept) × (bound_meaning (create object) (committed s.store) ≡ Accepted [] count kept)
+  pub log_room : FitsLog s (definition_need statement)
+  pub data_room : FitsData s (made_need s.store statement object)
   pub room : FitsHistory s (entry_size + definition_size statement)
   pub number_is : number ≡ (committed s.store).number + 1
   pub effects : es ≡ Defines object ∷ []
@@ -268,11 +323,30 @@ pub record IsSchemaBusy (s : Store) (statement : StatementTree) (busy : ℕ) : T
   pub makes : Makes s statement object
   pub least : IsBusy s busy
 
+pub record IsSchemaLogFull (s : State) (statement : StatementTree) (used reserved_bytes need : ℕ) : Type 0 where
+  pub object : Object
+  pub makes : Makes s.store statement object
+  pub none_open : NoneIsOpen s.store
+  pub accepted : (count : ℕ) × (kept : List Kept) × (bound_meaning (create object) (committed s.store) ≡ Accepted [] count kept)
+  pub need_is : need ≡ definition_need statement
+  pub full : IsLogFull s need used reserved_bytes
+
+pub record IsSchemaDataFull (s : State) (statement : StatementTree) (used need : ℕ) : Type 0 where
+  pub object : Object
+  pub makes : Makes s.store statement object
+  pub none_open : NoneIsOpen s.store
+  pub accepted : (count : ℕ) × (kept : List Kept) × (bound_meaning (create object) (committed s.store) ≡ Accepted [] count kept)
+  pub log_room : FitsLog s (definition_need statement)
+  pub need_is : need ≡ made_need s.store statement object
+  pub full : IsDataFull s need used
+
 pub record IsSchemaFull (s : State) (statement : StatementTree) (kept need : ℕ) : Type 0 where
   pub object : Object
   pub makes : Makes s.store statement object
   pub none_open : NoneIsOpen s.store
   pub accepted : (count : ℕ) × (kept : List Kept) × (bound_meaning (create object) (committed s.store) ≡ Accepted [] count kept)
+  pub log_room : FitsLog s (definition_need statement)
+  pub data_room : FitsData s (made_need s.store statement object)
   pub need_is : need ≡ entry_size + definition_size statement
   pub full : IsHistoryFull s need kept
 
@@ -309,7 +383,9 @@ Says s session a (answer.Refused (refusal.Deadlock cycle)) es =
     MayWait a × IsDeadlock (locks_of s.store) s.waiting session (asked s.store session a) (sessions_of cycle) × (es ≡ Loses ∷ [])
 Says s session a (answer.Refused refusal.NoMemory) es = TakesMemory a × (es ≡ [])
 Says s session (act.Begin mode) (answer.Begun number defs) es = Begins s mode number defs es
-Says s session (act.Begin mode) (answer.Refused (refusal.HistoryFull kept need)) es = (mode ≡ Serial) × (need ≡ entry_size) × IsHistoryFull s need kept × (es ≡ [])
+Says s session (act.Begin mode) (answer.Refused (refusal.LogFull used reserved_bytes need)) es = (es ≡ []) × (mode ≡ Serial) × (need ≡ end_bytes) × IsLogFull s need used reserved_bytes
+Says s session (act.Begin mode) (answer.Refused (refusal.HistoryFull kept need)) es =
+    (mode ≡ Serial) × (need ≡ entry_size) × IsHistoryFull s need kept × (es ≡ []) × FitsLog s end_bytes
 Says s session act.Defs (answer.Defs objects) es = (objects ≡ schema_of s.store) × (es ≡ [])
 Says s session (act.Fetch number interval mode) (answer.Rows rows) es = Fetches s session number interval (asked s.store session (act.Fetch number interval mode)) rows es
 Says s session (act.Fetch number interval mode) (answer.Refused (refusal.TxnFull kept need)) es =
@@ -319,6 +395,10 @@ Says s session (act.Put number key new) (answer.Changed before deltas) es =
     Puts s session (change_at s.store (number, key) new) (asked s.store session (act.Put number key new)) before deltas es
 Says s session (act.Put number key new) (answer.Refused (refusal.TxnFull kept need)) es =
     IsPutFull s session (change_at s.store (number, key) new) (asked s.store session (act.Put number key new)) kept need × (es ≡ [])
+Says s session (act.Put number key new) (answer.Refused (refusal.LogFull used reserved_bytes need)) es =
+    IsPutLogFull s session (change_at s.store (number, key) new) (asked s.store session (act.Put number key new)) used reserved_bytes need × (es ≡ [])
+Says s session (act.Put number key new) (answer.Refused (refusal.DataFull used need)) es =
+    IsPutDataFull s session (change_at s.store (number, key) new) (asked s.store session (act.Put number key new)) used need × (es ≡ [])
 Says s session (act.Put number key new) (answer.Refused (refusal.HistoryFull kept need)) es =
     IsPutHistoryFull s session (change_at s.store (number, key) new) (asked s.store session (act.Put number key new)) kept need × (es ≡ [])
 Says s session act.Pay (answer.Paid left) es = PaysOne s.store session (asked s.store session act.Pay) left es
@@ -328,13 +408,22 @@ Says s session act.Ghost answer.Ghosted es = MakesGhost s.store session es
 Says s session act.UndoOne (answer.Undone left) es = TakesBack s.store session left es
 Says s session act.End answer.Ended es = es ≡ Ends ∷ []
 Says s session act.Commit (answer.Committed number) es = CommitsAs s.store session (changes_by s.store session) number es
+-- a commit of changes is flushed, which the disk may fail to do
+Says s session act.Commit (answer.Refused refusal.DiskFault) es = (es ≡ []) × (changes_by s.store session ≢ [])
 Says s session (act.Schema statement) (answer.Committed number) es = DefinesIt s statement number es
 Says s session (act.Schema statement) (answer.Denied why) es = IsDenied s.store statement why × (es ≡ [])
 Says s session (act.Schema statement) (answer.Refused (refusal.SchemaBusy busy)) es = IsSchemaBusy s.store statement busy × (es ≡ [])
+Says s session (act.Schema statement) (answer.Refused (refusal.LogFull used reserved_bytes need)) es = IsSchemaLogFull s statement used reserved_bytes need × (es ≡ [])
+Says s session (act.Schema statement) (answer.Refused (refusal.DataFull used need)) es = IsSchemaDataFull s statement used need × (es ≡ [])
 Says s session (act.Schema statement) (answer.Refused (refusal.HistoryFull kept need)) es = IsSchemaFull s statement kept need × (es ≡ [])
+Says s session (act.Schema statement) (answer.Refused refusal.DiskFault) es = (es ≡ []) × (number : ℕ) × (would : List Effect) × DefinesIt s statement number would
 Says s session act.Clean (answer.Cleaned ℕ.zero) es = ((place : Place) → IsCleanable s.store place → ⊥) × (es ≡ [])
-Says s session act.Clean (answer.Cleaned (ℕ.suc ℕ.zero)) es = (place : Place) × IsFirstCleanable s.store place × (es ≡ Cleans place ∷ [])
+Says s session act.Clean (answer.Cleaned (ℕ.suc ℕ.zero)) es = (place : Place) × IsFirstCleanable s.store place × (es ≡ Cleans place ∷ []) × FitsLog s (group_bytes place)
+Says s session act.Clean (answer.Refused (refusal.LogFull used reserved_bytes need)) es =
+    (es ≡ []) × (place : Place) × IsFirstCleanable s.store place × (need ≡ group_bytes place) × IsLogFull s need used reserved_bytes
 Says s session act.Prune answer.Pruned es = es ≡ Prunes ∷ []
+Says s session act.Checkpoint (answer.Saved number) es = (es ≡ []) × (number ≡ (committed s.store).number)
+Says s session act.Checkpoint (answer.Refused refusal.DiskFault) es = es ≡ []
 Says s session act.Cancel answer.Cancelled es = es ≡ []
 Says s session _ _ es = ⊥
 
@@ -343,10 +432,24 @@ abbrev pub waits_after : Store → ℕ → Act → Answer → List Want
 waits_after s session a (answer.Blocked sessions) = asked s session a
 waits_after s session a _ = []
 
--- the bytes of the definitions in the history
-abbrev pub definitions_after : ℕ → Act → Answer → ℕ
-definitions_after bytes (act.Schema statement) (answer.Committed number) = bytes + definition_size statement
-definitions_after bytes _ _ = bytes
+-- the texts of the definitions in the history
+abbrev pub definitions_after : List (List ℕ) → Act → Answer → List (List ℕ)
+definitions_after texts (act.Schema statement) (answer.Committed number) = texts ++ statement_text statement ∷ []
+definitions_after texts _ _ = texts
+
+-- the first owed delta had its Ghost
+abbrev pub with_ghost : Log → ℕ → Log
+with_ghost l session = with_logged l session (record (l.logged session) { ghosted = true })
+
+-- The log after a step. A Ghost counts also where the row is there. A checkpoint leaves an empty log but for what it carries. Where
+-- the disk failed to flush a commit or a definition, its record waits.
+abbrev pub log_after : State → ℕ → Act → Answer → List Effect → Log
+log_after s session act.Ghost answer.Ghosted es = with_ghost (log_all s.store session act.Ghost es s.log) session
+log_after s session act.Checkpoint (answer.Saved number) es = record s.log { used = block_bytes + 1 + carried s.store }
+log_after s session act.Commit (answer.Refused refusal.DiskFault) es = appended (schema_of s.store) (record_of s.store session act.Commit s.log Commits) s.log
+log_after s session (act.Schema statement) (answer.Refused refusal.DiskFault) es =
+    appended (schema_of s.store) (Some (Definition ((committed s.store).number + 1) session (statement_text statement))) s.log
+log_after s session a said es = log_all s.store session a es s.log
 
 -- the step of an engine that is not stopped
 pub record Does (s : State) (session : ℕ) (a : Act) (said : Answer) (after : State) : Type 0 where
@@ -354,6 +457,7 @@ pub record Does (s : State) (session : ℕ) (a : Act) (said : Answer) (after : S
   pub effects : List Effect
   pub says : Says s session a said effects
   pub left : after ≡ counted s session a said (run the_views s.store session effects) (waits_after s.store session a said) (definitions_after s.definitions a said)
+      (log_after s session a said effects)
 
 -- the step of an engine that is
 pub record IsTold (s : State) (session : ℕ) (said : Answer) (after : State) : Type 0 where

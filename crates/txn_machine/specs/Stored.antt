@@ -11,7 +11,8 @@ use Rattle.iv_types.specs.declared.lock.GroupDelta.{GroupDelta}
 use Rattle.iv_types.specs.Encoding.{FitAll, key_bytes}
 use Rattle.table_laws.specs.Place.{Place, place_cmp}
 use Rattle.table_laws.specs.Table.{write, rows_where}
-use Rattle.iv_meaning.specs.Schema.{Schema, ViewTree, group_kinds}
+use Rattle.iv_meaning.specs.Schema as object
+use Rattle.iv_meaning.specs.Schema.{Schema, ViewTree, numbered, group_kinds}
 use Rattle.iv_meaning.specs.Database.{Row}
 use Rattle.iv_meaning.specs.View.{lies_in}
 use Rattle.txn_machine.specs.Deltas.{columns_of, place_of}
@@ -41,6 +42,20 @@ add_all view (d ∷ ds) = add_all (add_to view d) ds
 abbrev pub zeros : ℕ → List ℤ
 zeros zero = []
 zeros (suc columns) = pos 0 ∷ zeros columns
+
+-- ---- the shape of stored rows
+
+-- a row of a view of the schema: under the key of a group, with a count and a number for each sum
+pub record IsStoredRow (objects : Schema) (place : Place) (numbers : List ℤ) : Type 0 where
+  pub of : ViewTree
+  pub view_is : numbered objects place.0 ≡ Some (object.view of)
+  pub group : Row
+  pub fits : FitAll (group_kinds objects of) group
+  pub key : place.1 ≡ key_bytes (group_kinds objects of) group
+  pub width : length numbers ≡ suc (length of.sums)
+
+abbrev pub AreStored : Schema → ViewRows → Type 0
+AreStored objects stored = (place : Place) (numbers : List ℤ) → get stored place ≡ Some numbers → IsStoredRow objects place numbers
 
 -- ---- what a view shows
 

@@ -1,5 +1,5 @@
 //! Runs that the machine allows, and answers that it does not.
-ghost use Rattle.txn_machine.specs.Example.{BothCommit, DeletedComesBack, InsertRuns, LaterMisses, MissesAtFirst, OneRollsBack, RingIsRefused, ShopOpened, SnapshotIsKept, UndoIsCovered};
+ghost use Rattle.txn_machine.specs.Example.{DiskFails, FullMisses, LogFillsUp, BothCommit, DeletedComesBack, InsertRuns, LaterMisses, MissesAtFirst, OneRollsBack, RingIsRefused, ShopOpened, SnapshotIsKept, UndoIsCovered};
 
 /// The example's database is one to begin from, so that the laws hold of its runs.
 pub fn shop_opened()
@@ -49,4 +49,19 @@ pub fn misses_at_first()
 /// Answers that later states refuse.
 pub fn later_misses()
     ensures { LaterMisses }
+{}
+
+/// A log area with room for one transaction: who begins, who is refused, and what a checkpoint leaves.
+pub fn log_fills_up()
+    ensures { LogFillsUp }
+{}
+
+/// A disk that fails a checkpoint stops the engine.
+pub fn disk_fails()
+    ensures { DiskFails }
+{}
+
+/// Answers that are refused while the log is full.
+pub fn full_misses()
+    ensures { FullMisses }
 {}

@@ -2,5 +2,6 @@
 #![tactic(auto)]
 
 pub mod example;
+pub mod kept;
 pub mod steps;
 pub mod views;

@@ -2,7 +2,7 @@
 use iv_types::{Refusal, Statement};
 
 /// What a line asks for, with the session's number where it is a session's line.
-#[derive(Debug, Drop)]
+#[derive(Drop)]
 pub enum Request {
     /// Nothing: the line is empty or begins with `#`.
     Nothing,

@@ -2,7 +2,7 @@
 use iv_types::{Bytes, NumberList, Sequence};
 
 /// One record of the log. A key, a group, a row and a text are bytes as they are stored.
-#[derive(Debug, Drop)]
+#[derive(Drop)]
 pub enum Record {
     /// A transaction set the row of a key of a table. `None` is no row.
     Write {
@@ -55,7 +55,7 @@ pub enum Record {
 
 /// A record as it was read: where its first byte stands, where the byte after it stands, both counted from 0, and its
 /// number.
-#[derive(Debug, Drop)]
+#[derive(Drop)]
 pub struct Scanned {
     pub place: u64,
     pub end: u64,

@@ -9,5 +9,5 @@ use Rattle.latch_runs.proofs.pair.add_one.Goals as goal
 pub returns-in-Ok-clause-added : goal.returns-in-Ok-clause-added
 returns-in-Ok-clause-added g c = let t = c.in-Ok.ensures.turn in let n : ℕ = c.loop.seat.pass.me.0.number in let inv = c.loop.invariant in
     let m : c.number-number.result ≡ n = c.number-number.ensures ∙ sym inv.number in
-    let h = one_added n c.number-number.result c.args.amount (seen_of history c.loop.seat.pass.me.0.seen) t.0.entries.items t.1.entries.items c.in-Ok.answer t.2.mine m t.3 in
-    subst (λ (p : ℕ × List Entry × List Entry). OnOk c.in-Ok.answer (of by p.0 p.1 ≡ of by p.0 p.2 ++ entry p.0 c.args.amount ∷ [])) (λ i. (inv.number i, seen_of history (sym (ap (λ v. v.seen) t.5) i), seen_of history (inv.seen i))) h
+    let h = one_added n c.number-number.result c.args.amount (seen_of history c.loop.seat.pass.me.0.seen) t.found.entries.items t.left.entries.items c.in-Ok.answer t.fits.mine m t.done in
+    subst (λ (p : ℕ × List Entry × List Entry). OnOk c.in-Ok.answer (of by p.0 p.1 ≡ of by p.0 p.2 ++ entry p.0 c.args.amount ∷ [])) (λ i. (inv.number i, seen_of history (sym (ap (λ v. v.seen) t.knows) i), seen_of history (inv.seen i))) h

@@ -6,17 +6,14 @@ use Rattle.iv_types.proofs.Catalogs.{kept_more, added, values_added}
 use Rattle.iv_types.proofs.catalog.Catalog.add.Goals as goal
 
 -- the entries after the insertion
-copied : (c : goal.Joined-branch-3) → c.in_ok-name.name.items ≡ name_of c.args.definition
-copied c = c.in_ok-name.ensures.items_if_clones_equal (λ x y same. same) ∙ c.as_slice.ensures ∙ c.name.ensures
+entries_are : (c : goal.After-let_go_replaced) → c.insert.new.self.entries ≡ c.self.inside.named.entries ++ (c.in-Ok.name, c.args.definition) ∷ []
+entries_are c = c.in_ok-replaced-in-Ok.ensures.entries ∙ added c.self.inside.named c.in-Ok.name c.args.definition c.self.invariant c.in-Ok.ensures (ap (λ v. named v (name_of c.args.definition)) c.self.view_is ∙ c.requires.name)
 
-entries_are : (c : goal.Joined-branch-3) → c.insert.new.self.entries ≡ c.self.inside.named.entries ++ (c.in_ok-name.name, c.args.definition) ∷ []
-entries_are c = c.in_ok-insert.ensures.entries ∙ added c.self.inside.named c.in_ok-name.name c.args.definition c.self.invariant (copied c) (ap (λ v. named v (name_of c.args.definition)) c.self.view_is ∙ c.requires.name)
+-- src/catalog.rt:169:17
+pub invariant_of-self-in-Ok : goal.invariant_of-self-in-Ok
+invariant_of-self-in-Ok c = subst (AreKept 0) (sym (entries_are c)) (kept_more 0 c.self.inside.named.entries c.in-Ok.name c.args.definition c.self.invariant c.in-Ok.ensures (c.requires.number ∙ ap (λ v. length v + 1) (sym c.self.view_is) ∙ ap (λ n. n + 1) (length-map c.self.inside.named.entries (λ e. e.1)) ∙ omega arith))
 
--- src/catalog.rt:148:5
-pub invariant_of-self-2 : goal.invariant_of-self-2
-invariant_of-self-2 c = subst (AreKept 0) (sym (entries_are c)) (kept_more 0 c.self.inside.named.entries c.in_ok-name.name c.args.definition c.self.invariant (copied c) (c.requires.number ∙ ap (λ v. length v + 1) (sym c.self.view_is) ∙ ap (λ n. n + 1) (length-map c.self.inside.named.entries (λ e. e.1)) ∙ omega arith))
-
--- src/catalog.rt:148:5
-pub returns-clause-ok : goal.returns-clause-ok
-returns-clause-ok c =
-    ap values_of (entries_are c) ∙ values_added c.self.inside.named.entries c.in_ok-name.name c.args.definition ∙ ap (λ v. v ++ c.args.definition ∷ []) c.self.view_is
+-- src/catalog.rt:159:5
+pub returns-in_ok-replaced-in-Ok-clause-ok : goal.returns-in_ok-replaced-in-Ok-clause-ok
+returns-in_ok-replaced-in-Ok-clause-ok c =
+    ap values_of (entries_are c) ∙ values_added c.self.inside.named.entries c.in-Ok.name c.args.definition ∙ ap (λ v. v ++ c.args.definition ∷ []) c.self.view_is

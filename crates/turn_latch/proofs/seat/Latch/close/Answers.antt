@@ -1,12 +1,12 @@
 use Rattle.std.proofs.Common.{◌≡◌, ◌⊎◌, [], ◌∷◌, ◌++◌, map, All, Contains, Some, arith, sym, ap, subst, ◌∙◌, refl, inl}
 use mathlib.Core.List.{map-append}
 use Rattle.std.proofs.lemmas.Option.{none-some}
-use Rattle.std.proofs.lemmas.List.Elements.{All-pop, All-push}
+use Rattle.std.proofs.lemmas.List.Elements.{All-pop, All-push, All-cons, All-map}
 use Rattle.turn_latch.specs.Views.{retired_of}
-use Rattle.turn_latch.specs.Latched.{Ends}
+use Rattle.turn_latch.specs.Exchanges.{Saw}
 use Rattle.turn_latch.proofs.Seats.{retires}
 use Rattle.turn_latch.proofs.Histories.{no_items}
-use Rattle.turn_latch.proofs.Closing.{InRetired, AllFit, moves_over, fit_before, fit_last, closes, none_left, all_none, found_first}
+use Rattle.turn_latch.proofs.Closing.{InRetired, AllFit, moves_over, fit_before, fit_last, closes, none_left, all_none, found_first, EndsIn}
 use Rattle.turn_latch.proofs.seat.Latch.close.Goals as goal
 
 pub loop-seat-init : goal.loop-seat-init
@@ -15,7 +15,7 @@ loop-seat-init g c = record {
   view = λ i. (c.args.first.pass.me.0, c.args.first.free.3 i);
   tables = c.requires.latch.1;
   each = λ n pos le. inl (c.requires.each n pos le);
-  ends = λ x all fits. all;
+  ends = λ x log all fits. all;
 }
 
 pub join_seat-requires : goal.join_seat-requires
@@ -38,10 +38,10 @@ loop-seat-preserved g c = let inv = c.loop-seat.invariant in let seat = c.in-Som
       each = λ n pos le. subst (λ z. Contains (map (λ s. s.pass.me.0.number) c.pop.new.self.items) n ⊎ InRetired n z) (sym dd)
           (moves_over n (map (λ s. s.pass.me.0.number) c.pop.new.self.items) w d
           (subst (λ z. Contains z n ⊎ InRetired n d) (ap (map (λ s. s.pass.me.0.number)) items ∙ map-append (λ s. s.pass.me.0.number) c.pop.new.self.items (seat ∷ [])) (inv.each n pos le)));
-      ends = λ x all fits. let fits' = subst (AllFit g.T.Parted.history g.T.Parted.by g.T.Parted.part x) dd fits in
-          inv.ends x
-          (subst (All (λ s. Ends g.T.Parted.history g.T.Parted.by g.T.Parted.part x s.pass.me.0)) (sym items) (All-push (λ s. Ends g.T.Parted.history g.T.Parted.by g.T.Parted.part x s.pass.me.0) c.pop.new.self.items seat all (fit_last g.T.Parted.history g.T.Parted.by g.T.Parted.part x w d fits')))
-          (fit_before g.T.Parted.history g.T.Parted.by g.T.Parted.part x w d fits');
+      ends = λ x log all fits. let fits' = subst (AllFit g.T.Parted.history g.T.Parted.by g.T.Parted.part x log) dd fits in
+          inv.ends x log
+          (subst (All (λ s. EndsIn g.T.Parted.history g.T.Parted.by g.T.Parted.part x log s.pass.me.0)) (sym items) (All-push (λ s. EndsIn g.T.Parted.history g.T.Parted.by g.T.Parted.part x log s.pass.me.0) c.pop.new.self.items seat all (fit_last g.T.Parted.history g.T.Parted.by g.T.Parted.part x log w d fits')))
+          (fit_before g.T.Parted.history g.T.Parted.by g.T.Parted.part x log w d fits');
     }
 
 pub unreachable-requires : goal.unreachable-requires
@@ -50,7 +50,7 @@ unreachable-requires g c = let inv = c.loop-seat.invariant in let req = c.requir
     let made = ap (λ m. m.0.made) inv.view in
     let f = closes g.T.Parted.history g.T.Parted.by g.T.Parted.part c.loop-seat.pass.id c.loop-seat.pass.me.0 _ _ c.take.result (ap (λ m. m.0.numbered) inv.view ∙ c.args.first.free.0) (ap (λ m. m.0.number) inv.view ∙ req.first) (ap (λ m. m.0.held) inv.view ∙ c.args.first.free.1)
     (λ n pos le. none_left (λ s. s.pass.me.0.number) c.loop-seat.seats.items n c.loop-seat.pass.me.0.retired empty (inv.each n pos (omega (arith, le, made)))) c.take.ensures.value c.close_with-closed.ensures.values.2 in
-    none-some f.0 (sym c.in_default-take.is ∙ f.1)
+    none-some f.0 (sym c.in_default-take.is ∙ f.2)
 
 pub returns : goal.returns
 returns g c = let inv = c.loop-seat.invariant in let req = c.requires in
@@ -58,9 +58,12 @@ returns g c = let inv = c.loop-seat.invariant in let req = c.requires in
     let made = ap (λ m. m.0.made) inv.view in
     let f = closes g.T.Parted.history g.T.Parted.by g.T.Parted.part c.loop-seat.pass.id c.loop-seat.pass.me.0 _ _ c.take.result (ap (λ m. m.0.numbered) inv.view ∙ c.args.first.free.0) (ap (λ m. m.0.number) inv.view ∙ req.first) (ap (λ m. m.0.held) inv.view ∙ c.args.first.free.1)
     (λ n pos le. none_left (λ s. s.pass.me.0.number) c.loop-seat.seats.items n c.loop-seat.pass.me.0.retired empty (inv.each n pos (omega (arith, le, made)))) c.take.ensures.value c.close_with-closed.ensures.values.2 in
-    let all = found_first g.T.Parted.history g.T.Parted.by g.T.Parted.part c.loop-seat.pass.me c.args.first.pass.me [] c.take.result c.in-Some-take.value inv.view c.in-Some-take.is f in record {
-      first = all.0;
-      seats = inv.ends c.in-Some-take.value (all_none (λ s. Ends g.T.Parted.history g.T.Parted.by g.T.Parted.part c.in-Some-take.value s.pass.me.0) c.loop-seat.seats.items empty) all.1;
-      rest = all.2;
-      short = all.3;
+    let all = found_first g.T.Parted.history g.T.Parted.by g.T.Parted.part c.loop-seat.pass.me c.args.first.pass.me c.take.result c.in-Some-take.value inv.view c.in-Some-take.is f in
+    let x = c.in-Some-take.value in let log = all.0 in
+    let each = inv.ends x log (all_none (λ s. EndsIn g.T.Parted.history g.T.Parted.by g.T.Parted.part x log s.pass.me.0) c.loop-seat.seats.items empty) all.1.1 in record {
+      first = all.1.0.0;
+      seats = λ k d lt. (each k d lt).0;
+      rest = all.1.2;
+      exchanges = (log, all.1.4, All-cons (λ v. Saw log v.number v.log) c.args.first.pass.me.0 (map (λ s. s.pass.me.0) c.args.seats.seats.items) all.1.0.1 (All-map (λ v. Saw log v.number v.log) (λ s. s.pass.me.0) c.args.seats.seats.items (λ k d lt. (each k d lt).1)), all.1.5);
+      short = all.1.3;
     }
