@@ -1,12 +1,1 @@
-pub mod Apart
-pub mod Ladder
-pub mod Lists
-pub mod Whole
-pub mod Counting
-pub mod Larger
-pub mod Grown
-pub mod Steps
-pub mod Holes
-pub mod Rounds
-pub mod Forward
 pub mod Lines

@@ -17,11 +17,11 @@ use Rattle.iv_types.specs.Grammar.{ALine, Spells}
 use Rattle.iv_types.specs.Refusing.{GoesWrong, Refuses}
 use Rattle.sql_tokens.specs.declared.token.Token.{Token}
 use Rattle.sql_tokens.specs.View.{placed, symbol_at, symbols_at}
-use Rattle.sql_parse.specs.Statements.{line, whole_line}
+use Rattle.sql_readers.specs.Statements.{line, whole_line}
 use Rattle.sql_parse.specs.Parsing.{refusal_by, refusal_of}
-use Rattle.sql_parse.proofs.Whole.{on_line, line-exact}
-use Rattle.sql_parse.proofs.Larger.{Raised}
-use Rattle.sql_parse.proofs.Grown.{family}
+use Rattle.sql_readers.proofs.Whole.{on_line, line-exact}
+use Rattle.sql_readers.proofs.Larger.{Raised}
+use Rattle.sql_readers.proofs.Grown.{family}
 
 symbols_placed : (text : List ℕ) (ts : List Token) → symbols (map (placed text) ts) ≡ symbols_at text ts
 symbols_placed text [] = refl

@@ -1,5 +1,1 @@
-pub mod Ladder
-pub mod Statements
-pub mod Levels
-pub mod Passing
 pub mod Parsing

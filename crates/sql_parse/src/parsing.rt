@@ -1,70 +1,19 @@
-//! Statements, and texts that are statements.
-ghost use Rattle.std.specs.Prelude.{◌≡◌, ◌<◌, ◌≤◌, ◌⊎◌, ℕ, List, pos, length, map, IfOk, IfErr};
-ghost use Rattle.text_grammar.specs.Readers.{Gives};
+//! Texts that are statements.
+ghost use Rattle.std.specs.Prelude.{◌≡◌, ◌⊎◌, ℕ, List, pos, map, IfOk, IfErr};
 ghost use Rattle.iv_types.specs.declared.refusal.Refusal.TheVariants as refusal;
 ghost use Rattle.iv_types.specs.Tokens.{place_of_last};
-ghost use Rattle.iv_types.specs.Limits.{the_limits, most_of};
+ghost use Rattle.iv_types.specs.Limits.{most_of};
 ghost use Rattle.iv_types.specs.Syntax.{StatementTree, statement_tree};
 ghost use Rattle.iv_types.specs.Grammar.{Spells};
 ghost use Rattle.iv_types.specs.Refusing.{Refuses};
-ghost use Rattle.sql_tokens.specs.View.{placed, symbols_at};
-ghost use Rattle.sql_parse.specs.Statements.{statement, line, whole_line};
+ghost use Rattle.sql_tokens.specs.View.{placed};
 ghost use Rattle.sql_parse.specs.Parsing.{Answers, refusal_of};
 
-use crate::change_statements::{control_of, deletion_of, insertion_of, update_of};
-use crate::creating::creation_of;
-use crate::cursor::Cursor;
-use crate::selecting::selection_of;
-use iv_types::{Refusal, Statement, Terminal};
+use iv_types::{Refusal, Statement};
+use sql_readers::read_statement;
 use sql_tokens::{Token, split};
 use std::alloc::Global;
 use text_grammar::{Cause, Fault, ParseError};
-
-#[tactic(auto, unfolding(crate::specs::Statements::statement))]
-fn statement_of(alloc: Global, cursor: &mut Cursor) -> Result<Statement, ParseError>
-    ensures reads { Gives (λ x. (statement_tree x, cursor.new)) result (statement the_limits cursor.old) }
-    ensures shorter { IfOk result (λ _. length cursor.new < length cursor.old) }
-{
-    if cursor.begins(Terminal::Create) {
-        return creation_of(alloc, cursor);
-    }
-    if cursor.begins(Terminal::Insert) {
-        return insertion_of(alloc, cursor);
-    }
-    if cursor.begins(Terminal::Update) {
-        return update_of(alloc, cursor);
-    }
-    if cursor.begins(Terminal::Delete) {
-        return deletion_of(alloc, cursor);
-    }
-    if cursor.begins(Terminal::Select) {
-        return selection_of(alloc, cursor);
-    }
-    control_of(alloc, cursor)
-}
-
-// A statement, perhaps with a semicolon behind it.
-#[tactic(auto, unfolding(crate::specs::Statements::line))]
-fn line_of(alloc: Global, cursor: &mut Cursor) -> Result<Statement, ParseError>
-    ensures reads { Gives (λ x. (statement_tree x, cursor.new)) result (line the_limits cursor.old) }
-{
-    let statement = statement_of(alloc, cursor)?;
-    cursor.skip(Terminal::Semicolon);
-    Ok(statement)
-}
-
-// The statement that all tokens of a text spell.
-#[tactic(auto, unfolding(crate::specs::Statements::whole_line))]
-fn whole_of(alloc: Global, text: &[u8], tokens: &[Token]) -> Result<Statement, ParseError>
-    ensures { Gives statement_tree result (whole_line the_limits (symbols_at text.now tokens.now)) }
-{
-    let mut cursor = Cursor::new(text, tokens);
-    let statement = line_of(alloc, &mut cursor)?;
-    if !cursor.is_at_end() {
-        return Err(cursor.fault(Cause::Syntax));
-    }
-    Ok(statement)
-}
 
 // Where the last so many tokens begin, which is the end of the text where there are none.
 fn place_of(tokens: &[Token], left: usize, end: usize) -> u64
@@ -128,7 +77,7 @@ pub fn parse(alloc: Global, text: &str) -> Result<Statement, Refusal>
     let Ok(tokens) = split(alloc, bytes) else {
         return Err(Refusal::NoMemory);
     };
-    match whole_of(alloc, bytes, &tokens) {
+    match read_statement(alloc, bytes, &tokens) {
         Ok(statement) => Ok(statement),
         Err(ParseError::Memory) => Err(Refusal::NoMemory),
         Err(ParseError::Fault(fault)) => Err(refusal_of(fault, &tokens, bytes.len())),

@@ -1,5 +1,5 @@
 -- What holds of the store that is opened and is kept by each effect holds in every state that steps lead to.
-use Rattle.std.specs.Prelude.{◌≡◌, ℕ, List, [], ◌∷◌}
+use Rattle.std.specs.Prelude.{ℕ, List, [], ◌∷◌}
 use mathlib.Core.Path.{sym, subst}
 use mathlib.Core.Logic.{inl, inr}
 use Rattle.txn_machine.specs.Acts.{Act}
@@ -7,7 +7,7 @@ use Rattle.txn_machine.specs.Answers.{Answer}
 use Rattle.txn_machine.specs.Fresh.{fresh}
 use Rattle.txn_machine.specs.Ghosts.{the_views}
 use Rattle.txn_machine.specs.Store.{Store, opened, Effect, does, run}
-use Rattle.txn_machine.specs.State.{State, opened_state}
+use Rattle.txn_machine.specs.State.{State}
 use Rattle.txn_machine.specs.Steps.{Step, Did, Run}
 use Rattle.txn_machine.specs.Laws.{IsReached}
 use Rattle.txn_machine.proofs.Runs.{CanAll, keeps, opened_good}

@@ -1,10 +1,8 @@
 -- A log that fills up, and a disk that fails.
-use Rattle.std.specs.Prelude.{◌≡◌, ◌≢◌, ◌⊎◌, ℕ, ◌+◌, ◌≤◌, List, [], ◌∷◌, Option, Some, None}
-use Rattle.std.specs.FinMap.{empty}
+use Rattle.std.specs.Prelude.{◌≡◌, ℕ, ◌≤◌, List, [], ◌∷◌, Some, None}
 use mathlib.Core.Path.{refl, sym}
 use mathlib.Core.Logic.{inl, inr}
 use Rattle.std.proofs.Common.{arith}
-use Rattle.std.proofs.lemmas.Option.{none-some}
 use Rattle.iv_types.specs.declared.statement.Mode.TheVariants.{Serial, Snapshot}
 use Rattle.iv_types.specs.declared.refusal.EngineRefusal.TheVariants as refusal
 use Rattle.iv_meaning.specs.Escrow.{IsSession}
@@ -19,7 +17,7 @@ use Rattle.txn_machine.specs.Ghosts.{the_views}
 use Rattle.txn_machine.specs.State.{State, Stop, counted, told_of_stop}
 use Rattle.txn_machine.specs.May.{MayAct, May}
 use Rattle.txn_machine.specs.Steps.{Says, Step, waits_after, definitions_after, log_after, history_bytes}
-use Rattle.txn_machine.specs.Example.{small_state, LogFillsUp, DiskFails, MissesFull, FullMisses}
+use Rattle.txn_machine.specs.Example.{small_state, LogFillsUp, DiskFails, FullMisses}
 use Rattle.txn_machine.proofs.Missing.{refuses}
 use Rattle.txn_machine.proofs.MovesAlone.{asks}
 

@@ -1,5 +1,5 @@
 -- How many entries steps make, and how many steps there are.
-use Rattle.std.specs.Prelude.{◌≡◌, ◌≢◌, ◌⊎◌, ℕ, zero, suc, ◌+◌, ◌<◌, ◌≤◌, ◌==◌, cond, Bool, true, false, List, [], ◌∷◌, ◌++◌, length, Option, Some, None}
+use Rattle.std.specs.Prelude.{◌≡◌, ◌⊎◌, ℕ, zero, suc, ◌+◌, ◌<◌, ◌≤◌, ◌==◌, cond, Bool, true, false, List, [], ◌∷◌, ◌++◌, length, Option, Some, None}
 use mathlib.Core.Path.{refl, sym, ap, subst, ◌∙◌}
 use mathlib.Core.Logic.{inl, inr}
 use Rattle.std.proofs.Common.{arith}
@@ -8,7 +8,6 @@ use Rattle.std.proofs.lemmas.Option.{none-some}
 use Rattle.std.proofs.lemmas.List.{length-append}
 use Rattle.iv_types.specs.declared.lock.GroupDelta.{GroupDelta}
 use Rattle.iv_types.specs.declared.refusal.EngineRefusal.TheVariants as refusal
-use Rattle.iv_meaning.specs.Schema.{Object}
 use Rattle.iv_meaning.specs.Statement.{Kept, defines}
 use Rattle.iv_meaning.specs.History.{Entry}
 use Rattle.txn_machine.specs.Acts as act
@@ -21,7 +20,6 @@ use Rattle.txn_machine.specs.Ghosts.{the_views}
 use Rattle.txn_machine.specs.Store.{Store, committed, now, changes_by, paid_first, undone, entry_changes, Effect, Opens, Takes, Notes, Writes, Pays, Ghosts, Undoes, Loses, Ends, Commits, Defines, Cleans, Prunes, does, run}
 use Rattle.txn_machine.specs.State.{State, Stop, is_fault, stop_after, most_steps}
 use Rattle.txn_machine.specs.Steps.{CommitsAs, Says, Step, Did, Run}
-use Rattle.txn_machine.specs.Laws.{IsReached}
 use Rattle.txn_machine.specs.KeptLaws.{EntryLaw, LengthLaw}
 
 -- effects that make no entry

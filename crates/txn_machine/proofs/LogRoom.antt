@@ -1,11 +1,9 @@
 -- The log's room: each effect uses no more than it releases, or what was asked for before.
-use Rattle.std.specs.Prelude.{◌≡◌, ◌≢◌, ◌⊎◌, ℕ, ◌+◌, ◌*◌, ◌≤◌, Bool, true, false, List, [], ◌∷◌, ◌++◌, map, length, drop, Option, Some, None, IsSome, zero, suc, cond}
+use Rattle.std.specs.Prelude.{◌≡◌, ◌≢◌, ℕ, ◌+◌, ◌*◌, ◌≤◌, Bool, true, false, List, [], ◌∷◌, ◌++◌, map, length, drop, Option, Some, None, IsSome, zero, suc, cond}
 use Rattle.std.specs.List.{sum}
 use Rattle.std.specs.FinMap.{get}
 use mathlib.Core.Path.{refl, sym, ap, subst, ◌∙◌}
-use mathlib.Core.Logic.{inl, inr}
 use Rattle.std.proofs.Common.{arith}
-use Rattle.std.proofs.lemmas.Option.{none-some}
 use Rattle.iv_types.specs.declared.statement.Mode.{Mode}
 use Rattle.iv_types.specs.declared.statement.Mode.TheVariants.{Serial, Snapshot}
 use Rattle.iv_types.specs.declared.lock.GroupDelta.{GroupDelta}
@@ -21,13 +19,13 @@ use Rattle.txn_machine.specs.Keeping.{KeptStep, Put, Pay, Open, begun, Note}
 use Rattle.txn_machine.specs.Stored.{ViewRows}
 use Rattle.txn_machine.specs.Ghosts.{Holds, the_views}
 use Rattle.txn_machine.specs.Counts.{sum_over}
-use Rattle.txn_machine.specs.Records.{write_bytes, delta_bytes, group_bytes, undo_bytes, step_bytes, Record, record_bytes, abort_bytes, Abort}
-use Rattle.txn_machine.specs.Log.{Within, Logged, Log, logs, with_logged, still_owed, unghosted, pay_bytes, ghost_bytes, owed_bytes, end_bytes, block_bytes, reserved_by, reserved, carried, write_need, appended, flushed_after, logged_after, begun_after, record_of, pay_record, keeps, rest, undoes, undo_record, not_logged}
-use Rattle.txn_machine.specs.Store.{Store, committed, schema_of, now, change_at, notes_before, with_txn, paid_first, undone, Effect, Opens, Takes, Notes, Writes, Pays, Ghosts, Undoes, Loses, Ends, Commits, does, Defines, Cleans, Prunes}
+use Rattle.txn_machine.specs.Records.{write_bytes, delta_bytes, undo_bytes, step_bytes, Record, record_bytes, abort_bytes, Abort}
+use Rattle.txn_machine.specs.Log.{Within, Logged, Log, logs, with_logged, still_owed, pay_bytes, ghost_bytes, owed_bytes, end_bytes, block_bytes, reserved_by, reserved, carried, write_need, appended, flushed_after, logged_after, begun_after, record_of, pay_record, keeps, rest, undoes, undo_record, not_logged}
+use Rattle.txn_machine.specs.Store.{Store, committed, schema_of, now, change_at, notes_before, paid_first, undone, Effect, Opens, Takes, Notes, Writes, Pays, Ghosts, Undoes, Loses, Ends, Commits, does, Defines, Cleans, Prunes}
 use Rattle.txn_machine.proofs.Basics.{one_same, one_other, holds_more}
 use Rattle.txn_machine.proofs.Good.{the_open}
 use Rattle.txn_machine.proofs.Rings.{other_opens}
-use Rattle.txn_machine.proofs.LogSums.{sum_same, sum_one, sum_first}
+use Rattle.txn_machine.proofs.LogSums.{sum_one, sum_first}
 use Rattle.txn_machine.specs.Locks.{with_one}
 use Rattle.txn_machine.proofs.Parting.{Leaves, stays_there}
 use Rattle.std.specs.Option.{option_map_or}

@@ -1,5 +1,5 @@
 -- The log's room over steps.
-use Rattle.std.specs.Prelude.{◌≡◌, ◌≢◌, ◌⊎◌, ℕ, zero, suc, ◌+◌, ◌*◌, ◌≤◌, Bool, true, false, List, [], ◌∷◌, ◌++◌, length, Option, Some, None, IsSome, is_some, drop, cond, ◌==◌}
+use Rattle.std.specs.Prelude.{◌≡◌, ℕ, zero, suc, ◌+◌, ◌*◌, ◌≤◌, Bool, true, false, List, [], ◌∷◌, ◌++◌, length, Option, Some, None, IsSome, is_some, drop, cond, ◌==◌}
 use Rattle.std.specs.FinMap.{get}
 use mathlib.Core.Path.{refl, sym, ap, subst, ◌∙◌}
 use mathlib.Core.Logic.{inl, inr}
@@ -11,10 +11,9 @@ use Rattle.iv_types.specs.declared.lock.GroupDelta.{GroupDelta}
 use Rattle.iv_types.specs.declared.lock.LockMode.TheVariants.{Increment}
 use Rattle.iv_types.specs.declared.lock.Want.{Want}
 use Rattle.iv_types.specs.declared.refusal.EngineRefusal.TheVariants as refusal
-use Rattle.iv_types.specs.Syntax.{StatementTree}
 use Rattle.table_laws.specs.Place.{Place}
 use Rattle.table_laws.proofs.Stored.{by_session}
-use Rattle.iv_meaning.specs.Schema.{Schema, Object}
+use Rattle.iv_meaning.specs.Schema.{Object}
 use Rattle.iv_meaning.specs.Database.{Row, Database}
 use Rattle.iv_meaning.specs.Escrow.{IsSession}
 use Rattle.txn_machine.specs.Acts as act
@@ -23,29 +22,26 @@ use Rattle.txn_machine.specs.Answers as answer
 use Rattle.txn_machine.specs.Answers.{Answer}
 use Rattle.txn_machine.specs.Locks.{with_one}
 use Rattle.txn_machine.specs.Deltas.{RowChange, place_of, columns_of}
-use Rattle.txn_machine.specs.Keeping.{KeptStep, Put, Pay, changes_of, Note, Open}
+use Rattle.txn_machine.specs.Keeping.{KeptStep, changes_of, Note, Open}
 use Rattle.txn_machine.specs.Stored.{ViewRows, zeros}
 use Rattle.txn_machine.specs.Fresh.{fresh}
-use Rattle.txn_machine.specs.Counts.{sum_over}
 use Rattle.txn_machine.specs.Ghosts.{Holds, the_views}
 use Rattle.txn_machine.specs.Records.{group_bytes, undo_bytes}
 use Rattle.txn_machine.specs.Log.{Within, Logged, Log, Opening, logs, log_all, still_owed, ghost_bytes, owed_bytes, end_bytes, block_bytes, reserved_by, reserved, carried, definition_need}
-use Rattle.txn_machine.specs.Store.{Store, opened, committed, schema_of, now, changes_by, locks_of, change_at, Effect, Opens, Takes, Notes, Writes, Pays, Ghosts, Undoes, Loses, Ends, Commits, Defines, Cleans, Prunes, does, run}
+use Rattle.txn_machine.specs.Store.{Store, opened, schema_of, now, changes_by, locks_of, change_at, Effect, Opens, Takes, Notes, Writes, Pays, Ghosts, Undoes, Loses, Ends, Commits, Defines, Cleans, Prunes, does, run}
 use Rattle.txn_machine.specs.State.{State, Stop, is_fault, stop_after, opened_state, most_steps}
-use Rattle.txn_machine.specs.May.{GoesOn, IsReady, MayAct, Owes}
+use Rattle.txn_machine.specs.May.{GoesOn, MayAct, Owes}
 use Rattle.txn_machine.specs.Steps.{NoneIsOpen, log_need, CommitsAs, Says, Step, Did, Run, with_ghost, log_after, MayWait, MayBegin, MakesGhost}
-use Rattle.txn_machine.specs.Laws.{IsReached}
 use Rattle.txn_machine.specs.LogLaws.{LogRoomLaw}
 use Rattle.txn_machine.proofs.Basics.{one_same, one_other}
-use Rattle.txn_machine.proofs.Agreeing.{written_at, by_place}
-use Rattle.txn_machine.proofs.Good.{the_open}
+use Rattle.txn_machine.proofs.Agreeing.{written_at}
 use Rattle.txn_machine.proofs.Runs.{committed_after, opened_good}
 use Rattle.txn_machine.proofs.Stepping.{some_not_none, now_is, now_locked, ready_owes, step_good}
 use Rattle.txn_machine.proofs.Looking.{view_laws}
 use Rattle.txn_machine.proofs.Telling.{Good'}
 use Rattle.txn_machine.proofs.Reached.{may_define}
 use Rattle.txn_machine.proofs.Moving.{may_of}
-use Rattle.txn_machine.proofs.Parting.{Leaves, stays_there}
+use Rattle.txn_machine.proofs.Parting.{stays_there}
 use Rattle.txn_machine.proofs.LogSums.{sum_same, sum_none}
 use Rattle.txn_machine.proofs.LogRoom.{within_less, IsBare, IsThere, kept_bytes, Roomy, did_roomy, stay_there, logs_logged, ghost_owed, ghosted_less, opens, takes_wants, notes_it, loses, writes, pays, undoes_latest, ends_it, commits_it, serial_reserved, was_serial, was_bare, was_there}
 use Rattle.iv_types.specs.declared.session.Sessions.{Sessions}

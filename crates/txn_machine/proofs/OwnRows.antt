@@ -1,8 +1,7 @@
 -- What a session may read by its locks is what is committed, with its own changes; and all that it was told is so.
-use Rattle.std.specs.Prelude.{◌≡◌, ℕ, List, [], ◌∷◌, Option}
-use Rattle.std.specs.List.{All, AllByRecursion}
+use Rattle.std.specs.Prelude.{Option}
 use Rattle.std.proofs.lemmas.List.Elements.{All-from_recursion}
-use mathlib.Core.Path.{refl, sym, ap, subst, ◌∙◌}
+use mathlib.Core.Path.{sym, ap, subst, ◌∙◌}
 use Rattle.iv_meaning.specs.History.{state_at}
 use Rattle.txn_machine.specs.Keeping.{changes_of, Open}
 use Rattle.txn_machine.specs.Fresh.{fresh}

@@ -1,8 +1,8 @@
 -- The sums on the way of what a transaction paid to a column stay in range.
-use Rattle.std.specs.Prelude.{◌≡◌, ◌≢◌, ℕ, ◌<◌, ◌+◌, cond, true, false, List, [], ◌∷◌, ℤ, pos, ◌+ℤ◌, ◌≤ℤ◌, length, int_lt, Option, Some, None}
-use mathlib.Core.Path.{refl, sym, ap, subst, ◌∙◌}
+use Rattle.std.specs.Prelude.{◌≡◌, ℕ, ◌<◌, ◌+◌, cond, true, false, List, [], ◌∷◌, ℤ, pos, ◌+ℤ◌, length, int_lt, Option, Some, None}
+use mathlib.Core.Path.{refl, sym, subst}
 use Rattle.std.proofs.Common.{arith}
-use Rattle.std.proofs.lemmas.Int.{ints, clamps}
+use Rattle.std.proofs.lemmas.Int.{ints}
 use Rattle.std.proofs.lemmas.List.{get_or_past}
 use Rattle.iv_types.specs.declared.lock.GroupDelta.{GroupDelta}
 use Rattle.iv_types.specs.Encoding.{IsHuge}
@@ -13,7 +13,7 @@ use Rattle.txn_machine.specs.Deltas.{place_of, is_for, worth, columns_of}
 use Rattle.txn_machine.specs.Keeping.{KeptStep, Put, Pay, increments, Open, begun}
 use Rattle.txn_machine.specs.Fresh.{fresh}
 use Rattle.txn_machine.specs.Ghosts.{the_views}
-use Rattle.txn_machine.specs.Store.{Store, committed, now, change_at, notes_before, paid_first, undone, Effect, Opens, Takes, Notes, Writes, Pays, Ghosts, Undoes, Loses, Ends, Commits, Defines, Cleans, Prunes, does}
+use Rattle.txn_machine.specs.Store.{Store, committed, now, notes_before, paid_first, undone, Effect, Opens, Takes, Notes, Writes, Pays, Ghosts, Undoes, Loses, Ends, Commits, Defines, Cleans, Prunes, does}
 use Rattle.txn_machine.specs.KeptLaws.{PrefixLaw}
 use Rattle.txn_machine.proofs.Basics.{after_all}
 use Rattle.txn_machine.proofs.Bounds.{signs, lo_more, hi_more, lo_zero, hi_zero, huge_inside}

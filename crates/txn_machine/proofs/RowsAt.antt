@@ -1,5 +1,5 @@
 -- The rows at a number, key by key.
-use Rattle.std.specs.Prelude.{◌≡◌, ℕ, cond, true, false, List, [], ◌∷◌, Option, if◌then◌else◌}
+use Rattle.std.specs.Prelude.{◌≡◌, cond, List, [], ◌∷◌, if◌then◌else◌}
 use Rattle.std.specs.FinMap.{get}
 use Rattle.std.specs.Ordering.{eq_by_cmp}
 use mathlib.Core.Path.{refl, sym, ap, ◌∙◌}
@@ -8,12 +8,10 @@ use Rattle.table_laws.specs.Table.{write}
 use Rattle.table_laws.specs.Kept.{take_back}
 use Rattle.table_laws.proofs.Place.{place_cmp_total, place_cmp-IsAntisymmetric}
 use Rattle.table_laws.proofs.Tables.{same_key, other_key}
-use Rattle.iv_meaning.specs.Database.{Row, Rows}
-use Rattle.iv_meaning.specs.History.{state_at}
+use Rattle.iv_meaning.specs.Database.{Rows}
 use Rattle.txn_machine.specs.Deltas.{RowChange}
 use Rattle.txn_machine.specs.Store.{committed}
-use Rattle.txn_machine.specs.State.{State}
-use Rattle.txn_machine.specs.Laws.{IsReached, changes_above}
+use Rattle.txn_machine.specs.Laws.{changes_above}
 use Rattle.txn_machine.specs.KeptLaws.{row_before, RowAtLaw}
 use Rattle.txn_machine.proofs.Agreeing.{by_place, written_at, written_other}
 use Rattle.txn_machine.proofs.Marks.{rows_at_law}

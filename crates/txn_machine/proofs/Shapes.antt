@@ -1,6 +1,6 @@
 -- The shape of deltas: each is one combination of a view, added or taken away.
-use Rattle.std.specs.Prelude.{◌≡◌, ◌≢◌, ◌⊎◌, ℕ, zero, suc, ◌+◌, ◌≤◌, ◌<◌, cond, Bool, true, false, ◌==◌, List, [], ◌∷◌, ◌++◌, map, filter, length, slice_get, ℤ, pos, neg_ℤ, Option, Some, None, pred}
-use Rattle.std.specs.List.{All, AllByRecursion, Contains, flat_map, filter_map}
+use Rattle.std.specs.Prelude.{◌≡◌, ◌⊎◌, ℕ, zero, suc, ◌+◌, cond, true, false, ◌==◌, List, [], ◌∷◌, ◌++◌, map, filter, length, slice_get, ℤ, pos, neg_ℤ, Option, Some, None, pred}
+use Rattle.std.specs.List.{AllByRecursion, Contains, flat_map, filter_map}
 use Rattle.std.specs.Option.{option_and_then, option_map_or, unwrap_or}
 use Rattle.std.specs.FinMap.{get, entries}
 use mathlib.Core.Path.{refl, sym, ap, subst, ◌∙◌}
@@ -26,12 +26,12 @@ use Rattle.iv_meaning.specs.Values.{value_at}
 use Rattle.iv_meaning.specs.Query.{Combination, combinations, values_at}
 use Rattle.iv_meaning.specs.Grouping.{number_in}
 use Rattle.iv_meaning.specs.Sound.{IsTable, IsRow}
-use Rattle.query_laws.proofs.Each.{each_append, each_map, each_flat, each_filtered}
+use Rattle.query_laws.proofs.Each.{each_append, each_map, each_filtered}
 use Rattle.query_laws.proofs.TermLemmas.{FitRows}
 use Rattle.query_laws.proofs.GroupRows.{IsKnown, combinations_fit, values_fit, some_same}
-use Rattle.txn_machine.specs.Deltas.{RowChange, rows_after, contribution, is_counted, other_rows, contributions, negated, are_equal, exchanged, places_around, owed_to, views_of, owed, place_of, columns_of}
+use Rattle.txn_machine.specs.Deltas.{RowChange, rows_after, contribution, is_counted, other_rows, contributions, negated, are_equal, exchanged, places_around, owed_to, owed, place_of, columns_of}
 use Rattle.txn_machine.specs.Keeping.{KeptStep, Put, Pay, changes_of, IsSettled}
-use Rattle.txn_machine.specs.Store.{committed, schema_of, now, changes_by, Store, paid_first, undone, Effect, Opens, Takes, Notes, Writes, Pays, Ghosts, Undoes, Loses, Ends, Commits, Defines, Cleans, Prunes, does}
+use Rattle.txn_machine.specs.Store.{committed, schema_of, now, Store, paid_first, undone, Effect, Opens, Takes, Notes, Writes, Pays, Ghosts, Undoes, Loses, Ends, Commits, Defines, Cleans, Prunes, does}
 use Rattle.txn_machine.specs.Fresh.{fresh, made_of}
 use Rattle.txn_machine.specs.Ghosts.{the_views}
 use Rattle.txn_machine.specs.ViewLaws.{AreSound}

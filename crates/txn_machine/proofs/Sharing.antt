@@ -1,17 +1,14 @@
 -- The numbers of a view by encoded groups are those of its meaning by the groups' values.
-use Rattle.std.specs.Prelude.{◌≡◌, ◌≢◌, ℕ, zero, suc, ◌+◌, ◌<◌, ◌==◌, ◌&&◌, cond, Bool, true, false, List, [], ◌∷◌, ◌++◌, map, filter, slice_get, get_or, ℤ, pos, ◌+ℤ◌, Option, Some, None}
-use Rattle.std.specs.List.{AllByRecursion, flat_map, filter_map, cons_option}
-use Rattle.std.specs.Option.{option_and_then}
+use Rattle.std.specs.Prelude.{◌≡◌, ◌≢◌, ℕ, zero, suc, ◌+◌, ◌<◌, ◌==◌, ◌&&◌, cond, true, false, List, [], ◌∷◌, ◌++◌, map, filter, slice_get, get_or, ℤ, pos, ◌+ℤ◌, Some}
+use Rattle.std.specs.List.{AllByRecursion, flat_map, filter_map}
 use mathlib.Core.Path.{refl, sym, ap, subst, ◌∙◌}
 use Rattle.std.proofs.Common.{arith, eq-eqb, eqb-true}
 use Rattle.std.proofs.lemmas.Bool.{false≢true}
 use Rattle.std.proofs.lemmas.Int.{ints}
 use Rattle.std.proofs.lemmas.List.Elements.{recursion_from_All}
-use Rattle.std.proofs.lemmas.Option.{none-some, same_Some}
+use Rattle.std.proofs.lemmas.Option.{none-some}
 use Rattle.std.proofs.lemmas.Slice.Eq.{bytes_eq-Decides}
 use Rattle.std.specs.FinMap.{entries}
-use Rattle.std.specs.declared.cmp.Ordering.{Ordering}
-use Rattle.std.specs.declared.cmp.Ordering.TheVariants.{Less, Equal, Greater}
 use Rattle.std.specs.Ordering.{is_eq, eq_by_cmp}
 use Rattle.std.specs.Cmp.{tied_itself}
 use Rattle.std.specs.Str.{bytes_eq}
@@ -19,7 +16,7 @@ use Rattle.iv_types.specs.declared.value.Kind.{Kind}
 use Rattle.iv_types.specs.declared.value.Value.{Value}
 use Rattle.iv_types.specs.declared.lock.GroupDelta.{GroupDelta}
 use Rattle.iv_types.specs.declared.expression.ColumnAt.{ColumnAt}
-use Rattle.iv_types.specs.Encoding.{Fits, FitAll, key_bytes, row_cmp}
+use Rattle.iv_types.specs.Encoding.{FitAll, key_bytes, row_cmp}
 use Rattle.iv_types.proofs.Orders.{row_cmp_total, row_cmp_exact}
 use Rattle.table_laws.specs.Place.{Place}
 use Rattle.table_laws.specs.Table.{rows_where}

@@ -2,12 +2,11 @@
 -- has no row.
 use Rattle.std.specs.Prelude.{◌≡◌, ℕ, ◌+◌, List, [], ◌∷◌, ◌++◌, map, length, Option, Some, None}
 use Rattle.std.specs.List.{sum, AllByRecursion}
-use Rattle.std.specs.FinMap.{get}
-use mathlib.Core.Path.{refl, sym, ap, subst, ◌∙◌}
+use mathlib.Core.Path.{refl, sym, ap, ◌∙◌}
 use Rattle.std.proofs.lemmas.List.{append_assoc, append-nil}
 use Rattle.iv_types.specs.declared.value.Kind.{Kind}
 use Rattle.table_laws.specs.Place.{Place}
-use Rattle.table_laws.specs.Kept.{redo, AreTrue}
+use Rattle.table_laws.specs.Kept.{AreTrue}
 use Rattle.iv_meaning.specs.Schema.{Schema, Object, table, numbered, kinds_of_table}
 use Rattle.iv_meaning.specs.Database.{Row, Rows, Database}
 use Rattle.iv_meaning.specs.Statement.{Kept, sets, defines, keep, keep_all}

@@ -1,5 +1,5 @@
 -- The laws of what a step adds, of what an open transaction keeps and was told, and of the rows under its locks.
-use Rattle.std.specs.Prelude.{◌≡◌, ◌⊎◌, ℕ, ◌+◌, ◌≤◌, List, [], ◌∷◌, ◌++◌, length, map, Option, None, if◌then◌else◌, pos, neg_ℤ, Some}
+use Rattle.std.specs.Prelude.{◌≡◌, ◌⊎◌, ℕ, ◌+◌, ◌≤◌, List, [], ◌∷◌, ◌++◌, length, map, Option, if◌then◌else◌, pos, neg_ℤ, Some}
 use Rattle.std.specs.List.{All, Contains}
 use Rattle.std.specs.FinMap.{get}
 use Rattle.std.specs.Ordering.{eq_by_cmp}
@@ -12,10 +12,10 @@ use Rattle.iv_meaning.specs.Database.{Row}
 use Rattle.iv_meaning.specs.History.{Entry, state_at}
 use Rattle.iv_meaning.specs.Escrow.{IsSession, lo, hi}
 use Rattle.txn_machine.specs.Deltas.{RowChange}
-use Rattle.txn_machine.specs.Keeping.{KeptStep, Put, Pay, increments}
+use Rattle.txn_machine.specs.Keeping.{Pay, increments}
 use Rattle.txn_machine.specs.Entries.{AgreeAt}
 use Rattle.txn_machine.specs.Store.{committed, schema_of, now, changes_by, locks_of}
-use Rattle.txn_machine.specs.Counts.{kept_size, size_of_entry, change_size}
+use Rattle.txn_machine.specs.Counts.{kept_size, size_of_entry}
 use Rattle.txn_machine.specs.Ghosts.{MayRead}
 use Rattle.txn_machine.specs.State.{State, most_steps}
 use Rattle.txn_machine.specs.May.{IsOpen}

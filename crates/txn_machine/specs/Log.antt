@@ -11,10 +11,9 @@ use Rattle.iv_types.specs.declared.catalog.TableDef.{TableDef}
 use Rattle.iv_types.specs.Syntax.{StatementTree}
 use Rattle.iv_types.specs.Printing.{statement_text}
 use Rattle.table_laws.specs.Place.{Place}
-use Rattle.iv_meaning.specs.Schema.{Schema, Object, table, index, view, numbered, kinds_of_table, as_table, indexes_of}
+use Rattle.iv_meaning.specs.Schema.{Schema, Object, table, index, view, numbered, kinds_of_table, indexes_of}
 use Rattle.iv_meaning.specs.Database.{Row, Rows, rows_of}
 use Rattle.iv_meaning.specs.View.{index_key}
-use Rattle.iv_types.specs.Definitions.{kinds_of}
 use Rattle.txn_machine.specs.Acts as act
 use Rattle.txn_machine.specs.Acts.{Act}
 use Rattle.txn_machine.specs.Locks.{with_one}

@@ -2,7 +2,7 @@ use Rattle.std.proofs.Common.{ℕ, List, length, map, sym, ap, subst, ◌∙◌,
 use Rattle.text_grammar.specs.declared.fault.ParseError.{ParseError}
 use Rattle.text_grammar.specs.Readers.{Fails}
 use Rattle.iv_types.specs.Limits.{the_limits}
-use Rattle.sql_parse.specs.Statements.{whole_line}
+use Rattle.sql_readers.specs.Statements.{whole_line}
 use Rattle.iv_types.specs.Syntax.{statement_tree}
 use Rattle.iv_types.specs.Grammar.{Spells}
 use Rattle.iv_types.specs.Refusing.{Refuses}
@@ -12,15 +12,15 @@ use Rattle.sql_parse.specs.Parsing.{refusal_of}
 use Rattle.sql_parse.proofs.Lines.{found_by, only_by, none_by, refused_by}
 use Rattle.sql_parse.proofs.parsing.parse.Goals as goal
 
-pub returns-in-Ok-whole_of-clause-found : goal.returns-in-Ok-whole_of-clause-found
-returns-in-Ok-whole_of-clause-found c =
+pub returns-in-Ok-read_statement-clause-found : goal.returns-in-Ok-read_statement-clause-found
+returns-in-Ok-read_statement-clause-found c =
     let all = ap (map (placed c.as_bytes-bytes.result.now)) c.deref.ensures.value ∙ c.in-Ok.ensures.read in
-    subst (λ (t : List ℕ). Spells t (statement_tree c.in-Ok-whole_of.statement)) c.as_bytes-bytes.ensures.value (found_by c.as_bytes-bytes.result.now c.deref.result.now (statement_tree c.in-Ok-whole_of.statement) all c.in-Ok-whole_of.ensures)
+    subst (λ (t : List ℕ). Spells t (statement_tree c.in-Ok-read_statement.statement)) c.as_bytes-bytes.ensures.value (found_by c.as_bytes-bytes.result.now c.deref.result.now (statement_tree c.in-Ok-read_statement.statement) all c.in-Ok-read_statement.ensures)
 
-pub returns-in-Ok-whole_of-clause-only : goal.returns-in-Ok-whole_of-clause-only
-returns-in-Ok-whole_of-clause-only c = λ s d.
+pub returns-in-Ok-read_statement-clause-only : goal.returns-in-Ok-read_statement-clause-only
+returns-in-Ok-read_statement-clause-only c = λ s d.
     let all = ap (map (placed c.as_bytes-bytes.result.now)) c.deref.ensures.value ∙ c.in-Ok.ensures.read in
-    only_by c.as_bytes-bytes.result.now c.deref.result.now (statement_tree c.in-Ok-whole_of.statement) s all c.in-Ok-whole_of.ensures (subst (λ (t : List ℕ). Spells t s) (sym c.as_bytes-bytes.ensures.value) d)
+    only_by c.as_bytes-bytes.result.now c.deref.result.now (statement_tree c.in-Ok-read_statement.statement) s all c.in-Ok-read_statement.ensures (subst (λ (t : List ℕ). Spells t s) (sym c.as_bytes-bytes.ensures.value) d)
 
 pub returns-clause-only : goal.returns-clause-only
 returns-clause-only c = λ s d.

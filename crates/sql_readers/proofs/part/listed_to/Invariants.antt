@@ -1,0 +1,14 @@
+use Rattle.std.proofs.Common.{◌≡◌, ◌<◌, length, map}
+use Rattle.sql_readers.specs.Statements.{listed_to}
+use Rattle.sql_readers.proofs.Rounds.{more_to}
+use Rattle.sql_readers.proofs.part.listed_to.Given as goal
+
+-- what is left, behind what was made so far, is the list
+abbrev pub invariant-loop-alloc : goal.invariant-loop-alloc
+invariant-loop-alloc g l = record {
+  same : more_to l.limit l.most g.P.Part.reader (map g.P.Part.seen l.made.items) l.cursor ≡ listed_to l.limit l.most g.P.Part.reader l.fn.cursor;
+  shorter : length l.cursor < length l.fn.cursor;
+}
+
+abbrev pub decreases-loop-alloc : goal.decreases-loop-alloc
+decreases-loop-alloc g l = length l.cursor

@@ -1,0 +1,4 @@
+pub mod Ladder
+pub mod Statements
+pub mod Levels
+pub mod Passing
