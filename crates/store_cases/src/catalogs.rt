@@ -43,11 +43,14 @@ fn table(alloc: Global, number: u32, text: &str) -> anyhow::Result<TableDef> {
     let Some((kinds, key)) = kinds.split_once(" KEY ") else {
         bail!("no key")
     };
+    let name = Bytes::from_vec(Vec::from_slice(alloc, name.as_bytes())?);
+    let primary = places(alloc, key)?;
+    let columns = columns(alloc, kinds)?;
     Ok(TableDef {
         number,
-        name: Bytes::from_vec(Vec::from_slice(alloc, name.as_bytes())?),
-        columns: columns(alloc, kinds)?,
-        primary: places(alloc, key)?,
+        name,
+        columns,
+        primary,
     })
 }
 

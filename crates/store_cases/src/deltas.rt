@@ -6,37 +6,30 @@
 //!
 //! The answer is the deltas as rows of the count, the group's values and the sums, or `nothing`; `misfit` where the rows
 //! don't fit their table, `no answer` where what is to be looked up can't be told, and `look up` where something is.
+use crate::changed_rows::changed_rows;
 use anyhow::bail;
-use case_text::{read_row, write_row};
+use case_text::write_row;
 use iv_types::{
     Bytes, Catalog, Change, ColumnAt, ColumnAtList, Definition, DeltaList, Expr, GroupDelta, Kind,
     NameList, Op, Places, Row, RowList, Second, Value, ViewDef,
 };
 use row_codec::decode_key;
 use std::alloc::Global;
-use std::mem::forget;
+use std::mem::{forget, replace};
 use view_delta::{deltas, needs, rows_fit};
-
-fn row_or_none(alloc: Global, text: &str) -> anyhow::Result<Option<Row>> {
-    if text == "nothing" {
-        return Ok(None);
-    }
-    Ok(Some(read_row(alloc, text)?))
-}
 
 fn column(text: &str) -> anyhow::Result<ColumnAt> {
     let column = text.parse::<u32>()?;
     Ok(ColumnAt { source: 0, column })
 }
 
-fn columns(alloc: Global, text: &str) -> anyhow::Result<ColumnAtList> {
-    let mut columns = ColumnAtList::new(alloc);
+fn push_columns(columns: &mut ColumnAtList, text: &str) -> anyhow::Result<()> {
     if text != "-" {
         for part in text.split(',') {
             columns.push(column(part)?)?;
         }
     }
-    Ok(columns)
+    Ok(())
 }
 
 fn condition(alloc: Global, text: &str) -> anyhow::Result<Option<Expr>> {
@@ -80,36 +73,44 @@ fn parts(text: &str) -> anyhow::Result<(&str, &str, &str, &str)> {
     }
 }
 
-fn view(alloc: Global, text: &str) -> anyhow::Result<ViewDef> {
+// Fills in what the text of a view says.
+fn fill(alloc: Global, view: &mut ViewDef, text: &str) -> anyhow::Result<()> {
     let (condition_text, group, sums, second_text) = parts(text)?;
+    push_columns(&mut view.group, group)?;
+    push_columns(&mut view.sums, sums)?;
+    forget(replace(&mut view.second, second(alloc, second_text)?));
+    forget(replace(&mut view.condition, condition(alloc, condition_text)?));
+    Ok(())
+}
+
+fn view(alloc: Global, text: &str) -> anyhow::Result<ViewDef> {
     let name = Bytes::from_vec(Vec::from_slice(alloc, b"shops")?);
-    let group = columns(alloc, group)?;
-    let sums = columns(alloc, sums)?;
-    let second = second(alloc, second_text)?;
-    let condition = condition(alloc, condition_text)?;
-    Ok(ViewDef {
+    let mut view = ViewDef {
         number: 3,
         name,
         names: NameList::new(alloc),
         first: 1,
-        second,
-        condition,
-        group,
-        sums,
-    })
+        second: None,
+        condition: None,
+        group: ColumnAtList::new(alloc),
+        sums: ColumnAtList::new(alloc),
+    };
+    match fill(alloc, &mut view, text) {
+        Ok(()) => Ok(view),
+        Err(error) => {
+            forget(view);
+            Err(error)
+        }
+    }
 }
 
 fn change(alloc: Global, text: &str) -> anyhow::Result<Change> {
     let Some((table, rows)) = text.split_once(": ") else {
         bail!("no table")
     };
-    let Some((before, after)) = rows.split_once(" > ") else {
-        bail!("no rows")
-    };
     let table = table.parse::<u32>()?;
     let key = Bytes::from_vec(Vec::from_slice(alloc, b"key")?);
-    let before = row_or_none(alloc, before)?;
-    let after = row_or_none(alloc, after)?;
+    let (before, after) = changed_rows(alloc, rows)?;
     Ok(Change {
         table,
         key,
@@ -201,6 +202,18 @@ fn refusal(
     }
 }
 
+// Writes the deltas that were found for a view.
+fn write_found(
+    alloc: Global,
+    out: &mut String,
+    catalog: &Catalog,
+    view: &ViewDef,
+    found: &DeltaList,
+) -> anyhow::Result<()> {
+    let kinds = kinds(alloc, catalog, &view.group)?;
+    write_deltas(alloc, out, &kinds, found)
+}
+
 fn write_owed(
     alloc: Global,
     out: &mut String,
@@ -212,12 +225,11 @@ fn write_owed(
         out.push_str(word)?;
         return Ok(());
     }
-    let kinds = kinds(alloc, catalog, &view.group)?;
     if !rows_fit(catalog, change) {
         bail!("misfit");
     }
     let found = deltas(alloc, catalog, view, change, &RowList::new(alloc))?;
-    let told = write_deltas(alloc, out, &kinds, &found);
+    let told = write_found(alloc, out, catalog, view, &found);
     forget(found);
     told
 }
@@ -247,8 +259,8 @@ pub fn answer(alloc: Global, catalog: &Catalog, asked: &str) -> anyhow::Result<S
     let Some((shape, changed)) = asked.split_once(" ; ") else {
         bail!("no change")
     };
-    let mut out = String::new(alloc);
     let view = view(alloc, shape)?;
+    let mut out = String::new(alloc);
     write_owed_once(alloc, &mut out, catalog, view, changed)?;
     Ok(out)
 }

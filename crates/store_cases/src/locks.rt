@@ -15,7 +15,6 @@ use case_text::first_word;
 use iv_types::{Bytes, Interval, LockMode, Want, WantList};
 use lock_manager::{LockAnswer, LockTable};
 use std::alloc::Global;
-use std::fmt::Write;
 use std::mem::{forget, replace};
 
 const MODES: [(&str, &str); 9] = [
@@ -40,15 +39,18 @@ fn bytes(alloc: Global, text: &str) -> anyhow::Result<Bytes> {
     Ok(Bytes::from_vec(Vec::from_slice(alloc, text.as_bytes())?))
 }
 
+// The least key behind a key.
+fn behind(alloc: Global, text: &str) -> anyhow::Result<Bytes> {
+    let mut end = Vec::from_slice(alloc, text.as_bytes())?;
+    end.push(0)?;
+    Ok(Bytes::from_vec(end))
+}
+
 fn interval(alloc: Global, text: &str) -> anyhow::Result<Interval> {
     let (low, high) = match text.split_once("..") {
         Some((low, "")) => (low, None),
         Some((low, high)) => (low, Some(bytes(alloc, high)?)),
-        None => {
-            let mut end = Vec::from_slice(alloc, text.as_bytes())?;
-            end.push(0)?;
-            (text, Some(Bytes::from_vec(end)))
-        }
+        None => (text, Some(behind(alloc, text)?)),
     };
     Ok(Interval {
         low: bytes(alloc, low)?,
@@ -176,11 +178,13 @@ fn call_locks(
 
 // The list of one lock on index 1.
 fn one_want(alloc: Global, letter: &str, keys: &str) -> anyhow::Result<WantList> {
+    let mode = mode_of(letter)?;
+    let interval = interval(alloc, keys)?;
     let mut wants = WantList::new(alloc);
     wants.push(Want {
         index: 1,
-        interval: interval(alloc, keys)?,
-        mode: mode_of(letter)?,
+        interval,
+        mode,
     })?;
     Ok(wants)
 }
@@ -207,17 +211,29 @@ fn is_blocking(alloc: Global, held: (&str, &str), wanted: (&str, &str)) -> anyho
     blocks(alloc, one_want(alloc, held.0, held.1)?, &wants)
 }
 
+// Writes the modes of two locks behind others, if the first conflicts with the second.
+fn write_mode(
+    alloc: Global,
+    out: &mut String,
+    held: (&str, &str),
+    wanted: (&str, &str),
+) -> anyhow::Result<()> {
+    if is_blocking(alloc, held, wanted)? {
+        if !out.is_empty() {
+            out.push(' ')?;
+        }
+        out.push_str(held.0)?;
+        out.push_str(wanted.0)?;
+    }
+    Ok(())
+}
+
 fn write_modes(alloc: Global, out: &mut String, intervals: &str) -> anyhow::Result<()> {
     let (first, second) = first_word(intervals);
-    let mut is_first = true;
-    for (held, wanted) in MODES {
-        if is_blocking(alloc, (held, first), (wanted, second))? {
-            out.push_str(if is_first { "" } else { " " })?;
-            is_first = false;
-            write!(out, "{held}{wanted}")?;
-        }
+    for (held, wanted) in MODES.as_slice() {
+        write_mode(alloc, out, (held, first), (wanted, second))?;
     }
-    if is_first {
+    if out.is_empty() {
         out.push_str("none")?;
     }
     Ok(())

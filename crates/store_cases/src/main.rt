@@ -8,6 +8,7 @@
 
 mod bounds;
 mod catalogs;
+mod changed_rows;
 mod deltas;
 mod locks;
 mod maps;

@@ -4,7 +4,8 @@
 //! INDEX KEY` takes an entry away; `room INDEX COUNT` makes room, and `fill INDEX KEY VALUE KEY VALUE` makes room for one
 //! entry, then for two, and adds two new ones. `get INDEX KEY` answers the value or `none`, `at INDEX KEY` and `after INDEX
 //! KEY` the first entry there, `all INDEX` the first nine entries or `nothing`, and `used` what all entries count.
-ghost use Rattle.std.specs.Prelude.{◌≡◌, IfOk};
+ghost use Rattle.std.specs.Prelude.{◌≤◌, ◌+◌, OnOk};
+ghost use Rattle.table_store.specs.Lists.{spare_at};
 
 use anyhow::bail;
 use case_text::{all_words, first_word, short_number_at, unescaped, word_at, write_escaped};
@@ -72,50 +73,64 @@ fn take(maps: &mut ListMaps, index: u32, key: &[u8]) -> anyhow::Result<()> {
     Ok(())
 }
 
-// Makes room for one entry and then for two, and adds two.
-fn fill(
+// Puts an entry under a key that is not there, into room that was made.
+fn add(maps: &mut ListMaps, index: u32, key: Bytes, value: Bytes) -> anyhow::Result<()>
+    requires { 1 ≤ spare_at maps.old index }
+    ensures { OnOk result (spare_at maps.old index ≤ spare_at maps.new index + 1) }
+{
+    if index > 192 || key.as_slice().len() > 1024 || value.as_slice().len() > 2048 {
+        bail!("more than maps hold");
+    }
+    if maps.get(index, key.as_slice()).is_some() {
+        bail!("an entry that is there");
+    }
+    maps.insert(index, key, value);
+    Ok(())
+}
+
+// The same of the key and the value at two places of the words.
+fn add_at(
+    alloc: Global,
     maps: &mut ListMaps,
     index: u32,
-    first: (Bytes, Bytes),
-    second: (Bytes, Bytes),
-) -> anyhow::Result<()> {
-    if index > 192 || first.0.as_slice().len() > 1024 || first.1.as_slice().len() > 2048 {
-        bail!("more than maps hold");
-    }
-    if second.0.as_slice().len() > 1024 || second.1.as_slice().len() > 2048 {
-        bail!("more than maps hold");
-    }
+    words: &[&str],
+    places: (usize, usize),
+) -> anyhow::Result<()>
+    requires { 1 ≤ spare_at maps.old index }
+    ensures { OnOk result (spare_at maps.old index ≤ spare_at maps.new index + 1) }
+{
+    let key = bytes_at(alloc, words, places.0)?;
+    add(maps, index, key, bytes_at(alloc, words, places.1)?)
+}
+
+// Makes room for one entry and then for two, and adds two.
+fn fill(alloc: Global, maps: &mut ListMaps, index: u32, words: &[&str]) -> anyhow::Result<()> {
     maps.reserve(index, 1)?;
     maps.reserve(index, 2)?;
-    if maps.get(index, first.0.as_slice()).is_some() {
-        bail!("an entry that is there");
-    }
-    maps.insert(index, first.0, first.1);
-    if maps.get(index, second.0.as_slice()).is_some() {
-        bail!("an entry that is there");
-    }
-    maps.insert(index, second.0, second.1);
-    Ok(())
+    add_at(alloc, maps, index, words, (1, 2))?;
+    add_at(alloc, maps, index, words, (3, 4))
+}
+
+fn put_at(alloc: Global, maps: &mut ListMaps, index: u32, words: &[&str]) -> anyhow::Result<()> {
+    let key = bytes_at(alloc, words, 1)?;
+    put(maps, index, key, bytes_at(alloc, words, 2)?)
+}
+
+fn take_at(alloc: Global, maps: &mut ListMaps, index: u32, words: &[&str]) -> anyhow::Result<()> {
+    take(maps, index, bytes_at(alloc, words, 1)?.as_slice())
 }
 
 // Makes a call that changes maps.
 fn change(alloc: Global, maps: &mut ListMaps, call: &str, words: &[&str]) -> anyhow::Result<()> {
     let index = short_number_at(words, 0)?;
     match call {
-        "put" => {
-            let key = bytes_at(alloc, words, 1)?;
-            put(maps, index, key, bytes_at(alloc, words, 2)?)
-        }
-        "take" => take(maps, index, bytes_at(alloc, words, 1)?.as_slice()),
+        "put" => put_at(alloc, maps, index, words),
+        "take" => take_at(alloc, maps, index, words),
         "room" => {
             maps.reserve(index, short_number_at(words, 1)?)?;
             Ok(())
         }
-        "fill" => {
-            let first = (bytes_at(alloc, words, 1)?, bytes_at(alloc, words, 2)?);
-            let second = (bytes_at(alloc, words, 3)?, bytes_at(alloc, words, 4)?);
-            fill(maps, index, first, second)
-        }
+        "fill" => fill(alloc, maps, index, words),
         _ => bail!("no such call"),
     }
 }
@@ -159,6 +174,30 @@ fn write_entry(
     }
 }
 
+// Makes a call with these words behind it.
+fn call_by(
+    alloc: Global,
+    out: &mut String,
+    tables: &mut Tables<ListMaps>,
+    call: &str,
+    words: &[&str],
+) -> anyhow::Result<()> {
+    match call {
+        "used" => {
+            let used = tables.used();
+            write!(out, "{used}")?;
+            Ok(())
+        }
+        "get" | "at" | "after" => write_entry(alloc, out, tables.maps(), call, words),
+        "all" => write_all(out, tables.maps(), short_number_at(words, 0)?),
+        _ => {
+            change(alloc, tables.maps_mut(), call, words)?;
+            out.push_str("done")?;
+            Ok(())
+        }
+    }
+}
+
 fn call_maps(
     alloc: Global,
     out: &mut String,
@@ -167,19 +206,7 @@ fn call_maps(
 ) -> anyhow::Result<()> {
     let (call, rest) = first_word(asked);
     let words = all_words(alloc, rest)?;
-    match call {
-        "used" => {
-            let used = tables.used();
-            write!(out, "{used}")?;
-        }
-        "get" | "at" | "after" => write_entry(alloc, out, tables.maps(), call, &words)?,
-        "all" => write_all(out, tables.maps(), short_number_at(&words, 0)?)?,
-        _ => {
-            change(alloc, tables.maps_mut(), call, &words)?;
-            out.push_str("done")?;
-        }
-    }
-    Ok(())
+    call_by(alloc, out, tables, call, &words)
 }
 
 impl Maps {

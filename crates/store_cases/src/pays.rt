@@ -24,7 +24,7 @@ use anyhow::bail;
 use byteorder::{BigEndian, ByteOrder};
 use case_text::{first_word, write_hexadecimal};
 use ghost_rows::{PayRefusal, ViewRows};
-use iv_types::{GroupDelta, PrefixList, SortedMaps};
+use iv_types::{GroupDelta, PrefixList, SortedMaps, ViewRow};
 use std::alloc::Global;
 use std::fmt::Write;
 use std::mem::forget;
@@ -63,6 +63,13 @@ fn write_paid(out: &mut String, paid: &Result<PrefixList, PayRefusal>) -> anyhow
     }
 }
 
+// Writes what a pay is answered, and forgets it.
+fn write_paid_once(out: &mut String, paid: Result<PrefixList, PayRefusal>) -> anyhow::Result<()> {
+    let told = write_paid(out, &paid);
+    forget(paid);
+    told
+}
+
 // A pay of a session.
 fn pay_by(
     alloc: Global,
@@ -78,7 +85,7 @@ fn pay_by(
     let session = session_of(session)?;
     let delta = delta_of(alloc, rest)?;
     let paid = pay(rows, maps, session, &delta)?;
-    write_paid(out, &paid)?;
+    write_paid_once(out, paid)?;
     Ok(())
 }
 
@@ -101,10 +108,10 @@ fn other_pays(
     if payer == session {
         bail!("no other session");
     }
+    out.push_str(", ")?;
     let delta = delta_of(alloc, rest)?;
     let paid = pay(rows, maps, payer, &delta)?;
-    out.push_str(", ")?;
-    write_paid(out, &paid)?;
+    write_paid_once(out, paid)?;
     Ok(())
 }
 
@@ -223,23 +230,33 @@ fn write_cleanable(out: &mut String, rows: &ViewRows, maps: &ListMaps) -> anyhow
     write_word(out, is_cleanable(rows, maps, false, true))
 }
 
+fn write_row(out: &mut String, row: &ViewRow) -> anyhow::Result<()> {
+    write_hexadecimal(out, row.group.as_slice())?;
+    out.push(' ')?;
+    write_number(out, row.count)?;
+    out.push(' ')?;
+    write_numbers(out, row.sums.as_slice())
+}
+
+fn write_rows(out: &mut String, rows: &[ViewRow]) -> anyhow::Result<()> {
+    let mut is_first = true;
+    for row in rows {
+        out.push_str(if is_first { "" } else { " / " })?;
+        is_first = false;
+        write_row(out, row)?;
+    }
+    Ok(())
+}
+
 // Writes each row of the view where the row is stored alone.
 fn write_read(alloc: Global, out: &mut String, text: &str) -> anyhow::Result<()> {
     let (count, sum) = first_word(text);
     let count = number_of(count)?;
     let sum = number_of(sum)?;
     let rows = read(alloc, count, sum)?;
-    let mut is_first = true;
-    for row in rows.as_slice() {
-        out.push_str(if is_first { "" } else { " / " })?;
-        is_first = false;
-        write_hexadecimal(out, row.group.as_slice())?;
-        out.push(' ')?;
-        write_number(out, row.count)?;
-        out.push(' ')?;
-        write_numbers(out, row.sums.as_slice())?;
-    }
-    Ok(())
+    let told = write_rows(out, rows.as_slice());
+    forget(rows);
+    told
 }
 
 // Tells what a call answers that changes nothing.

@@ -15,25 +15,19 @@ ghost use Rattle.table_store.specs.Lists.{map_at};
 ghost use Rattle.table_store.specs.Stored as specs;
 ghost use Rattle.table_store.specs.Stored.{Holds};
 
+use crate::changed_rows::changed_rows;
 use crate::table_facts::{can_be_taken_back, is_change, key_of, kinds_at, table_of};
 use anyhow::bail;
 use case_text::{first_word, read_row, unescaped, write_hexadecimal, write_row};
 use iv_types::{
-    Bytes, Catalog, Change, IndexEntry, Interval, Kept, NoMemory, Row, RowList, SortedMaps,
-    TableDef,
+    Bytes, Catalog, Change, IndexEntry, Interval, Kept, Kind, NoMemory, RowList, SortedMaps,
+    TableDef, Value,
 };
 use row_codec::{encode_key, key_fits};
 use std::alloc::Global;
 use std::fmt::Write;
 use std::mem::forget;
 use table_store::{ListMaps, Tables};
-
-fn row_or_none(alloc: Global, text: &str) -> anyhow::Result<Option<Row>> {
-    if text == "nothing" {
-        return Ok(None);
-    }
-    Ok(Some(read_row(alloc, text)?))
-}
 
 // Tables without rows.
 fn no_rows(alloc: Global, catalog: &Catalog) -> Result<Tables<ListMaps>, NoMemory>
@@ -42,16 +36,20 @@ fn no_rows(alloc: Global, catalog: &Catalog) -> Result<Tables<ListMaps>, NoMemor
     Tables::new(alloc, ListMaps::new(alloc)?)
 }
 
+// The key of the row of a text.
+fn key_in(alloc: Global, table: &TableDef, text: &str) -> anyhow::Result<Bytes> {
+    let row = read_row(alloc, text)?;
+    key_of(alloc, table, &row)
+}
+
 // The change of a row, under the key of either.
 fn change_of(alloc: Global, table: &TableDef, text: &str) -> anyhow::Result<Change> {
     let Some((before, after)) = text.split_once(" > ") else {
         bail!("no rows")
     };
     let either = if before == "nothing" { after } else { before };
-    let row = read_row(alloc, either)?;
-    let key = key_of(alloc, table, &row)?;
-    let before = row_or_none(alloc, before)?;
-    let after = row_or_none(alloc, after)?;
+    let key = key_in(alloc, table, either)?;
+    let (before, after) = changed_rows(alloc, text)?;
     Ok(Change {
         table: table.number,
         key,
@@ -120,6 +118,17 @@ fn take_back(
     Ok(())
 }
 
+// The bytes of values of the first columns of these kinds.
+fn leading_key(alloc: Global, kinds: &[Kind], values: &[Value]) -> anyhow::Result<Bytes> {
+    let Some(kinds) = kinds.get(..values.len()) else {
+        bail!("too many values")
+    };
+    if !key_fits(kinds, values) {
+        bail!("a value does not fit");
+    }
+    Ok(encode_key(alloc, kinds, values)?)
+}
+
 // An end of an interval of the table's keys.
 fn end(alloc: Global, table: &TableDef, text: &str) -> anyhow::Result<Bytes> {
     if let Some(letters) = text.strip_prefix('=') {
@@ -127,14 +136,7 @@ fn end(alloc: Global, table: &TableDef, text: &str) -> anyhow::Result<Bytes> {
     }
     let kinds = kinds_at(alloc, table)?;
     let values = read_row(alloc, text)?;
-    let values = values.as_slice();
-    let Some(kinds) = kinds.as_slice().get(..values.len()) else {
-        bail!("too many values")
-    };
-    if !key_fits(kinds, values) {
-        bail!("a value does not fit");
-    }
-    Ok(encode_key(alloc, kinds, values)?)
+    leading_key(alloc, kinds.as_slice(), values.as_slice())
 }
 
 fn interval(alloc: Global, table: &TableDef, text: &str) -> anyhow::Result<Interval> {

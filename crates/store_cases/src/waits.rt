@@ -3,6 +3,8 @@
 //! A row is a session and behind it those that hold what it wants, and then, each behind `; `, other sessions with those
 //! for whom they wait by what is recorded. Its answer is the cycle, or `none`; a member behind the cycle's end that is not
 //! 0 would stand behind `behind`. A line `+ ` records what sessions wait for, each behind `;`, for the rows below it.
+ghost use Rattle.std.specs.Prelude.{◌≤◌};
+
 use crate::sessions::{session_of, sessions_of};
 use anyhow::bail;
 use case_text::first_word;
@@ -37,7 +39,8 @@ fn record(waits: &mut [Sessions; 64], text: &str) -> anyhow::Result<()> {
 
 fn write_cycle(out: &mut String, cycle: &Cycle) -> anyhow::Result<()> {
     let mut place: u32 = 0;
-    for member in cycle.members {
+    for member in cycle.members.as_slice() {
+        let member = *member;
         if place < cycle.length {
             out.push_str(if place == 0 { "" } else { " " })?;
             write!(out, "{member}")?;
@@ -45,6 +48,26 @@ fn write_cycle(out: &mut String, cycle: &Cycle) -> anyhow::Result<()> {
             write!(out, " behind {member}")?;
         }
         place = place.saturating_add(1);
+    }
+    Ok(())
+}
+
+// Writes the cycle that a session would close that waits for these, or `none`.
+fn write_closed(
+    out: &mut String,
+    waits: &[Sessions; 64],
+    session: u32,
+    holders: Sessions,
+) -> anyhow::Result<()>
+    requires from_1 { 1 ≤ session }
+    requires to_64 { session ≤ 64 }
+{
+    match would_close(waits, session, holders) {
+        Some(cycle) => write_cycle(out, &cycle)?,
+        None => out.push_str("none")?,
+    }
+    if out.is_empty() {
+        bail!("a cycle without members");
     }
     Ok(())
 }
@@ -72,13 +95,7 @@ impl Waits {
         let session = session_of(session)?;
         let holders = sessions_of(holders)?;
         let mut out = String::new(alloc);
-        match would_close(&waits, session, holders) {
-            Some(cycle) => write_cycle(&mut out, &cycle)?,
-            None => out.push_str("none")?,
-        }
-        if out.as_str().is_empty() {
-            bail!("a cycle without members");
-        }
+        write_closed(&mut out, &waits, session, holders)?;
         Ok(out)
     }
 }

@@ -5,7 +5,7 @@ use Rattle.std.proofs.lemmas.List.{take_at, append-nil, get_or-append_right, tak
 use Rattle.byteorder.specs.Endian.{big_bytes}
 use Rattle.disk_io.specs.Disk.{part, splice, Torn}
 use Rattle.disk_io.specs.Bytes.{length-splice, part_same, torn_part, part_join, part-splice_in, part-splice_out, byte-splice_in, byte-splice_before, byte-splice_after, length-part, byte-part, part_one}
-use Rattle.wal_log.specs.Area.{Entry, group, block, blocks, Begins}
+use Rattle.log_records.specs.Area.{Entry, group, block, blocks, Begins}
 use Rattle.wal_log.specs.Log.{LogState, Holds, InPart, FlushLeaves, IsOutside, body}
 use Rattle.wal_log.proofs.KeptLaws.{block_is, length-behind}
 

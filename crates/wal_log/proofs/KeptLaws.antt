@@ -2,8 +2,8 @@
 use Rattle.std.proofs.Common.{◌≡◌, ℕ, ◌+◌, ◌-◌, ◌≤◌, List, [], ◌∷◌, ◌++◌, length, take, drop, refl, sym, ap, ◌∙◌, arith, length-take, length-drop}
 use Rattle.std.proofs.lemmas.List.{drop-append-le, take_at, take-take}
 use Rattle.byteorder.specs.Endian.{big_bytes}
-use Rattle.wal_log.specs.Area.{block}
-use Rattle.wal_log.specs.Buffer.{Filled}
+use Rattle.log_records.specs.Area.{block}
+use Rattle.log_records.specs.Buffer.{Filled}
 use Rattle.wal_log.specs.Log.{LogState, after_flush}
 
 pub length-behind : (n fill : ℕ) (buffer : List ℕ) → fill ≤ length buffer → length (drop n (take fill buffer)) ≡ fill - n

@@ -1,10 +1,2 @@
-pub mod FieldLaws
-pub mod RecordLaws
-mod Many
-mod Puts
 mod KeptLaws
-mod RecordSteps
-mod FrameSteps
-mod AllSteps
-pub mod ScanLaws
 pub mod BlockLaws

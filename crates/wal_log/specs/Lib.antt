@@ -1,6 +1,1 @@
-pub mod Spelling
-pub mod Reading
-pub mod Buffer
-pub mod Area
-pub mod Scan
 pub mod Log

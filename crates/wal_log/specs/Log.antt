@@ -2,7 +2,7 @@
 use Rattle.std.specs.Prelude.{◌≡◌, ◌≢◌, ◌⊎◌, ℕ, suc, zero, ◌+◌, ◌-◌, ◌<◌, ◌≤◌, List, [], ◌∷◌, ◌++◌, length, take, drop, get_or}
 use Rattle.byteorder.specs.Endian.{big_bytes}
 use Rattle.disk_io.specs.Disk.{part, splice, Torn}
-use Rattle.wal_log.specs.Area.{Entry, group, block, blocks, Begins}
+use Rattle.log_records.specs.Area.{Entry, group, block, blocks, Begins}
 
 -- the log without where it lies in memory; records are their bytes
 pub record LogState : Type 0 where

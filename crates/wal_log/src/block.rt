@@ -2,13 +2,13 @@
 ghost use Rattle.std.specs.Prelude.{◌≡◌, ◌+◌, ◌-◌, ◌≤◌, ◌<◌, ◌^◌, ◌∷◌, ◌++◌, [], length, take, drop, OnOk};
 ghost use Rattle.byteorder.specs.Endian.{big_bytes};
 ghost use Rattle.disk_io.specs.Disk.{splice, Only, LeavesOnly, CountsFault};
-ghost use Rattle.wal_log.specs.Area.{block};
+ghost use Rattle.log_records.specs.Area.{block};
 ghost use Rattle.wal_log.specs.Log.{InPart, body};
 
-use crate::scanning::OPEN;
 use byteorder::{BigEndian, ByteOrder};
 use disk_io::{Disk, write_through};
 use iv_types::Failed;
+use log_records::OPEN;
 
 /// The gate of a block that is not written yet.
 const CLOSED: u8 = 0;
@@ -28,7 +28,7 @@ pub fn close(buffer: &mut [u8], fill: usize)
 }
 
 /// Makes the records from byte 5 on a block with its gate open, and a closed gate behind it.
-#[tactic(auto, unfolding(crate::specs::Area::block))]
+#[tactic(auto, unfolding(log_records::specs::Area::block))]
 pub fn enclose(buffer: &mut [u8], fill: usize)
     requires start { 5 ≤ fill }
     requires room { fill < length buffer.old }

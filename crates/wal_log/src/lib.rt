@@ -1,20 +1,14 @@
-//! The log: records that say what transactions did, in an area of a disk that a crash may cut short.
+//! The log: records that wait for a flush, and the blocks of an area of the disk to which they are flushed.
 //!
-//! An area is a row of blocks. A block is a gate byte, a length and whole records; it counts once its gate is open,
-//! and the gate is opened by a write of its own, behind a sync. All numbers are big-endian.
+//! A block's gate is opened by a write of its own, behind a sync. The records, their bytes and the reading of an area
+//! are those of `log_records`.
 #![tactic(auto)]
 
 mod block;
-mod fault;
 mod log;
-mod reading;
-mod record;
-mod scanning;
-mod writing;
 
-pub use fault::ScanFault;
 pub use iv_types::DiskFault;
 pub use log::{AREAS_AT, LEAST_AREA, Log, LogFull, MOST_AREA, held_blocks_stand};
-pub use record::{Record, RecordList, Scanned};
-pub use scanning::{read_entry, scan};
-pub use writing::{entry_bytes, entry_size, is_short};
+pub use log_records::{
+    Record, RecordList, ScanFault, Scanned, entry_bytes, entry_size, is_short, read_entry, scan,
+};

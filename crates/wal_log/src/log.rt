@@ -1,15 +1,14 @@
 //! Records that wait in memory for a flush, and the place of the next block.
 ghost use Rattle.std.specs.Prelude.{◌≡◌, ◌<◌, ◌≤◌, ◌+◌, ◌-◌, ◌*◌, ◌^◌, ◌++◌, ◌∷◌, [], List, length, OnOk, OnErr, IfOk, IfErr};
-ghost use Rattle.wal_log.specs.Spelling.{spelling, IsShort};
+ghost use Rattle.log_records.specs.Spelling.{spelling, IsShort};
 ghost use Rattle.disk_io.specs.Disk.{Only, LeavesOnly, CountsFault};
-ghost use Rattle.wal_log.specs.Area.{Entry, group, block, IsSmall};
+ghost use Rattle.log_records.specs.Area.{Entry, group, block, IsSmall};
 ghost use Rattle.wal_log.specs.Log.{new_log, used_by, restarted, after_flush, areas_at, Holds, FlushLeaves, IsOutside, BegunHolds, HeldBegins, HeldStays};
 
 use crate::block::{enclose, flush_block};
-use crate::writing::{entry_size, put_entry};
-use crate::{DiskFault, Record};
 use disk_io::Disk;
-use iv_types::NoMemory;
+use iv_types::{DiskFault, NoMemory};
+use log_records::{Record, entry_size, put_entry};
 use std::alloc::Global;
 use std::marker::Model;
 use thiserror::Error;

@@ -1,7 +1,7 @@
 use Rattle.std.proofs.Common.{◌≡◌, ◌++◌, ◌-◌, ◌+◌, List, ℕ, length, take, drop, ap, sym, ◌∙◌, arith}
 use Rattle.std.proofs.lemmas.List.{with_items_is}
 use Rattle.std.specs.Vec.{with_items}
-use Rattle.wal_log.specs.Spelling.{spelling}
+use Rattle.log_records.specs.Spelling.{spelling}
 use Rattle.wal_log.specs.Log.{LogState}
 use Rattle.wal_log.proofs.KeptLaws.{put_behind, one_waits}
 use Rattle.wal_log.proofs.log.Log.append.Goals as goal

@@ -1,8 +1,8 @@
 use Rattle.std.proofs.Common.{◌≡◌, ◌++◌, ◌∷◌, [], ◌+◌, ◌≤◌, List, ℕ, length, take, drop, ap, sym, subst, ◌∙◌, arith}
 use Rattle.std.proofs.lemmas.List.{with_items_is}
 use Rattle.std.specs.Vec.{with_items}
-use Rattle.wal_log.specs.Area.{block}
-use Rattle.wal_log.specs.Spelling.{spelling}
+use Rattle.log_records.specs.Area.{block}
+use Rattle.log_records.specs.Spelling.{spelling}
 use Rattle.wal_log.specs.Log.{LogState, used_by}
 use Rattle.wal_log.proofs.KeptLaws.{length-behind, put_behind, enclosed, one_carried}
 use Rattle.wal_log.proofs.log.Log.carry.Goals as goal

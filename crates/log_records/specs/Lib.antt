@@ -1,0 +1,5 @@
+pub mod Spelling
+pub mod Reading
+pub mod Buffer
+pub mod Area
+pub mod Scan

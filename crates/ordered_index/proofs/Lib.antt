@@ -1,0 +1,15 @@
+pub mod StorePages
+pub mod Rows
+pub mod EditSteps
+pub mod Flats
+pub mod Finds
+pub mod Puts
+pub mod Joins
+pub mod Loose
+pub mod Takes
+pub mod Indexes
+pub mod Maps
+pub mod Marks
+pub mod Laying
+pub mod Drawing
+pub mod Playing

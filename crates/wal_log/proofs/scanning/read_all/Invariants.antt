@@ -1,6 +1,0 @@
-use Rattle.std.proofs.Common.{◌≡◌, drop, map}
-use Rattle.wal_log.specs.Scan.{joined, all_records, framed}
-use Rattle.wal_log.proofs.scanning.read_all.Given as goal
-
-abbrev pub invariant-loop-block : goal.invariant-loop-block
-invariant-loop-block l = joined l.out.items (all_records (map (framed l.area) (drop l.block-index l.found))) ≡ all_records (map (framed l.area) l.found)

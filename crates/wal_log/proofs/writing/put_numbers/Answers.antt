@@ -1,9 +1,0 @@
-use Rattle.std.proofs.Common.{List, ℤ, subst}
-use Rattle.wal_log.specs.Buffer.{Filled}
-use Rattle.wal_log.specs.Spelling.{numbers}
-use Rattle.wal_log.proofs.Puts.{behind}
-use Rattle.wal_log.proofs.writing.put_numbers.Goals as goal
-
-pub returns-clause-filled : goal.returns-clause-filled
-returns-clause-filled c =
-    subst (λ (l : List ℤ). Filled c.args.fill c.args.buffer.now c.put_sums.result c.put_sums.new.buffer (numbers l)) c.as_slice-sums.ensures (behind c.put_u8-counted.ensures c.put_sums.ensures.filled)
