@@ -86,7 +86,7 @@ in_range_law s r = (
 
 -- ---- what is read
 
-reads_read : (db : Database) → AreSound db.schema db.rows → AreInRange db.schema db.rows → (n : ℕ) (interval : Interval) (rows : List Row) → Reads db n interval rows → read db n interval ≡ Some rows
+pub reads_read : (db : Database) → AreSound db.schema db.rows → AreInRange db.schema db.rows → (n : ℕ) (interval : Interval) (rows : List Row) → Reads db n interval rows → read db n interval ≡ Some rows
 reads_read db sound in_range n interval rows h = go (numbered db.schema n) refl h
   where
     at_view : (v : ViewTree) → ((found : List Row) → object_rows db (Some (view v)) interval ≡ Some found → found ≡ rows) → (o : Option (List Row)) → view_rows db.schema db.rows v ≡ o → IsSome o → object_rows db (Some (view v)) interval ≡ Some rows

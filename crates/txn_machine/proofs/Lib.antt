@@ -51,3 +51,5 @@ pub mod LogRoom
 pub mod LogSteps
 pub mod Shapes
 pub mod Filling
+pub mod Seats
+pub mod Standing

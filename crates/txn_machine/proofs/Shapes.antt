@@ -221,7 +221,7 @@ delta_law s r i is =
 
 -- ---- stored rows
 
-same_view : (v w : ViewTree) → Some (view v) ≡ Some (view w) → v ≡ w
+pub same_view : (v w : ViewTree) → Some (view v) ≡ Some (view w) → v ≡ w
 same_view v w e = cc
 
 plus_length : (k : ℕ) (ms ns : List ℤ) → (length ms ≡ k) ⊎ (ms ≡ []) → length ns ≡ k → length (plus ms ns) ≡ k
@@ -252,12 +252,12 @@ add_stored objects stored d h x place numbers there = by_place place (place_of d
         let old : IsStoredRow objects (place_of d) ns = h (place_of d) ns e in
         inl (old.width ∙ ap (λ (v : ViewTree). suc (length v.sums)) (same_view old.of x.of (sym old.view_is ∙ x.view_is)))
 
-add_all_stored : (objects : Schema) (stored : ViewRows) (ds : List GroupDelta) → AreStored objects stored → AllByRecursion (IsDelta objects) ds → AreStored objects (add_all stored ds)
+pub add_all_stored : (objects : Schema) (stored : ViewRows) (ds : List GroupDelta) → AreStored objects stored → AllByRecursion (IsDelta objects) ds → AreStored objects (add_all stored ds)
 add_all_stored objects stored [] h a = h
 add_all_stored objects stored (d ∷ ds) h a = add_all_stored objects (add_to stored d) ds (add_stored objects stored d h a.0) a.1
 
 -- the rows of a view that is made
-made_are : (objects : Schema) (rows : Rows) → AreSound objects rows → (n : ℕ) (o : Object) → numbered objects n ≡ Some o → AllByRecursion (IsDelta objects) (made_of objects rows o)
+pub made_are : (objects : Schema) (rows : Rows) → AreSound objects rows → (n : ℕ) (o : Object) → numbered objects n ≡ Some o → AllByRecursion (IsDelta objects) (made_of objects rows o)
 made_are objects rows sound n (table t) e = tt
 made_are objects rows sound n (index i) e = tt
 made_are objects rows sound n (view v) e =

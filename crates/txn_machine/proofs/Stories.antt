@@ -81,11 +81,11 @@ module _ (s : Store) (i number : ℕ) (interval : Interval) (mode : LockMode) (r
 
 -- ---- what is told by a step
 
-told_blocked : (s : Store) (i : ℕ) (a : Act) (x : Sessions) (told : List Told) → told_after s i a (answer.Blocked x) told ≡ told
+pub told_blocked : (s : Store) (i : ℕ) (a : Act) (x : Sessions) (told : List Told) → told_after s i a (answer.Blocked x) told ≡ told
 told_blocked s i (act.Begin mode) x told = refl
 told_blocked s i _ x told = refl
 
-told_refused : (s : Store) (i : ℕ) (a : Act) (x : EngineRefusal) (told : List Told) → told_after s i a (answer.Refused x) told ≡ told
+pub told_refused : (s : Store) (i : ℕ) (a : Act) (x : EngineRefusal) (told : List Told) → told_after s i a (answer.Refused x) told ≡ told
 told_refused s i (act.Begin mode) x told = refl
 told_refused s i _ x told = refl
 

@@ -1,5 +1,5 @@
 -- The laws of what a step adds, of what an open transaction keeps and was told, and of the rows under its locks.
-use Rattle.std.specs.Prelude.{◌≡◌, ◌⊎◌, ℕ, ◌+◌, ◌≤◌, List, [], ◌∷◌, ◌++◌, length, map, Option, if◌then◌else◌, pos, neg_ℤ, Some}
+use Rattle.std.specs.Prelude.{◌≡◌, ◌⊎◌, ℕ, ◌+◌, ◌≤◌, List, [], ◌∷◌, ◌++◌, length, map, Option, if◌then◌else◌, pos, neg_ℤ, Some, drop, ◌-◌}
 use Rattle.std.specs.List.{All, Contains}
 use Rattle.std.specs.FinMap.{get}
 use Rattle.std.specs.Ordering.{eq_by_cmp}
@@ -12,7 +12,7 @@ use Rattle.iv_meaning.specs.Database.{Row}
 use Rattle.iv_meaning.specs.History.{Entry, state_at}
 use Rattle.iv_meaning.specs.Escrow.{IsSession, lo, hi}
 use Rattle.txn_machine.specs.Deltas.{RowChange}
-use Rattle.txn_machine.specs.Keeping.{Pay, increments}
+use Rattle.txn_machine.specs.Keeping.{Pay, increments, changes_of, KeptStep}
 use Rattle.txn_machine.specs.Entries.{AgreeAt}
 use Rattle.txn_machine.specs.Store.{committed, schema_of, now, changes_by, locks_of}
 use Rattle.txn_machine.specs.Counts.{kept_size, size_of_entry}
@@ -20,7 +20,7 @@ use Rattle.txn_machine.specs.Ghosts.{MayRead}
 use Rattle.txn_machine.specs.State.{State, most_steps}
 use Rattle.txn_machine.specs.May.{IsOpen}
 use Rattle.txn_machine.specs.Steps.{Did, Step}
-use Rattle.txn_machine.specs.Alone.{Told, Found, WasThere, TookBack, Story, IsTrueIn, IsReadIn, without_latest}
+use Rattle.txn_machine.specs.Alone.{Told, Found, WasThere, TookBack, Story, IsTrueIn, IsReadIn, without_latest, Reads, with_changes}
 use Rattle.txn_machine.specs.Laws.{IsReached, IsReachedStory, changes_above}
 use Rattle.iv_types.specs.declared.lock.GroupDelta.{GroupDelta}
 use Rattle.txn_machine.specs.Stored.{AreStored}
@@ -53,6 +53,16 @@ ToldLaw = (story : Story) → IsReachedStory story → (session : ℕ) → (o : 
     → (o.transaction.mode ≡ Serial → All (IsTrueIn (committed story.state.store)) (story.told session) × (kept_after (story.told session) ≡ changes_by story.state.store session))
     × (o.transaction.mode ≡ Snapshot →
     All (IsReadIn (state_at story.state.store.origin story.state.store.history o.transaction.number)) (story.told session) × (changes_by story.state.store session ≡ []))
+
+-- of kept steps, of which the latest stands first, so many of the oldest
+abbrev pub oldest : ℕ → List KeptStep → List KeptStep
+oldest many ks = drop (length ks - many) ks
+
+-- Each note that stands is what its interval has in what is committed, with those changes that were kept when it was taken: all of
+-- these are kept still.
+abbrev pub NotesLaw : Type 0
+NotesLaw = (s : State) → IsReached s → (session : ℕ) → (o : IsOpen s.store session) → o.transaction.mode ≡ Serial
+    → All (λ n. Reads (with_changes (changes_of (oldest n.kept o.transaction.kept)) (committed s.store)) n.index n.interval n.rows) o.transaction.notes
 
 -- ---- rows under locks
 

@@ -20,4 +20,5 @@ pub mod Alone
 pub mod Laws
 pub mod KeptLaws
 pub mod LogLaws
+pub mod Parts
 pub mod Example

@@ -1,7 +1,8 @@
 //! Laws of what steps add, of what transactions keep and were told, and of the rows under their locks. Each function is there for
 //! its contract.
-ghost use Rattle.txn_machine.specs.KeptLaws.{DeltaLaw, EntryLaw, LengthLaw, OwnRowsLaw, PrefixLaw, RowAtLaw, SizesLaw, StoredRowLaw, ToldLaw};
+ghost use Rattle.txn_machine.specs.KeptLaws.{DeltaLaw, EntryLaw, LengthLaw, NotesLaw, OwnRowsLaw, PrefixLaw, RowAtLaw, SizesLaw, StoredRowLaw, ToldLaw};
 ghost use Rattle.txn_machine.specs.LogLaws.{LogRoomLaw};
+ghost use Rattle.txn_machine.specs.Parts.{SeatLaw};
 
 /// A step adds one entry at most, which names its session.
 pub fn entry_law()
@@ -51,4 +52,15 @@ pub fn delta_law()
 /// Each stored row is one of a view of the schema, under a group's key, with a count and a number for each sum.
 pub fn stored_row_law()
     ensures { StoredRowLaw }
+{}
+
+/// A step leaves every other number's part as it was, as plain data: its transaction, the definitions, what is committed under
+/// its locks, what it was told.
+pub fn seat_law()
+    ensures { SeatLaw }
+{}
+
+/// A note that stands is what its interval has in what is committed, with the changes that were kept when it was taken.
+pub fn notes_law()
+    ensures { NotesLaw }
 {}
