@@ -116,7 +116,7 @@ pub fn play_all<M: SortedMaps>(
 }
 
 /// The sorted maps law: the same calls on two kinds of sorted maps that hold the same give equal answers and leave equal
-/// maps, unless a reserve answers with want of memory.
+/// maps, those that the calls alone tell, unless a reserve answers with want of memory.
 ///
 /// # Errors
 ///
@@ -130,8 +130,8 @@ pub fn play_both<A: SortedMaps, B: SortedMaps>(
     requires same { (i : ℕ) → A.maps a.old i ≡ B.maps b.old i }
     requires first { CanRun calls.now (A.maps a.old) (A.spare a.old) (A.limit a.old) }
     requires second { CanRun calls.now (B.maps b.old) (B.spare b.old) (B.limit b.old) }
-    ensures answers { IfOk result (λ r. r.0.items ≡ r.1.items) }
-    ensures maps { OnOk result ((i : ℕ) → A.maps a.new i ≡ B.maps b.new i) }
+    ensures answers { IfOk result (λ r. (r.0.items ≡ answers_of calls.now (A.maps a.old)) × (r.1.items ≡ answers_of calls.now (A.maps a.old))) }
+    ensures maps { OnOk result ((i : ℕ) → (A.maps a.new i ≡ maps_after_all calls.now (A.maps a.old) i) × (B.maps b.new i ≡ maps_after_all calls.now (A.maps a.old) i)) }
 {
     let first = play_all(alloc, a, calls)?;
     let second = play_all(alloc, b, calls)?;

@@ -1,5 +1,5 @@
 //! Sorted maps over pages.
-ghost use Rattle.std.specs.Prelude.{◌≡◌, ◌≢◌, ℕ, ◌+◌, ◌-◌, ◌*◌, ◌<◌, ◌≤◌, Bool, OnOk, List, [], length, replicate, set, false, IfOk, Some, None, IsSome, IsTrue, ◌↔◌};
+ghost use Rattle.std.specs.Prelude.{◌≡◌, ◌≢◌, ℕ, ◌+◌, ◌-◌, ◌*◌, ◌<◌, ◌≤◌, Bool, OnOk, IsOk, List, [], length, replicate, set, false, IfOk, Some, None, IsSome, IsTrue, ◌↔◌};
 ghost use Rattle.std.specs.FinMap as map;
 ghost use Rattle.iv_types.specs.Maps.{CanHold, IsWithin, last_index, used, with_map};
 ghost use Rattle.disk_io.specs.Disk.{Only, LeavesOnly, CountsFault};
@@ -188,7 +188,15 @@ impl SortedMaps for PageMaps {
 
     ghost limit = { limit_of };
 
-    fn reserve(&mut self, _index: u32, _more: u32) -> Result<(), NoMemory> {
+    /// Does nothing: there is always room for an entry that is within the limit.
+    fn reserve(&mut self, index: u32, more: u32) -> Result<(), NoMemory>
+        ensures done { IsOk result }
+        ensures same { self.new ≡ self.old }
+        ensures room { OnOk result (more ≤ spare_of self.new index) }
+        ensures maps { (i : ℕ) → map_of self.new i ≡ map_of self.old i }
+        ensures spare { (i : ℕ) → spare_of self.old i ≤ spare_of self.new i }
+        ensures limit { limit_of self.new ≡ limit_of self.old }
+    {
         Ok(())
     }
 
@@ -204,16 +212,47 @@ impl SortedMaps for PageMaps {
         first_from(&self.leaves, index, key, true)
     }
 
-    fn insert(&mut self, index: u32, key: Bytes, value: Bytes) {
+    /// Adds an entry under a key that is not there. What is stored stays.
+    fn insert(&mut self, index: u32, key: Bytes, value: Bytes)
+        requires room { 1 ≤ spare_of self.old index }
+        requires absent { map.get (map_of self.old index) key ≡ None }
+        requires held { CanHold index key value }
+        requires within { IsWithin (limit_of self.old) (used (with_map (map_of self.old) index (map.insert (map_of self.old index) key value))) }
+        ensures entry { map_of self.new index ≡ map.insert (map_of self.old index) key value }
+        ensures others { (i : ℕ) → i ≢ index → map_of self.new i ≡ map_of self.old i }
+        ensures spare { spare_of self.old index ≤ spare_of self.new index + 1 }
+        ensures other_spares { (i : ℕ) → i ≢ index → spare_of self.old i ≤ spare_of self.new i }
+        ensures limit { limit_of self.new ≡ limit_of self.old }
+        ensures kept { self.new.kept ≡ self.old.kept }
+    {
         self.put(index, key.as_slice(), value.as_slice());
     }
 
-    fn replace(&mut self, index: u32, key: &[u8], value: Bytes) {
+    /// Sets the value under a key that is there. What is stored stays.
+    fn replace(&mut self, index: u32, key: &[u8], value: Bytes)
+        requires present { IsSome (map.get (map_of self.old index) key.now) }
+        requires held { CanHold index key.now value }
+        requires within { IsWithin (limit_of self.old) (used (with_map (map_of self.old) index (map.insert (map_of self.old index) key.now value))) }
+        ensures entry { map_of self.new index ≡ map.insert (map_of self.old index) key.now value }
+        ensures others { (i : ℕ) → i ≢ index → map_of self.new i ≡ map_of self.old i }
+        ensures spare { (i : ℕ) → spare_of self.old i ≤ spare_of self.new i }
+        ensures limit { limit_of self.new ≡ limit_of self.old }
+        ensures kept { self.new.kept ≡ self.old.kept }
+    {
         self.take(index, key);
         self.put(index, key, value.as_slice());
     }
 
-    fn remove(&mut self, index: u32, key: &[u8]) {
+    /// Takes away the entry under a key that is there. What is stored stays.
+    fn remove(&mut self, index: u32, key: &[u8])
+        requires { IsSome (map.get (map_of self.old index) key.now) }
+        ensures entry { map_of self.new index ≡ map.remove (map_of self.old index) key.now }
+        ensures others { (i : ℕ) → i ≢ index → map_of self.new i ≡ map_of self.old i }
+        ensures spare { spare_of self.old index + 1 ≤ spare_of self.new index }
+        ensures other_spares { (i : ℕ) → i ≢ index → spare_of self.old i ≤ spare_of self.new i }
+        ensures limit { limit_of self.new ≡ limit_of self.old }
+        ensures kept { self.new.kept ≡ self.old.kept }
+    {
         self.take(index, key);
     }
 }

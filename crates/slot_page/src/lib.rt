@@ -150,7 +150,7 @@ pub fn room(page: &[u8]) -> usize
     PAGE - 2 * count(page) - end(page)
 }
 
-/// Makes a leaf page of an index without entries. Bytes that are no part of it stay as they are.
+/// Makes a leaf page of an index without entries.
 pub fn empty(page: &mut [u8], index: u32)
     requires { length page.old ≡ whole_page }
     ensures page { IsPage page.new }
