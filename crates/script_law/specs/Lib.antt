@@ -1,0 +1,4 @@
+pub mod Seen
+pub mod Programs
+pub mod RunLines
+pub mod Laws

@@ -1,0 +1,36 @@
+//! What a script of many sessions prints: runs of its lines over any engine of steps, and the law that they are serial transcripts.
+#![tactic(auto)]
+
+ghost use Rattle.std.specs.Prelude.{ℕ};
+ghost use Rattle.iv_types.specs.declared.refusal.Refusal.{Refusal};
+ghost use Rattle.iv_types.specs.declared.refusal.EngineRefusal.{EngineRefusal};
+ghost use Rattle.script_law.specs.Laws.{TranscriptLaw};
+ghost use Rattle.script_law.specs.Programs.{Programs};
+
+/// An engine of steps, as its states.
+pub trait Engine {
+    ghost use Rattle.std.specs.Prelude.{ℕ};
+    ghost use Rattle.txn_machine.specs.Acts.{Act};
+    ghost use Rattle.txn_machine.specs.Answers.{Answer};
+    ghost use Rattle.script_law.specs.Seen.{Visible, StepLaws};
+
+    /// What sessions see of it.
+    ghost view: { Self → Visible };
+
+    /// A step of a session is answered so, and leaves this state.
+    ghost does: { Self → ℕ → Act → Answer → Self → Type 0 };
+
+    /// The states that it can be in.
+    ghost stands: { Self → Type 0 };
+
+    /// Those in which it is stopped.
+    ghost halts: { Self → Type 0 };
+
+    /// The laws of its steps.
+    ghost laws: { StepLaws view does stands halts };
+}
+
+/// What a run of lines prints is a serial transcript.
+pub fn transcript_law<E: Engine>()
+    ensures { (programs : Programs) (tell : EngineRefusal → Refusal) → TranscriptLaw E.view E.does E.stands E.halts programs tell }
+{}
