@@ -1,5 +1,5 @@
 -- The example's statements, run alone.
-use Rattle.std.specs.Prelude.{◌≡◌, ℕ, pos, List, [], ◌∷◌, map, ◌==◌, codes, Option, Some, None, is_some, if◌then◌else◌}
+use Rattle.std.specs.Prelude.{◌≡◌, ℕ, pos, List, [], ◌∷◌, map, filter, ◌==◌, codes, Option, Some, None, is_some, if◌then◌else◌}
 use Rattle.std.specs.FinMap.{get, empty, entries, insert as put_row, put, find as find_entry, get-empty, get-entries, entries-insert, entries_sorted}
 use Rattle.std.specs.FinMap.Entries.{same_entries}
 use mathlib.Core.Path.{sym, ap, ◌∙◌}
@@ -13,11 +13,10 @@ use Rattle.table_laws.specs.Kept.{Change}
 use Rattle.table_laws.proofs.Place.{place_cmp_total, place_cmp-IsAntisymmetric}
 use Rattle.iv_meaning.specs.Database.{Row, Rows, Database, key_of}
 use Rattle.table_laws.specs.Table.{write, rows_where}
-use Rattle.std.specs.Option.{option_and_then}
 use Rattle.iv_types.specs.Syntax.{at}
-use Rattle.iv_meaning.specs.Grouping.{all_of}
-use Rattle.iv_meaning.specs.Query.{BoundQuery, plain, answer}
-use Rattle.iv_meaning.specs.View.{query_of}
+use Rattle.iv_meaning.specs.Values.{is_true}
+use Rattle.iv_meaning.specs.Query.{BoundQuery, plain, combinations, conjunction, answer}
+use Rattle.iv_meaning.specs.View.{conditions_of, rows_by_group}
 use Rattle.iv_meaning.specs.Statement.{Kept, sets, Accepted, inserted, select_meaning}
 use Rattle.iv_meaning.specs.Transaction.{Saved, Running, Told, told, inside, alone, alone_from, begun, ended_by, outside}
 use Rattle.iv_meaning.specs.SerialExample.{sale, by_shop, shop_database, sold, shows}
@@ -69,7 +68,9 @@ bound_shows = record {
 }
 
 abbrev shown_by : List (Place × Row) → Option (List Row)
-shown_by es = option_and_then (answer bound_shows) (all_of (answer (query_of shop_database.schema by_shop) (map (λ (e : Place × Row). e.1) (rows_where (λ place row. place.0 == 1) es) ∷ []) ∷ []))
+shown_by es =
+    let sales : List Row = map (λ (e : Place × Row). e.1) (rows_where (λ place row. place.0 == 1) es) in
+    answer bound_shows (rows_by_group by_shop (filter (λ c. is_true (conjunction (conditions_of shop_database.schema by_shop) c)) (combinations (sales ∷ []))) ∷ [])
 
 shows_by : (rows : Rows) (kept : List Kept) (saved : List Saved) (es : List (Place × Row)) → entries rows ≡ es
     → inside Serial shows (running rows kept saved) ≡ told (select_meaning (shown_by es)) (running rows kept saved)

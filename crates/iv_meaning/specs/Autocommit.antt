@@ -1,11 +1,18 @@
 -- Statements that are transactions of their own: which of them are built, and what one is told.
-use Rattle.std.specs.Prelude.{◌≡◌, ◌⊎◌, Bool, true, false, List, [], ◌∷◌}
-use Rattle.iv_types.specs.declared.refusal.Refusal.TheVariants.{NoMemory}
+use Rattle.std.specs.Prelude.{◌≡◌, ◌⊎◌, Bool, true, false, not, List, [], ◌∷◌, Option, Some, is_some, Result, Ok, if◌then◌else◌}
+use Rattle.std.specs.List.{list_any}
+use Rattle.iv_types.specs.declared.refusal.Refusal.{Refusal}
+use Rattle.iv_types.specs.declared.refusal.Refusal.TheVariants.{NumberRange, NoMemory}
 use Rattle.iv_types.specs.declared.reply.Reply.{Reply}
 use Rattle.iv_types.specs.declared.reply.Reply.TheVariants.{Error}
 use Rattle.iv_types.specs.Syntax.{JoinTree, StatementTree, create_table, create_view, insert, select}
+use Rattle.iv_meaning.specs.Schema.{Object, view, numbered}
 use Rattle.iv_meaning.specs.Database.{Database}
-use Rattle.iv_meaning.specs.Transaction.{outside}
+use Rattle.iv_meaning.specs.View.{whole_view}
+use Rattle.iv_meaning.specs.Binding.{bind}
+use Rattle.iv_meaning.specs.Statement.{BoundTree, Refused}
+use Rattle.iv_meaning.specs.Statement as bound
+use Rattle.iv_meaning.specs.Transaction.{Transaction, ended_by, outside}
 
 abbrev pub has_no_join : List JoinTree → Bool
 has_no_join [] = true
@@ -24,10 +31,25 @@ pub record IsPassedOver (before : Database) (replies : List Reply) (after : Data
   pub told : replies ≡ Error NoMemory ∷ []
   pub left : after ≡ before
 
+-- the object is a view of which a sum leaves the HUGE range
+abbrev pub is_refused_whole : Database → Option Object → Bool
+is_refused_whole db (Some (view v)) = not (is_some (whole_view db.schema db.rows v))
+is_refused_whole db _ = false
+
+-- a SELECT names such a view
+abbrev pub names_refused : Database → Result BoundTree Refusal → Bool
+names_refused db (Ok (bound.select query)) = list_any (λ n. is_refused_whole db (numbered db.schema n)) query.relations
+names_refused db _ = false
+
+-- A statement outside a transaction, where views are evaluated whole: a SELECT that names one of which a sum leaves the HUGE
+-- range is refused, whatever its WHERE.
+abbrev pub outside_whole : StatementTree → Database → Transaction
+outside_whole statement db = if names_refused db (bind db.schema statement) then ended_by (Refused NumberRange) db else outside statement db
+
 -- the statement ran alone, as a transaction of its own
 pub record RunsAlone (statement : StatementTree) (before : Database) (replies : List Reply) (after : Database) : Type 0 where
-  pub told : replies ≡ (outside statement before).replies
-  pub left : after ≡ (outside statement before).leaves
+  pub told : replies ≡ (outside_whole statement before).replies
+  pub left : after ≡ (outside_whole statement before).leaves
 
 -- what a statement is told, and the database that is left
 abbrev pub IsTold : StatementTree → Database → List Reply → Database → Type 0

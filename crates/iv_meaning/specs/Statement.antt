@@ -22,7 +22,7 @@ use Rattle.iv_meaning.specs.Database.{Row, Rows, Database, rows_of, key_of, set_
 use Rattle.iv_meaning.specs.Values.{Outcome, meaning, value_of, is_huge}
 use Rattle.iv_meaning.specs.Query.{BoundQuery, chosen, conjunction}
 use Rattle.iv_meaning.specs.Grouping.{all_of}
-use Rattle.iv_meaning.specs.View.{view_rows, select_answer}
+use Rattle.iv_meaning.specs.View.{whole_view, select_answer}
 
 pub record BoundSet : Type 0 where
   pub column : ℕ
@@ -140,9 +140,9 @@ abbrev pub select_meaning : Option (List Row) → Meaning
 select_meaning None = Refused NumberRange
 select_meaning (Some rows) = Accepted rows (length rows) []
 
--- a view is refused where a sum of it leaves the HUGE range
+-- a view is refused where a sum of it leaves the HUGE range, which is where its query is
 abbrev pub create_meaning : Object → Database → Meaning
-create_meaning (view v) db = if is_some (view_rows db.schema db.rows v) then Accepted [] 0 (defines (view v) ∷ []) else Refused NumberRange
+create_meaning (view v) db = if is_some (whole_view db.schema db.rows v) then Accepted [] 0 (defines (view v) ∷ []) else Refused NumberRange
 create_meaning object db = Accepted [] 0 (defines object ∷ [])
 
 -- ---- all statements

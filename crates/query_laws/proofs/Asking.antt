@@ -9,13 +9,13 @@ use Rattle.iv_types.specs.declared.catalog.TableDef.{TableDef}
 use Rattle.iv_types.specs.declared.catalog.IndexDef.{IndexDef}
 use Rattle.iv_types.specs.Syntax.{Tree}
 use Rattle.iv_meaning.specs.Schema.{Schema, Object, table, index, view, as_index, indexes_of, numbered}
-use Rattle.iv_meaning.specs.Database.{Row, Database}
+use Rattle.iv_meaning.specs.Database.{Database}
 use Rattle.iv_meaning.specs.Query.{Combination, BoundQuery}
-use Rattle.iv_meaning.specs.Sound.{IsSound, IsObject}
-use Rattle.iv_meaning.specs.Plan.{ColumnTerm, terms_for, KeyIndex, read_by, Part, part_of, best, best_of, part_for, parts_from, kinds_for, interval_of, goes_on}
+use Rattle.iv_meaning.specs.Sound.{IsSound}
+use Rattle.iv_meaning.specs.Plan.{ColumnTerm, terms_for, KeyIndex, read_by, Part, part_of, best_of, part_for, parts_from, kinds_for, goes_on}
 use Rattle.iv_meaning.specs.Reading.{Program, Source, in_key_order, extended, each_extended, reading, source_by, source_of}
 use Rattle.query_laws.specs.Laws.{Asks, AskingLaw}
-use Rattle.query_laws.proofs.Each.{each_append, each_filtered, each_map, each_to}
+use Rattle.query_laws.proofs.Each.{each_append, each_filtered, each_map}
 use Rattle.query_laws.proofs.ReadingLemmas.{part_index, best_has}
 
 abbrev IsThere : Schema → ℕ → Type 0

@@ -1,8 +1,10 @@
 -- Values that fit the kinds of columns, and what the test of fitting tells.
-use Rattle.std.specs.Prelude.{◌≡◌, ℕ, zero, suc, ◌-◌, ◌^◌, ◌<◌, ◌≤◌, ◌&&◌, nat_le, ℤ, pos, negsuc, Bool, true, false, List, [], ◌∷◌, ◌++◌, length, slice_get, Option, Some}
+use Rattle.std.specs.Prelude.{◌≡◌, ℕ, zero, suc, ◌-◌, ◌^◌, ◌<◌, ◌≤◌, ◌&&◌, nat_le, not, cond, ℤ, pos, negsuc, Bool, true, false, List, [], ◌∷◌, ◌++◌, length, slice_get, Option, Some}
 use Rattle.std.specs.List.{AllByRecursion, cons_option}
-use mathlib.Core.Path.{refl, sym, ap, subst}
-use Rattle.std.proofs.Common.{arith, leb-true}
+use mathlib.Core.Path.{refl, sym, ap, subst, ◌∙◌}
+use mathlib.Core.Logic.{inl, inr}
+use Rattle.std.proofs.Common.{arith, leb-true, le-leb}
+use Rattle.std.proofs.lemmas.Bool.Decides.{leb_tells}
 use Rattle.std.proofs.lemmas.Str.{IsUtf8-from_is_utf8}
 use Rattle.std.proofs.lemmas.List.Elements.{filter_map-append}
 use Rattle.std.specs.Int.{w64}
@@ -14,7 +16,7 @@ use Rattle.iv_types.specs.declared.value.Value.TheVariants.{Number, Word}
 use Rattle.iv_types.specs.Encoding.{IsHuge, Fits, FitAll, longest_text}
 use Rattle.iv_meaning.specs.Schema.{items_at}
 use Rattle.iv_meaning.specs.Statement.{fits}
-use Rattle.iv_meaning.specs.Values.{is_huge}
+use Rattle.iv_meaning.specs.Values.{Outcome, number, word, refused, is_huge, outcome_of, value_of, lies_outside}
 
 pub first : (a b : Bool) → a && b ≡ true → a ≡ true
 first true b h = refl
@@ -51,6 +53,72 @@ fitting Int (Word w) e = absurd (cc)
 fitting Huge (Word w) e = absurd (cc)
 fitting Text (Number n) e = absurd (cc)
 
+-- ---- the range
+
+pub huge_is : (n : ℤ) → IsHuge n → is_huge n ≡ true
+huge_is (pos n) h = let f = h.0.sfits in le-leb n (2 ^ 127 - 1) (omega (arith, f))
+huge_is (negsuc n) h =
+    let f = h.0.sfits in
+    let le : n ≤ 2 ^ 127 - 2 = elim (leb_tells n (2 ^ 127 - 2)) [ inl t ↦ t.1 | inr g ↦ absurd (h.1 (ap negsuc (let l = g.1 in omega (arith, f, l)))) ] in
+    ap (λ b. b && true) (le-leb n (2 ^ 127 - 2) le)
+
+int_is : (n : ℤ) → FitsSigned w64 n → is_huge n ≡ true
+int_is (pos n) h = let f = h.sfits in le-leb n (2 ^ 127 - 1) (omega (arith, f))
+int_is (negsuc n) h = let f = h.sfits in ap (λ b. b && true) (le-leb n (2 ^ 127 - 2) (omega (arith, f)))
+
+-- the value as an expression sees it where it lies in the range
+abbrev pub seen : Value → Outcome
+seen (Number n) = number n
+seen (Word w) = word w
+
+pub seen_is : (k : Kind) (v : Value) → Fits k v → outcome_of (Some v) ≡ seen v
+seen_is Int (Number n) f = ap (λ b. cond b (number n) refused) (int_is n f)
+seen_is Huge (Number n) f = ap (λ b. cond b (number n) refused) (huge_is n f)
+seen_is Text (Word w) f = refl
+seen_is Int (Word w) f = absurd f
+seen_is Huge (Word w) f = absurd f
+seen_is Text (Number n) f = absurd f
+
+pub value_seen : (k : Kind) (v : Value) → Fits k v → value_of (outcome_of (Some v)) ≡ Some v
+value_seen k v f = ap value_of (seen_is k v f) ∙ again v
+  where
+    again : (w : Value) → value_of (seen w) ≡ Some w
+    again (Number n) = refl
+    again (Word b) = refl
+
+-- ---- values of which numbers of a HUGE column may have any size
+
+abbrev pub IsOf : Kind → Value → Type 0
+IsOf Huge (Number n) = Unit {0}
+IsOf k v = Fits k v
+
+abbrev pub AreOf : List Kind → List Value → Type 0
+AreOf [] [] = Unit {0}
+AreOf (k ∷ ks) (v ∷ vs) = IsOf k v × AreOf ks vs
+AreOf _ _ = ⊥
+
+pub fits_is_of : (k : Kind) (v : Value) → Fits k v → IsOf k v
+fits_is_of Int v f = f
+fits_is_of Huge (Number n) f = tt
+fits_is_of Huge (Word w) f = f
+fits_is_of Text v f = f
+
+pub all_are_of : (ks : List Kind) (vs : List Value) → FitAll ks vs → AreOf ks vs
+all_are_of [] [] f = tt
+all_are_of [] (v ∷ vs) f = f
+all_are_of (k ∷ ks) [] f = f
+all_are_of (k ∷ ks) (v ∷ vs) f = (fits_is_of k v f.0, all_are_of ks vs f.1)
+
+pub inside_fits : (k : Kind) (v : Value) → IsOf k v → lies_outside v ≡ false → Fits k v
+inside_fits Int v f e = f
+inside_fits Huge (Number n) f e = huge_fits n (not_outside (is_huge n) e)
+  where
+    not_outside : (b : Bool) → not b ≡ false → b ≡ true
+    not_outside true e = refl
+    not_outside false e = absurd (cc)
+inside_fits Huge (Word w) f e = f
+inside_fits Text v f e = f
+
 -- ---- columns of rows that fit
 
 -- the value of a column, which fits its kind
@@ -79,13 +147,24 @@ inside (y ∷ xs) (suc place) x e = let rest : place < length xs = inside xs pla
 abbrev pub ArePlaces : List Kind → List ℕ → Type 0
 ArePlaces ks places = AllByRecursion (λ p. p < length ks) places
 
-pub items_fit : (ks : List Kind) (vs : List Value) (places : List ℕ) → FitAll ks vs → ArePlaces ks places → FitAll (items_at ks places) (items_at vs places)
-items_fit ks vs [] f h = tt
-items_fit ks vs (p ∷ places) f h =
-    let c : Column ks vs p = column_at ks vs p f h.0 in
-    let rest : FitAll (items_at ks places) (items_at vs places) = items_fit ks vs places f h.1 in
+-- places of columns of which the row's values fit
+abbrev pub HaveColumns : List Kind → List Value → List ℕ → Type 0
+HaveColumns ks vs places = AllByRecursion (Column ks vs) places
+
+pub have_columns : (ks : List Kind) (vs : List Value) (places : List ℕ) → FitAll ks vs → ArePlaces ks places → HaveColumns ks vs places
+have_columns ks vs [] f h = tt
+have_columns ks vs (p ∷ places) f h = (column_at ks vs p f h.0, have_columns ks vs places f h.1)
+
+pub columns_fit : (ks : List Kind) (vs : List Value) (places : List ℕ) → HaveColumns ks vs places → FitAll (items_at ks places) (items_at vs places)
+columns_fit ks vs [] h = tt
+columns_fit ks vs (p ∷ places) h =
+    let c : Column ks vs p = h.0 in
+    let rest : FitAll (items_at ks places) (items_at vs places) = columns_fit ks vs places h.1 in
     subst (λ (k : Option Kind). FitAll (cons_option k (items_at ks places)) (cons_option (slice_get vs p) (items_at vs places))) (sym c.kind_is)
     (subst (λ (v : Option Value). FitAll (c.kind ∷ items_at ks places) (cons_option v (items_at vs places))) (sym c.value_is) (c.fits, rest))
+
+pub items_fit : (ks : List Kind) (vs : List Value) (places : List ℕ) → FitAll ks vs → ArePlaces ks places → FitAll (items_at ks places) (items_at vs places)
+items_fit ks vs places f h = columns_fit ks vs places (have_columns ks vs places f h)
 
 pub items_next : {X : Type 0} (xs : List X) (place : ℕ) (places : List ℕ) (x : X) → slice_get xs place ≡ Some x → items_at xs (place ∷ places) ≡ x ∷ items_at xs places
 items_next xs place places x e = ap (λ o. cons_option o (items_at xs places)) e

@@ -1,7 +1,7 @@
 -- The rows of a view: their values fit its columns, and they stand in the order of their groups.
-use Rattle.std.specs.Prelude.{◌≡◌, ℕ, zero, suc, ℤ, pos, Bool, true, false, cond, List, [], ◌∷◌, ◌++◌, length, map, take, slice_get, Option, Some, None, Contains}
+use Rattle.std.specs.Prelude.{◌≡◌, ℕ, zero, suc, ℤ, pos, true, false, cond, List, [], ◌∷◌, ◌++◌, length, map, take, slice_get, Option, Some, None, Contains}
 use Rattle.std.specs.List.{AllByRecursion, AllZip, flat_map, filter_map, cons_option}
-use Rattle.std.specs.Option.{option_map, option_and_then, option_zip}
+use Rattle.std.specs.Option.{option_and_then}
 use mathlib.Core.Path.{refl, sym, ap, subst, ◌∙◌}
 use Rattle.std.proofs.Common.{arith}
 use Rattle.std.proofs.lemmas.List.{take_at}
@@ -12,45 +12,27 @@ use Rattle.std.specs.Cmp.{tied_itself}
 use Rattle.iv_types.specs.declared.value.Kind.{Kind}
 use Rattle.iv_types.specs.declared.value.Kind.TheVariants.{Huge}
 use Rattle.iv_types.specs.declared.value.Value.{Value}
-use Rattle.iv_types.specs.declared.value.Value.TheVariants.{Number, Word}
+use Rattle.iv_types.specs.declared.value.Value.TheVariants.{Number}
 use Rattle.iv_types.specs.declared.expression.ColumnAt.{ColumnAt}
-use Rattle.iv_types.specs.Syntax as s
-use Rattle.iv_types.specs.Syntax.{Tree}
 use Rattle.iv_types.specs.Encoding.{Fits, FitAll, key_bytes, row_cmp}
 use Rattle.iv_types.proofs.Orders.{row_cmp_total, row_cmp_exact}
 use Rattle.row_codec.proofs.Columns.{fit_lengths}
 use Rattle.row_codec.proofs.KeyOrders.{key_order}
 use Rattle.iv_meaning.specs.Database.{Row}
 use Rattle.iv_meaning.specs.Schema.{kind_at}
-use Rattle.iv_meaning.specs.Values.{Outcome, number, word, truth, refused, is_huge, ranged, is_true, is_false, value_at, value_of, outcome_of}
-use Rattle.iv_meaning.specs.Grouping.{all_of, among, groups_of, members, number_in, sum_by}
-use Rattle.iv_meaning.specs.Query.{Combination, BoundItem, count, sum, plain, BoundQuery, combinations, chosen, item_of_group, item_alone, row_by, values_at, listed, ordered, placed}
+use Rattle.iv_meaning.specs.Values.{value_at}
+use Rattle.iv_meaning.specs.Grouping.{among, groups_of, members, number_in, sum_by}
+use Rattle.iv_meaning.specs.Query.{Combination, combinations, values_at}
 use Rattle.query_laws.specs.Laws.{IsBefore, Rises}
 use Rattle.query_laws.proofs.Each.{each_append, each_map}
 use Rattle.query_laws.proofs.Rising.{key_cmp, BeforeAll, is_before, rises_from}
-use Rattle.query_laws.proofs.Fitting.{Column, column_at, inside, huge_fits}
+use Rattle.query_laws.proofs.Fitting.{AreOf, all_are_of, Column, column_at, inside}
 use Rattle.query_laws.proofs.TermLemmas.{FitRows, equal_is}
 
 -- ---- options and lists
 
 pub some_same : {X : Type 0} (x y : X) → Some x ≡ Some y → x ≡ y
 some_same x y e = cc
-
--- the parts of a list of which none is wanting
-pub all_of_cons : {X : Type 0} (o : Option X) (os : List (Option X)) (xs : List X) → all_of (o ∷ os) ≡ Some xs → (x : X) × (rest : List X) × (o ≡ Some x) × (all_of os ≡ Some rest) × (xs ≡ x ∷ rest)
-all_of_cons {X = X} None os xs e = absurd (cc)
-all_of_cons {X = X} (Some x) os xs e = go (all_of os) refl e
-  where
-    go : (r : Option (List X)) → all_of os ≡ r → option_map (λ (p : X × List X). p.0 ∷ p.1) (option_zip (Some x) r) ≡ Some xs → (y : X) × (rest : List X) × (Some x ≡ Some y) × (all_of os ≡ Some rest) × (xs ≡ y ∷ rest)
-    go None is h = absurd (cc)
-    go (Some rest) is h = (x, rest, refl, is, cc)
-
-pub all_of_zip : {X Y : Type 0} (f : X → Option Y) (xs : List X) (ys : List Y) → all_of (map f xs) ≡ Some ys → AllZip (λ x y. f x ≡ Some y) xs ys
-all_of_zip f [] [] e = tt
-all_of_zip f [] (y ∷ ys) e = absurd (cc)
-all_of_zip {Y = Y} f (x ∷ xs) ys e =
-    let p = all_of_cons (f x) (map f xs) ys e in
-    subst (λ (l : List Y). AllZip (λ x y. f x ≡ Some y) (x ∷ xs) l) (sym p.4) (p.2, all_of_zip f xs p.1 p.3)
 
 -- ---- combinations
 
@@ -64,23 +46,6 @@ combined_fit kinds ks rests (row ∷ rows) f h =
 pub combinations_fit : {X : Type 0} (kinds : X → List Kind) (rows : X → List Row) (xs : List X) → AllByRecursion (λ x. AllByRecursion (FitAll (kinds x)) (rows x)) xs → AllByRecursion (FitRows (map kinds xs)) (combinations (map rows xs))
 combinations_fit kinds rows [] h = (tt, tt)
 combinations_fit kinds rows (x ∷ xs) h = combined_fit (map kinds xs) (kinds x) (combinations (map rows xs)) (rows x) h.0 (combinations_fit kinds rows xs h.1)
-
--- what is chosen is among what there was
-module _ {X : Type 0} (test : X → Outcome) (P : X → Type 0) where
-  pub chosen_each : (xs ys : List X) → chosen test xs ≡ Some ys → AllByRecursion P xs → AllByRecursion P ys
-  chosen_each [] ys e h = subst (AllByRecursion P) (some_same [] ys e) tt
-  chosen_each (x ∷ xs) ys e h = go (test x) (chosen test xs) (λ zs is. chosen_each xs zs is h.1) e
-    where
-      one_more : (o : Option (List X)) → ((zs : List X) → o ≡ Some zs → AllByRecursion P zs) → option_map (λ more. x ∷ more) o ≡ Some ys → AllByRecursion P ys
-      one_more None rest e = absurd (cc)
-      one_more (Some zs) rest e = subst (AllByRecursion P) (some_same (x ∷ zs) ys e) (h.0, rest zs refl)
-
-      go : (t : Outcome) (o : Option (List X)) → ((zs : List X) → o ≡ Some zs → AllByRecursion P zs) → cond (is_true t) (option_map (λ more. x ∷ more) o) (cond (is_false t) o None) ≡ Some ys → AllByRecursion P ys
-      go (truth true) o rest e = one_more o rest e
-      go (truth false) o rest e = rest ys e
-      go (number n) o rest e = absurd (cc)
-      go (word w) o rest e = absurd (cc)
-      go refused o rest e = absurd (cc)
 
 -- ---- groups
 
@@ -207,49 +172,18 @@ values_fit kinds rows (place ∷ group) f h =
 
 -- ---- the row of a group
 
-in_huge : (n : ℤ) (y : Value) → value_of (ranged n) ≡ Some y → Fits Huge y
-in_huge n y e = go (is_huge n) refl e
-  where
-    go : (b : Bool) → is_huge n ≡ b → value_of (cond b (number n) refused) ≡ Some y → Fits Huge y
-    go true is e = subst (Fits Huge) (some_same (Number n) y e) (huge_fits n is)
-    go false is e = absurd (cc)
-
-pub value_again : (o : Option Value) → value_of (outcome_of o) ≡ o
-value_again None = refl
-value_again (Some (Number n)) = refl
-value_again (Some (Word w)) = refl
-
 abbrev pub huge_kinds : List ColumnAt → List Kind
 huge_kinds sums = map (λ (column : ColumnAt). Huge) sums
 
--- the items of a view
-abbrev pub view_items : List ColumnAt → List ColumnAt → List BoundItem
-view_items group sums = map (λ column. plain (s.at column)) group ++ count ∷ map sum sums
+numbers_are : (sums : List ColumnAt) (f : ColumnAt → ℤ) → AreOf (huge_kinds sums) (map Number (map f sums))
+numbers_are [] f = tt
+numbers_are (column ∷ sums) f = (tt, numbers_are sums f)
 
-sums_fit : (rows : List Combination) (sums : List ColumnAt) (us : List Value) → all_of (map (λ i. value_of (item_of_group rows i)) (map sum sums)) ≡ Some us → FitAll (huge_kinds sums) us
-sums_fit rows [] us e = subst (FitAll []) (some_same [] us e) tt
-sums_fit rows (column ∷ sums) us e =
-    let p = all_of_cons (value_of (item_of_group rows (sum column))) (map (λ i. value_of (item_of_group rows i)) (map sum sums)) us e in
-    subst (FitAll (huge_kinds (column ∷ sums))) (sym p.4) (in_huge (sum_by (λ c. number_in (value_at c column)) rows) p.0 p.2, sums_fit rows sums p.1 p.3)
-
--- the group's values, and then the count and the sums
-item_values : (one : Combination) (others : List Combination) (group sums : List ColumnAt) (row : Row)
-    → all_of (map (λ i. value_of (item_of_group (one ∷ others) i)) (view_items group sums)) ≡ Some row
-    → (tail : List Value) × (row ≡ values_at group one ++ tail) × FitAll (huge_kinds (record { source = 0; column = 0 } ∷ sums)) tail
-item_values one others [] sums row e =
-    let p = all_of_cons (value_of (item_of_group (one ∷ others) count)) (map (λ i. value_of (item_of_group (one ∷ others) i)) (map sum sums)) row e in
-    (row, refl, subst (FitAll (Huge ∷ huge_kinds sums)) (sym p.4) (in_huge (pos (length (one ∷ others))) p.0 p.2, sums_fit (one ∷ others) sums p.1 p.3))
-item_values one others (column ∷ group) sums row e =
-    let p = all_of_cons (value_of (outcome_of (value_at one column))) (map (λ i. value_of (item_of_group (one ∷ others) i)) (view_items group sums)) row e in
-    let rest = item_values one others group sums p.1 p.3 in
-    let here : value_at one column ≡ Some p.0 = sym (value_again (value_at one column)) ∙ p.2 in
-    (rest.0, p.4 ∙ (ap (λ (l : List Value). p.0 ∷ l) rest.1 ∙ ap (λ (o : Option Value). cons_option o (values_at group one) ++ rest.0) (sym here)), rest.2)
-
-fit_both : (ks js : List Kind) (vs ws : List Value) → FitAll ks vs → FitAll js ws → FitAll (ks ++ js) (vs ++ ws)
-fit_both [] js [] ws f g = g
-fit_both [] js (v ∷ vs) ws f g = absurd f
-fit_both (k ∷ ks) js [] ws f g = absurd f
-fit_both (k ∷ ks) js (v ∷ vs) ws f g = (f.0, fit_both ks js vs ws f.1 g)
+both_are : (ks js : List Kind) (vs ws : List Value) → AreOf ks vs → AreOf js ws → AreOf (ks ++ js) (vs ++ ws)
+both_are [] js [] ws f g = g
+both_are [] js (v ∷ vs) ws f g = absurd f
+both_are (k ∷ ks) js [] ws f g = absurd f
+both_are (k ∷ ks) js (v ∷ vs) ws f g = (f.0, both_are ks js vs ws f.1 g)
 
 -- Rows of which each has the values of a group in front.
 module _ (kinds : List (List Kind)) (group sums : List ColumnAt) (known : AllByRecursion (IsKnown kinds) group) where
@@ -259,34 +193,40 @@ module _ (kinds : List (List Kind)) (group sums : List ColumnAt) (known : AllByR
   abbrev pub kinds_of_row : List Kind
   kinds_of_row = kinds_of_group ++ Huge ∷ huge_kinds sums
 
-  -- the row of a group
+  -- the row of a group: its values, and then numbers
   pub record IsRowOf (g : List Value) (row : Row) : Type 0 where
     pub group_fits : FitAll kinds_of_group g
     pub front : take (length group) row ≡ g
-    pub row_fits : FitAll kinds_of_row row
+    pub rest : List Value
+    pub row_is : row ≡ g ++ rest
+    pub row_of : AreOf kinds_of_row row
 
-  row_of : (found : List Combination) → AllByRecursion (FitRows kinds) found → (g : List Value) → IsGroupIn (values_at group) found g → (row : Row)
-      → row_by item_of_group (view_items group sums) (members (values_at group) found g) ≡ Some row → IsRowOf g row
-  row_of found fits g is row e =
-      let m = first_member (values_at group) found g is in
-      let items : all_of (map (λ i. value_of (item_of_group (m.one ∷ m.others) i)) (view_items group sums)) ≡ Some row =
-      ap (λ (ms : List Combination). row_by item_of_group (view_items group sums) ms) (sym m.members_are) ∙ e in
-      let parts = item_values m.one m.others group sums row items in
-      let one_fits : FitRows kinds m.one = All-contains (FitRows kinds) found m.one (All-from_recursion (FitRows kinds) found fits) m.there in
-      let group_fits : FitAll kinds_of_group (values_at group m.one) = values_fit kinds m.one group one_fits known in
-      let long : length (values_at group m.one) ≡ length group = sym (fit_lengths kinds_of_group (values_at group m.one) group_fits) ∙ kinds_long kinds group known in
+  -- what a group of some combinations has
+  abbrev pub group_numbers : List Combination → List ℤ
+  group_numbers ms = pos (length ms) ∷ map (λ column. sum_by (λ c. number_in (value_at c column)) ms) sums
+
+  abbrev pub row_for : List Combination → List Value → Row
+  row_for found g = g ++ map Number (group_numbers (members (values_at group) found g))
+
+  of_group : (found : List Combination) → AllByRecursion (FitRows kinds) found → (g : List Value) → IsGroupIn (values_at group) found g → IsRowOf g (row_for found g)
+  of_group found fits g is =
+      let one_fits : FitRows kinds is.0 = All-contains (FitRows kinds) found is.0 (All-from_recursion (FitRows kinds) found fits) is.1 in
+      let group_fits : FitAll kinds_of_group g = subst (FitAll kinds_of_group) is.2 (values_fit kinds is.0 group one_fits known) in
+      let long : length g ≡ length group = sym (fit_lengths kinds_of_group g group_fits) ∙ kinds_long kinds group known in
+      let numbers : List Value = map Number (group_numbers (members (values_at group) found g)) in
       record {
-        group_fits = subst (FitAll kinds_of_group) (sym m.group_is) group_fits;
-        front = ap (take (length group)) parts.1 ∙ (take_at (values_at group m.one) parts.0 (length group) long ∙ sym m.group_is);
-        row_fits = subst (FitAll kinds_of_row) (sym parts.1) (fit_both kinds_of_group (Huge ∷ huge_kinds sums) (values_at group m.one) parts.0 group_fits parts.2);
+        group_fits = group_fits;
+        front = take_at g numbers (length group) long;
+        rest = numbers;
+        row_is = refl;
+        row_of = both_are kinds_of_group (Huge ∷ huge_kinds sums) g numbers (all_are_of kinds_of_group g group_fits)
+            (tt, numbers_are sums (λ column. sum_by (λ c. number_in (value_at c column)) (members (values_at group) found g)));
       }
 
-  rows_of_groups : (found : List Combination) → AllByRecursion (FitRows kinds) found → (gs : List (List Value)) (rows : List Row) → AllByRecursion (IsGroupIn (values_at group) found) gs
-      → AllZip (λ g row. row_by item_of_group (view_items group sums) (members (values_at group) found g) ≡ Some row) gs rows → AllZip IsRowOf gs rows
-  rows_of_groups found fits [] [] h z = tt
-  rows_of_groups found fits [] (row ∷ rows) h z = absurd z
-  rows_of_groups found fits (g ∷ gs) [] h z = absurd z
-  rows_of_groups found fits (g ∷ gs) (row ∷ rows) h z = (row_of found fits g h.0 row z.0, rows_of_groups found fits gs rows h.1 z.1)
+  rows_of_groups : (found : List Combination) → AllByRecursion (FitRows kinds) found → (gs : List (List Value)) → AllByRecursion (IsGroupIn (values_at group) found) gs
+      → AllZip IsRowOf gs (map (row_for found) gs)
+  rows_of_groups found fits [] h = tt
+  rows_of_groups found fits (g ∷ gs) h = (of_group found fits g h.0, rows_of_groups found fits gs h.1)
 
   -- the key of a row of the view
   abbrev pub group_key : Row → List ℕ
@@ -311,47 +251,22 @@ module _ (kinds : List (List Kind)) (group sums : List ColumnAt) (known : AllByR
   rows_rise (g ∷ gs) [] z r = absurd z
   rows_rise (g ∷ gs) (row ∷ rows) z r = rises_from group_key row rows (before_rows g row z.0 gs rows z.1 r.0) (rows_rise gs rows z.1 r.1)
 
-  pub rows_fit : (gs : List (List Value)) (rows : List Row) → AllZip IsRowOf gs rows → AllByRecursion (FitAll kinds_of_row) rows
-  rows_fit [] [] z = tt
-  rows_fit [] (row ∷ rows) z = absurd z
-  rows_fit (g ∷ gs) [] z = absurd z
-  rows_fit (g ∷ gs) (row ∷ rows) z = (z.0.row_fits, rows_fit gs rows z.1)
+  -- the values of the row's group fit, and its numbers may have any size
+  abbrev pub IsViewRow : Row → Type 0
+  IsViewRow row = (g : List Value) × IsRowOf g row
 
--- ---- the rows of a view
+  rows_are : (gs : List (List Value)) (rows : List Row) → AllZip IsRowOf gs rows → AllByRecursion IsViewRow rows
+  rows_are [] [] z = tt
+  rows_are [] (row ∷ rows) z = absurd z
+  rows_are (g ∷ gs) [] z = absurd z
+  rows_are (g ∷ gs) (row ∷ rows) z = ((g, z.0), rows_are gs rows z.1)
 
--- no order leaves the rows as they are
-pub unordered : (rows : List Row) → ordered [] rows ≡ rows
-unordered [] = refl
-unordered (row ∷ rows) = ap (placed [] row) (unordered rows) ∙ first_stays rows
-  where
-    first_stays : (others : List Row) → placed [] row others ≡ row ∷ others
-    first_stays [] = refl
-    first_stays (r ∷ others) = refl
+  -- the rows of groups are of the view's columns, and rise by the keys of their groups
+  abbrev pub AreViewRows : List Row → Type 0
+  AreViewRows rows = AllByRecursion IsViewRow rows × Rises group_key rows
 
--- a query with the items of a view
-abbrev pub query_by : List ℕ → List Tree → List ColumnAt → List ColumnAt → BoundQuery
-query_by relations conditions group sums = record { relations = relations; conditions = conditions; items = view_items group sums; group = group; order = [] }
-
--- rows that fit the view's columns, and rise by the keys of their groups
-abbrev pub AreViewRows : List (List Kind) → List ColumnAt → List ColumnAt → List Row → Type 0
-AreViewRows kinds group sums rows =
-    AllByRecursion (FitAll (filter_map (kind_at kinds) group ++ Huge ∷ huge_kinds sums)) rows
-    × Rises (λ row. key_bytes (filter_map (kind_at kinds) group) (take (length group) row)) rows
-
-none_listed : (relations : List ℕ) (conditions : List Tree) (sums : List ColumnAt) (kinds : List (List Kind)) (found : List Combination) (rows : List Row)
-    → listed (query_by relations conditions [] sums) found ≡ Some rows → AreViewRows kinds [] sums rows
-none_listed relations conditions sums kinds [] rows e = subst (AreViewRows kinds [] sums) (some_same [] rows e) (tt, tt)
-none_listed relations conditions sums kinds (c ∷ found) rows e =
-    let p = all_of_cons (row_by item_alone (view_items [] sums) c) (map (row_by item_alone (view_items [] sums)) found) rows e in
-    let q = all_of_cons (value_of refused) (map (λ i. value_of (item_alone c i)) (map sum sums)) p.0 p.2 in
-    absurd (cc q.2)
-
-pub listed_rows : (relations : List ℕ) (conditions : List Tree) (group sums : List ColumnAt) (kinds : List (List Kind)) (found : List Combination) (rows : List Row)
-    → AllByRecursion (IsKnown kinds) group → AllByRecursion (FitRows kinds) found → listed (query_by relations conditions group sums) found ≡ Some rows → AreViewRows kinds group sums rows
-listed_rows relations conditions [] sums kinds found rows known fits e = none_listed relations conditions sums kinds found rows e
-listed_rows relations conditions (column ∷ columns) sums kinds found rows known fits e =
-    let group : List ColumnAt = column ∷ columns in
-    let gs : List (List Value) = groups_of (values_at group) found in
-    let zip = all_of_zip (λ (g : List Value). row_by item_of_group (view_items group sums) (members (values_at group) found g)) gs rows e in
-    let all = rows_of_groups kinds group sums known found fits gs rows (groups_are (values_at group) found) zip in
-    (rows_fit kinds group sums known gs rows all, rows_rise kinds group sums known gs rows all (groups_rise (values_at group) found))
+  pub grouped_rows : (found : List Combination) → AllByRecursion (FitRows kinds) found → AreViewRows (map (row_for found) (groups_of (values_at group) found))
+  grouped_rows found fits =
+      let gs : List (List Value) = groups_of (values_at group) found in
+      let all = rows_of_groups found fits gs (groups_are (values_at group) found) in
+      (rows_are gs (map (row_for found) gs) all, rows_rise gs (map (row_for found) gs) all (groups_rise (values_at group) found))

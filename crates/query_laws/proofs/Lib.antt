@@ -9,6 +9,7 @@ pub mod Choosing
 pub mod IndexRows
 pub mod GroupRows
 pub mod Relations
+pub mod WholeViews
 pub mod ReadingLemmas
 pub mod Asking
 pub mod SoundLemmas

@@ -1,6 +1,6 @@
 -- A row of which nothing that the conditions say is false has its key in the interval of a part.
-use Rattle.std.specs.Prelude.{◌≡◌, ℕ, ◌<◌, ◌==◌, not, Bool, true, false, cond, List, [], ◌∷◌, ◌++◌, length, map, filter, take, Option, Some, None}
-use Rattle.std.specs.List.{AllByRecursion, flat_map, filter_map, cons_option}
+use Rattle.std.specs.Prelude.{◌≡◌, ℕ, ◌==◌, ◌||◌, not, Bool, true, false, cond, List, [], ◌∷◌, ◌++◌, map, filter, take, Option, Some, None}
+use Rattle.std.specs.List.{AllByRecursion, flat_map, filter_map, list_any, cons_option}
 use Rattle.std.specs.Option.{option_map_or}
 use mathlib.Core.Path.{refl, sym, ap, subst, ◌∙◌}
 use Rattle.std.proofs.Common.{eqb-true, append_assoc}
@@ -10,6 +10,7 @@ use Rattle.std.specs.declared.cmp.Ordering.TheVariants.{Less, Equal, Greater}
 use Rattle.std.specs.Ordering.{is_lt, is_gt}
 use Rattle.iv_types.specs.declared.value.Kind.{Kind}
 use Rattle.iv_types.specs.declared.value.Value.{Value}
+use Rattle.iv_types.specs.declared.value.Interval.{Interval}
 use Rattle.iv_types.specs.declared.expression.Op.{Op}
 use Rattle.iv_types.specs.declared.expression.Op.TheVariants as op
 use Rattle.iv_types.specs.Encoding.{Fits, FitAll, key_bytes, key_value_bytes, value_cmp}
@@ -18,14 +19,14 @@ use Rattle.row_codec.specs.Ranges.{AreBytes}
 use Rattle.iv_meaning.specs.Database.{Row}
 use Rattle.iv_meaning.specs.Schema.{items_at}
 use Rattle.iv_meaning.specs.Query.{Combination}
-use Rattle.iv_meaning.specs.Values.{holds}
+use Rattle.iv_meaning.specs.Values.{holds, lies_outside}
 use Rattle.iv_meaning.specs.View.{lies_in}
-use Rattle.iv_meaning.specs.Plan.{Equal as TermEqual, Range, Term, equals, ranges, ColumnTerm, equals_of, ranges_of, on_column, first_equal, part_by, greater, lesser, equal_value, low_end, high_end, low_of, high_of, interval_of}
+use Rattle.iv_meaning.specs.Plan.{Equal as TermEqual, Range, Term, equals, ranges, ColumnTerm, equals_of, ranges_of, on_column, first_equal, Part, part_by, greater, lesser, equal_value, low_end, high_end, low_of, high_of, interval_behind, all_keys, interval_of}
 use Rattle.query_laws.proofs.Each.{each_append}
 use Rattle.query_laws.proofs.Rising.{key_cmp, less_is}
 use Rattle.query_laws.proofs.Keys.{IsFrom, IsUpTo, lies, from_prefix, key_are_bytes, key_split, key_front, key_next, from_at_least, from_greater, up_to_less, up_to_at_most}
-use Rattle.query_laws.proofs.Fitting.{Column, ArePlaces, column_at, items_fit, items_next, items_append}
-use Rattle.query_laws.proofs.TermLemmas.{FitRows, IsEqualTo, IsWithin, IsSaidOf, IsSaid}
+use Rattle.query_laws.proofs.Fitting.{Column, HaveColumns, columns_fit, items_next, items_append}
+use Rattle.query_laws.proofs.TermLemmas.{RowsAreOf, IsEqualTo, IsInside, IsWithin, IsSaidOf, IsSaid}
 
 -- ---- ends
 
@@ -46,18 +47,22 @@ not_negated : (b : Bool) → not b ≡ true → b ≡ false
 not_negated true e = absurd (cc)
 not_negated false e = refl
 
-module _ (before : List (List Kind)) (ks : List Kind) (after : List (List Kind)) (rows : Combination) (row : Row) (fit_before : FitRows before rows) (fit_row : FitAll ks row) where
+module _ (before : List (List Kind)) (ks : List Kind) (after : List (List Kind)) (rows : Combination) (row : Row) (before_are : RowsAreOf before rows) where
   abbrev Said : ColumnTerm → Type 0
-  Said = IsSaid before ks after rows row fit_before fit_row
+  Said = IsSaid before ks after rows row before_are
 
   abbrev SaidOf : ℕ → Term → Type 0
-  SaidOf = IsSaidOf before ks after rows row fit_before fit_row
+  SaidOf = IsSaidOf before ks after rows row before_are
 
   abbrev EqualTo : ℕ → TermEqual → Type 0
-  EqualTo = IsEqualTo before ks after rows row fit_before fit_row
+  EqualTo = IsEqualTo before ks after rows row before_are
+
+  -- its value does not lie outside the HUGE range
+  abbrev Inside : TermEqual → Type 0
+  Inside = IsInside before ks after rows row before_are
 
   abbrev Within : ℕ → Range → Type 0
-  Within = IsWithin before ks after rows row fit_before fit_row
+  Within = IsWithin before ks after rows row before_are
 
   -- the key of the row's columns at some places
   abbrev pub key_at : List ℕ → List ℕ
@@ -74,19 +79,23 @@ module _ (before : List (List Kind)) (ks : List Kind) (after : List (List Kind))
         | false ↦ λ e. rest
       ] refl
 
-  equals_said : (place : ℕ) (ts : List Term) → AllByRecursion (SaidOf place) ts → AllByRecursion (EqualTo place) (flat_map equals_of ts)
-  equals_said place [] h = tt
-  equals_said place (equals e ∷ ts) h = (h.0, equals_said place ts h.1)
-  equals_said place (ranges r ∷ ts) h = equals_said place ts h.1
+  -- where its value is inside, the column has it
+  abbrev EqualInside : ℕ → TermEqual → Type 0
+  EqualInside place e = Inside e → EqualTo place e
 
-  ranges_said : (place : ℕ) (ts : List Term) → AllByRecursion (SaidOf place) ts → AllByRecursion (Within place) (flat_map ranges_of ts)
-  ranges_said place [] h = tt
-  ranges_said place (equals e ∷ ts) h = ranges_said place ts h.1
-  ranges_said place (ranges r ∷ ts) h = (h.0, ranges_said place ts h.1)
+  equals_said : (place : ℕ) → Column ks row place → (ts : List Term) → AllByRecursion (SaidOf place) ts → AllByRecursion (EqualInside place) (flat_map equals_of ts)
+  equals_said place c [] h = tt
+  equals_said place c (equals e ∷ ts) h = (h.0 c, equals_said place c ts h.1)
+  equals_said place c (ranges r ∷ ts) h = equals_said place c ts h.1
 
-  first_said : (place : ℕ) (es fs : List TermEqual) (e : TermEqual) → AllByRecursion (EqualTo place) es → take 1 es ≡ e ∷ fs → EqualTo place e
+  ranges_said : (place : ℕ) → Column ks row place → (ts : List Term) → AllByRecursion (SaidOf place) ts → AllByRecursion (Within place) (flat_map ranges_of ts)
+  ranges_said place c [] h = tt
+  ranges_said place c (equals e ∷ ts) h = ranges_said place c ts h.1
+  ranges_said place c (ranges r ∷ ts) h = (h.0 c, ranges_said place c ts h.1)
+
+  first_said : (place : ℕ) (es fs : List TermEqual) (e : TermEqual) → AllByRecursion (EqualInside place) es → take 1 es ≡ e ∷ fs → EqualInside place e
   first_said place [] fs e h is = absurd (cc)
-  first_said place (f ∷ es) fs e h is = subst (EqualTo place) (heads is) h.0
+  first_said place (f ∷ es) fs e h is = subst (EqualInside place) (heads is) h.0
     where
       heads : f ∷ take 0 es ≡ e ∷ fs → f ≡ e
       heads is = cc
@@ -149,15 +158,70 @@ module _ (before : List (List Kind)) (ks : List Kind) (after : List (List Kind))
     highs [] high w u = u
     highs (r ∷ rs) high w u = let h = within r w.0 in highs rs (high_end bytes r high) w.1 (high_by r.op r.value high h.0 h.1 u)
 
+  -- ---- equalities with a number outside the range
+
+  in_all_keys : (k : List ℕ) → lies_in k all_keys ≡ true
+  in_all_keys [] = refl
+  in_all_keys (x ∷ k) = refl
+
+  or_all : (b : Bool) (k : List ℕ) (interval : Interval) → lies_in k interval ≡ true → lies_in k (cond b all_keys interval) ≡ true
+  or_all true k interval h = in_all_keys k
+  or_all false k interval h = h
+
+  any_append : (xs ys : List Value) → list_any lies_outside (xs ++ ys) ≡ list_any lies_outside xs || list_any lies_outside ys
+  any_append [] ys = refl
+  any_append (x ∷ xs) ys = ap (λ b. lies_outside x || b) (any_append xs ys) ∙ grouped (lies_outside x) (list_any lies_outside xs) (list_any lies_outside ys)
+    where
+      grouped : (a b c : Bool) → a || (b || c) ≡ (a || b) || c
+      grouped true b c = refl
+      grouped false b c = refl
+
+  either_true : (a b : Bool) → a ≡ true → a || b ≡ true
+  either_true true b h = refl
+  either_true false b h = absurd (cc)
+
+  neither_true : (a b : Bool) → a || b ≡ false → b ≡ false
+  neither_true true b h = absurd (cc)
+  neither_true false b h = h
+
+  -- it stays one of the part's
+  outside_stays : (ts : List ColumnTerm) (number : ℕ) (places : List ℕ) (equal : List TermEqual) → list_any lies_outside (filter_map (equal_value rows) equal) ≡ true
+      → list_any lies_outside (filter_map (equal_value rows) (part_by ts number places equal).equal) ≡ true
+  outside_stays ts number [] equal h = h
+  outside_stays ts number (place ∷ places) equal h = go (first_equal ts place) (λ e. outside_stays ts number places (equal ++ e ∷ [])
+      (ap (list_any lies_outside) (filter_map-append (equal_value rows) equal (e ∷ [])) ∙ (any_append (filter_map (equal_value rows) equal) (filter_map (equal_value rows) (e ∷ [])) ∙ either_true _ _ h)))
+    where
+      go : (es : List TermEqual) → ((e : TermEqual) → list_any lies_outside (filter_map (equal_value rows) (part_by ts number places (equal ++ e ∷ [])).equal) ≡ true)
+          → list_any lies_outside (filter_map (equal_value rows) (elim es as (λ (l : List TermEqual). Part) [ [] ↦ record { index = number; equal = equal; ranges = flat_map ranges_of (on_column place ts) } | e ∷ fs ↦ part_by ts number places (equal ++ e ∷ []) ]).equal) ≡ true
+      go [] f = h
+      go (e ∷ fs) f = f e
+
+  -- then the whole index is read
+  in_all : (ts : List ColumnTerm) (number : ℕ) (places : List ℕ) (equal : List TermEqual) → list_any lies_outside (filter_map (equal_value rows) equal) ≡ true
+      → (kinds : List Kind) (k : List ℕ) → lies_in k (interval_of kinds (part_by ts number places equal) rows) ≡ true
+  in_all ts number places equal h kinds k =
+      let part : Part = part_by ts number places equal in
+      ap (λ b. lies_in k (cond b all_keys (interval_behind kinds (filter_map (equal_value rows) part.equal) part.ranges))) (outside_stays ts number places equal h) ∙ in_all_keys k
+
+  last_inside : (equal : List TermEqual) (e : TermEqual) → list_any lies_outside (filter_map (equal_value rows) (equal ++ e ∷ [])) ≡ false → Inside e
+  last_inside equal e h x is =
+      let last : list_any lies_outside (filter_map (equal_value rows) (e ∷ [])) ≡ false =
+      neither_true (list_any lies_outside (filter_map (equal_value rows) equal)) _ (sym (any_append (filter_map (equal_value rows) equal) (filter_map (equal_value rows) (e ∷ []))) ∙ (sym (ap (list_any lies_outside) (filter_map-append (equal_value rows) equal (e ∷ []))) ∙ h)) in
+      left_false (lies_outside x) (sym (ap (λ (o : Option Value). list_any lies_outside (cons_option o [])) is) ∙ last)
+    where
+      left_false : (b : Bool) → b || false ≡ false → b ≡ false
+      left_false true h = absurd (cc)
+      left_false false h = refl
+
   -- ---- the interval of a part
 
   -- the leading columns, which have the values of the equalities, and the places that are left
-  module _ (done places : List ℕ) (equal : List TermEqual) (done_in : ArePlaces ks done) (told : filter_map (equal_value rows) equal ≡ items_at row done) where
+  module _ (done places : List ℕ) (equal : List TermEqual) (done_in : HaveColumns ks row done) (told : filter_map (equal_value rows) equal ≡ items_at row done) where
     abbrev prefix : List ℕ
     prefix = key_at done
 
     done_fit : FitAll (items_at ks done) (items_at row done)
-    done_fit = items_fit ks row done fit_row done_in
+    done_fit = columns_fit ks row done done_in
 
     prefix_is : key_bytes (items_at ks (done ++ places)) (filter_map (equal_value rows) equal) ≡ prefix
     prefix_is =
@@ -174,34 +238,34 @@ module _ (before : List (List Kind)) (ks : List Kind) (after : List (List Kind))
     prefix_bytes : AreBytes prefix
     prefix_bytes = key_are_bytes (items_at ks done) (items_at row done) done_fit
 
-    in_prefix : (more : List ℕ) → ArePlaces ks more → IsFrom prefix (key_at (done ++ more)) × IsUpTo (key_at (done ++ more)) (next prefix)
+    in_prefix : (more : List ℕ) → HaveColumns ks row more → IsFrom prefix (key_at (done ++ more)) × IsUpTo (key_at (done ++ more)) (next prefix)
     in_prefix more more_in =
-        let all_fit = items_fit ks row (done ++ more) fit_row (each_append (λ p. p < length ks) done more done_in more_in) in
+        let all_fit = columns_fit ks row (done ++ more) (each_append (Column ks row) done more done_in more_in) in
         from_prefix prefix (key_at (done ++ more)) (key_are_bytes (items_at ks (done ++ more)) (items_at row (done ++ more)) all_fit) (key_at more, key_is more)
 
-    inside_equal : (number : ℕ) (more : List ℕ) → ArePlaces ks more → lies_in (key_at (done ++ more)) (interval_of (items_at ks (done ++ places)) (record { index = number; equal = equal; ranges = [] }) rows) ≡ true
+    inside_equal : (number : ℕ) (more : List ℕ) → HaveColumns ks row more → lies_in (key_at (done ++ more)) (interval_of (items_at ks (done ++ places)) (record { index = number; equal = equal; ranges = [] }) rows) ≡ true
     inside_equal number more more_in =
         let h = in_prefix more more_in in
         let low = key_bytes (items_at ks (done ++ places)) (filter_map (equal_value rows) equal) in
-        lies (key_at (done ++ more)) (record { low = low; high = next low })
+        or_all (list_any lies_outside (filter_map (equal_value rows) equal)) (key_at (done ++ more)) (record { low = low; high = next low })
+        (lies (key_at (done ++ more)) (record { low = low; high = next low })
         (subst (λ b. IsFrom b (key_at (done ++ more))) (sym prefix_is) h.0)
-        (subst (λ b. IsUpTo (key_at (done ++ more)) (next b)) (sym prefix_is) h.1)
+        (subst (λ b. IsUpTo (key_at (done ++ more)) (next b)) (sym prefix_is) h.1))
 
   key_column : (place : ℕ) (c : Column ks row place) (more : List ℕ) → key_at (place ∷ more) ≡ key_value_bytes c.kind c.value ++ key_at more
   key_column place c more =
       ap (λ (l : List Kind). key_bytes l (items_at row (place ∷ more))) (items_next ks place more c.kind c.kind_is)
       ∙ ap (key_bytes (c.kind ∷ items_at ks more)) (items_next row place more c.value c.value_is)
 
-  inside_ranges : (done : List ℕ) (place : ℕ) (tail : List ℕ) (equal : List TermEqual) → ArePlaces ks done → filter_map (equal_value rows) equal ≡ items_at row done
-      → place < length ks → (rs : List Range) → AllByRecursion (Within place) rs → (number : ℕ) (more : List ℕ) → ArePlaces ks more
+  inside_ranges : (done : List ℕ) (place : ℕ) (tail : List ℕ) (equal : List TermEqual) → HaveColumns ks row done → filter_map (equal_value rows) equal ≡ items_at row done
+      → Column ks row place → (rs : List Range) → AllByRecursion (Within place) rs → (number : ℕ) (more : List ℕ) → HaveColumns ks row more
       → lies_in (key_at (done ++ place ∷ more)) (interval_of (items_at ks (done ++ place ∷ tail)) (record { index = number; equal = equal; ranges = rs }) rows) ≡ true
-  inside_ranges done place tail equal done_in told lt rs w number more more_in =
-      let c : Column ks row place = column_at ks row place fit_row lt in
+  inside_ranges done place tail equal done_in told c rs w number more more_in =
       let kinds : List Kind = items_at ks (done ++ place ∷ tail) in
       let values : List Value = filter_map (equal_value rows) equal in
       let front : List ℕ = key_at done in
-      let fits_done = items_fit ks row done fit_row done_in in
-      let fits_more = items_fit ks row more fit_row more_in in
+      let fits_done = columns_fit ks row done done_in in
+      let fits_more = columns_fit ks row more more_in in
       let bytes : Value → List ℕ = λ (v : Value). key_bytes kinds (values ++ v ∷ []) in
       let bytes_are : (v : Value) → bytes v ≡ front ++ key_value_bytes c.kind v = λ (v : Value).
       ap (λ (l : List Value). key_bytes kinds (l ++ v ∷ [])) told
@@ -212,41 +276,50 @@ module _ (before : List (List Kind)) (ks : List Kind) (after : List (List Kind))
       let front_bytes = key_are_bytes (items_at ks done) (items_at row done) fits_done in
       let more_bytes = key_are_bytes (items_at ks more) (items_at row more) fits_more in
       let low : List ℕ = key_bytes kinds values in
-      let start = in_prefix done (place ∷ tail) equal done_in told (place ∷ more) (lt, more_in) in
+      let start = in_prefix done (place ∷ tail) equal done_in told (place ∷ more) (c, more_in) in
       let low_is : low ≡ front = prefix_is done (place ∷ tail) equal done_in told in
       let from = lows front front_bytes place c (key_at more) more_bytes bytes bytes_are rs low w
       (subst (λ b. IsFrom b (front ++ (key_value_bytes c.kind c.value ++ key_at more))) (sym low_is) (subst (IsFrom front) whole_is start.0)) in
       let up_to = highs front front_bytes place c (key_at more) more_bytes bytes bytes_are rs (next low) w
       (subst (λ b. IsUpTo (front ++ (key_value_bytes c.kind c.value ++ key_at more)) (next b)) (sym low_is) (subst (λ k. IsUpTo k (next front)) whole_is start.1)) in
-      subst (λ k. lies_in k (record { low = low_of bytes rs low; high = high_of bytes rs (next low) }) ≡ true) (sym whole_is)
-      (lies (front ++ (key_value_bytes c.kind c.value ++ key_at more)) (record { low = low_of bytes rs low; high = high_of bytes rs (next low) }) from up_to)
+      or_all (list_any lies_outside values) (key_at (done ++ place ∷ more)) (record { low = low_of bytes rs low; high = high_of bytes rs (next low) })
+      (subst (λ k. lies_in k (record { low = low_of bytes rs low; high = high_of bytes rs (next low) }) ≡ true) (sym whole_is)
+      (lies (front ++ (key_value_bytes c.kind c.value ++ key_at more)) (record { low = low_of bytes rs low; high = high_of bytes rs (next low) }) from up_to))
 
   -- a further column, by what the terms hold equal to it
   next_column : (ts : List ColumnTerm) → AllByRecursion Said ts → (number place : ℕ) (places done : List ℕ) (equal : List TermEqual) (more : List ℕ)
-      → ArePlaces ks done → ArePlaces ks (place ∷ places) → ArePlaces ks more → filter_map (equal_value rows) equal ≡ items_at row done
+      → HaveColumns ks row done → HaveColumns ks row (place ∷ places) → HaveColumns ks row more → filter_map (equal_value rows) equal ≡ items_at row done
       → ((e : TermEqual) → filter_map (equal_value rows) (equal ++ e ∷ []) ≡ items_at row (done ++ place ∷ [])
       → lies_in (key_at ((done ++ place ∷ []) ++ (places ++ more))) (interval_of (items_at ks ((done ++ place ∷ []) ++ places)) (part_by ts number places (equal ++ e ∷ [])) rows) ≡ true)
       → (es : List TermEqual) → first_equal ts place ≡ es
       → lies_in (key_at (done ++ (place ∷ places ++ more))) (interval_of (items_at ks (done ++ place ∷ places)) (elim es [ [] ↦ record { index = number; equal = equal; ranges = flat_map ranges_of (on_column place ts) } | e ∷ fs ↦ part_by ts number places (equal ++ e ∷ []) ]) rows) ≡ true
   next_column ts said number place places done equal more done_in places_in more_in told rest [] is =
-      inside_ranges done place places equal done_in told places_in.0 (flat_map ranges_of (on_column place ts)) (ranges_said place (on_column place ts) (said_on place ts said)) number (places ++ more)
-      (each_append (λ p. p < length ks) places more places_in.1 more_in)
+      inside_ranges done place places equal done_in told places_in.0 (flat_map ranges_of (on_column place ts)) (ranges_said place places_in.0 (on_column place ts) (said_on place ts said)) number (places ++ more)
+      (each_append (Column ks row) places more places_in.1 more_in)
   next_column ts said number place places done equal more done_in places_in more_in told rest (e ∷ fs) is =
-      let h : EqualTo place e = first_said place (flat_map equals_of (on_column place ts)) fs e (equals_said place (on_column place ts) (said_on place ts said)) is in
-      let one_more : filter_map (equal_value rows) (equal ++ e ∷ []) ≡ items_at row (done ++ place ∷ []) =
-      filter_map-append (equal_value rows) equal (e ∷ [])
-      ∙ (ap (λ (l : List Value). l ++ cons_option (equal_value rows e) []) told
-      ∙ (ap (λ (o : Option Value). items_at row done ++ cons_option o []) (h.2 ∙ sym h.1) ∙ sym (items_append row done (place ∷ [])))) in
-      subst (λ (l : List ℕ). lies_in (key_at l) (interval_of (items_at ks (done ++ place ∷ places)) (part_by ts number places (equal ++ e ∷ [])) rows) ≡ true) (append_assoc done (place ∷ []) (places ++ more))
-      (subst (λ (l : List ℕ). lies_in (key_at ((done ++ place ∷ []) ++ (places ++ more))) (interval_of (items_at ks l) (part_by ts number places (equal ++ e ∷ [])) rows) ≡ true) (append_assoc done (place ∷ []) places) (rest e one_more))
+      let said_e : EqualInside place e = first_said place (flat_map equals_of (on_column place ts)) fs e (equals_said place places_in.0 (on_column place ts) (said_on place ts said)) is in
+      elim (list_any lies_outside (filter_map (equal_value rows) (equal ++ e ∷ []))) as (λ b. list_any lies_outside (filter_map (equal_value rows) (equal ++ e ∷ [])) ≡ b
+      → lies_in (key_at (done ++ (place ∷ places ++ more))) (interval_of (items_at ks (done ++ place ∷ places)) (part_by ts number places (equal ++ e ∷ [])) rows) ≡ true) [
+        | true ↦ λ out. in_all ts number places (equal ++ e ∷ []) out (items_at ks (done ++ place ∷ places)) (key_at (done ++ (place ∷ places ++ more)))
+        | false ↦ λ none. next_equal (said_e (last_inside equal e none))
+      ] refl
+    where
+      next_equal : EqualTo place e → lies_in (key_at (done ++ (place ∷ places ++ more))) (interval_of (items_at ks (done ++ place ∷ places)) (part_by ts number places (equal ++ e ∷ [])) rows) ≡ true
+      next_equal h =
+          let one_more : filter_map (equal_value rows) (equal ++ e ∷ []) ≡ items_at row (done ++ place ∷ []) =
+          filter_map-append (equal_value rows) equal (e ∷ [])
+          ∙ (ap (λ (l : List Value). l ++ cons_option (equal_value rows e) []) told
+          ∙ (ap (λ (o : Option Value). items_at row done ++ cons_option o []) (h.2 ∙ sym h.1) ∙ sym (items_append row done (place ∷ [])))) in
+          subst (λ (l : List ℕ). lies_in (key_at l) (interval_of (items_at ks (done ++ place ∷ places)) (part_by ts number places (equal ++ e ∷ [])) rows) ≡ true) (append_assoc done (place ∷ []) (places ++ more))
+          (subst (λ (l : List ℕ). lies_in (key_at ((done ++ place ∷ []) ++ (places ++ more))) (interval_of (items_at ks l) (part_by ts number places (equal ++ e ∷ [])) rows) ≡ true) (append_assoc done (place ∷ []) places) (rest e one_more))
 
   -- the key lies in the interval of the part that the terms make of an index
   pub inside_part : (ts : List ColumnTerm) → AllByRecursion Said ts → (number : ℕ) (places done : List ℕ) (equal : List TermEqual) (more : List ℕ)
-      → ArePlaces ks done → ArePlaces ks places → ArePlaces ks more → filter_map (equal_value rows) equal ≡ items_at row done
+      → HaveColumns ks row done → HaveColumns ks row places → HaveColumns ks row more → filter_map (equal_value rows) equal ≡ items_at row done
       → lies_in (key_at (done ++ (places ++ more))) (interval_of (items_at ks (done ++ places)) (part_by ts number places equal) rows) ≡ true
   inside_part ts said number [] done equal more done_in places_in more_in told = inside_equal done [] equal done_in told number more more_in
   inside_part ts said number (place ∷ places) done equal more done_in places_in more_in told =
       next_column ts said number place places done equal more done_in places_in more_in told
       (λ e one_more. inside_part ts said number places (done ++ place ∷ []) (equal ++ e ∷ []) more
-      (each_append (λ p. p < length ks) done (place ∷ []) done_in (places_in.0, tt)) places_in.1 more_in one_more)
+      (each_append (Column ks row) done (place ∷ []) done_in (places_in.0, tt)) places_in.1 more_in one_more)
       (first_equal ts place) refl

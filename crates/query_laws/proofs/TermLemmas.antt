@@ -1,7 +1,7 @@
 -- What conditions that are not false say of the columns of a row.
 use Rattle.std.specs.Prelude.{◌≡◌, ℕ, zero, suc, ◌<◌, ◌==◌, ◌&&◌, nat_lt, not, Bool, true, false, cond, List, [], ◌∷◌, ◌++◌, length, slice_get, Option, Some, None, if◌then◌else◌}
 use Rattle.std.specs.List.{AllByRecursion, flat_map, list_all}
-use Rattle.std.specs.Option.{option_and_then, option_to_list}
+use Rattle.std.specs.Option.{option_and_then, option_map_or, option_to_list}
 use mathlib.Core.Path.{refl, sym, ap, subst, ◌∙◌}
 use Rattle.std.proofs.Common.{arith, eqb-true, ltb-true, lt-ltb}
 use Rattle.std.specs.declared.cmp.Ordering.{Ordering}
@@ -22,12 +22,12 @@ use Rattle.iv_types.specs.Encoding.{Fits, FitAll, value_cmp}
 use Rattle.iv_types.proofs.Orders.{value_cmp_exact}
 use Rattle.iv_meaning.specs.Database.{Row}
 use Rattle.iv_meaning.specs.Query.{Combination}
-use Rattle.iv_meaning.specs.Values.{Outcome, number, word, truth, refused, compared, holds, combined, is_false, meaning, outcome_of, value_at}
+use Rattle.iv_meaning.specs.Values.{Outcome, number, word, truth, refused, compared, holds, combined, is_false, meaning, outcome_of, value_at, lies_outside}
 use Rattle.iv_meaning.specs.Shape.{same_kind, both_kinds}
 use Rattle.iv_meaning.specs.Statement.{fits}
 use Rattle.iv_meaning.specs.Plan.{Equal as TermEqual, literal, column, Range, Term, equals, ranges, ColumnTerm, turned, literal_of, against, column_of, earlier_of, kind_in, side_terms, term_terms, equal_value, lies_within}
 use Rattle.query_laws.proofs.Each.{each_append}
-use Rattle.query_laws.proofs.Fitting.{first, second, fitting, Column, column_at, inside}
+use Rattle.query_laws.proofs.Fitting.{first, second, fitting, seen, seen_is, IsOf, AreOf, inside_fits, Column, inside}
 
 -- ---- rows that fit the relations' kinds
 
@@ -36,30 +36,40 @@ FitRows [] [] = Unit {0}
 FitRows (ks ∷ kinds) (row ∷ rows) = FitAll ks row × FitRows kinds rows
 FitRows _ _ = ⊥
 
-pub fit_rows_lengths : (kinds : List (List Kind)) (rows : Combination) → FitRows kinds rows → length rows ≡ length kinds
-fit_rows_lengths [] [] f = refl
-fit_rows_lengths [] (row ∷ rows) f = absurd f
-fit_rows_lengths (ks ∷ kinds) [] f = absurd f
-fit_rows_lengths (ks ∷ kinds) (row ∷ rows) f = ap suc (fit_rows_lengths kinds rows f.1)
+-- rows of relations: those of a view may have sums outside the HUGE range
+abbrev pub RowsAreOf : List (List Kind) → Combination → Type 0
+RowsAreOf [] [] = Unit {0}
+RowsAreOf (ks ∷ kinds) (row ∷ rows) = AreOf ks row × RowsAreOf kinds rows
+RowsAreOf _ _ = ⊥
 
-pub fit_rows_push : (kinds : List (List Kind)) (rows : Combination) (ks : List Kind) (row : Row) → FitRows kinds rows → FitAll ks row → FitRows (kinds ++ ks ∷ []) (rows ++ row ∷ [])
-fit_rows_push [] [] ks row f g = (g, tt)
-fit_rows_push [] (r ∷ rows) ks row f g = absurd f
-fit_rows_push (js ∷ kinds) [] ks row f g = absurd f
-fit_rows_push (js ∷ kinds) (r ∷ rows) ks row f g = (f.0, fit_rows_push kinds rows ks row f.1 g)
+pub rows_lengths : (kinds : List (List Kind)) (rows : Combination) → RowsAreOf kinds rows → length rows ≡ length kinds
+rows_lengths [] [] f = refl
+rows_lengths [] (row ∷ rows) f = absurd f
+rows_lengths (ks ∷ kinds) [] f = absurd f
+rows_lengths (ks ∷ kinds) (row ∷ rows) f = ap suc (rows_lengths kinds rows f.1)
 
--- the value of an earlier column
-pub earlier_value : (kinds more : List (List Kind)) (rows : Combination) (source place : ℕ) (kind : Kind) → FitRows kinds rows → source < length kinds
-    → option_and_then (λ ks. slice_get ks place) (slice_get (kinds ++ more) source) ≡ Some kind
-    → (x : Value) × (option_and_then (λ row. slice_get row place) (slice_get rows source) ≡ Some x) × Fits kind x
-earlier_value [] more rows source place kind f lt e = absurd (omega arith)
-earlier_value (ks ∷ kinds) more [] source place kind f lt e = absurd f
-earlier_value (ks ∷ kinds) more (row ∷ rows) zero place kind f lt e =
-    let c : Column ks row place = column_at ks row place f.0 (inside ks place kind e) in
-    (c.value, c.value_is, subst (λ k. Fits k c.value) (some_same c.kind kind (sym c.kind_is ∙ e)) c.fits)
+pub rows_push : (kinds : List (List Kind)) (rows : Combination) (ks : List Kind) (row : Row) → RowsAreOf kinds rows → AreOf ks row → RowsAreOf (kinds ++ ks ∷ []) (rows ++ row ∷ [])
+rows_push [] [] ks row f g = (g, tt)
+rows_push [] (r ∷ rows) ks row f g = absurd f
+rows_push (js ∷ kinds) [] ks row f g = absurd f
+rows_push (js ∷ kinds) (r ∷ rows) ks row f g = (f.0, rows_push kinds rows ks row f.1 g)
+
+value_in : (ks : List Kind) (row : Row) (place : ℕ) (kind : Kind) → AreOf ks row → slice_get ks place ≡ Some kind → (x : Value) × (slice_get row place ≡ Some x) × IsOf kind x
+value_in [] row place kind f e = absurd (cc)
+value_in (k ∷ ks) [] place kind f e = absurd f
+value_in (k ∷ ks) (v ∷ row) zero kind f e = (v, refl, subst (λ l. IsOf l v) (some_same k kind e) f.0)
   where
     some_same : (a b : Kind) → Some a ≡ Some b → a ≡ b
     some_same a b e = cc
+value_in (k ∷ ks) (v ∷ row) (suc place) kind f e = value_in ks row place kind f.1 e
+
+-- the value of an earlier column
+pub earlier_value : (kinds more : List (List Kind)) (rows : Combination) (source place : ℕ) (kind : Kind) → RowsAreOf kinds rows → source < length kinds
+    → option_and_then (λ ks. slice_get ks place) (slice_get (kinds ++ more) source) ≡ Some kind
+    → (x : Value) × (option_and_then (λ row. slice_get row place) (slice_get rows source) ≡ Some x) × IsOf kind x
+earlier_value [] more rows source place kind f lt e = absurd (omega arith)
+earlier_value (ks ∷ kinds) more [] source place kind f lt e = absurd f
+earlier_value (ks ∷ kinds) more (row ∷ rows) zero place kind f lt e = value_in ks row place kind f.0 e
 earlier_value (ks ∷ kinds) more (row ∷ rows) (suc source) place kind f lt e = earlier_value kinds more rows source place kind f.1 (omega arith) e
 
 pub get_front : {X : Type 0} (xs ys : List X) (i : ℕ) → i < length xs → slice_get (xs ++ ys) i ≡ slice_get xs i
@@ -73,7 +83,7 @@ get_behind (y ∷ xs) ys x = get_behind xs ys x
 
 -- ---- comparisons of values that fit one kind
 
-compared_fitting : (kind : Kind) (x v : Value) (test : Ordering → Bool) → Fits kind x → Fits kind v → compared test (outcome_of (Some x)) (outcome_of (Some v)) ≡ truth (test (value_cmp x v))
+compared_fitting : (kind : Kind) (x v : Value) (test : Ordering → Bool) → Fits kind x → Fits kind v → compared test (seen x) (seen v) ≡ truth (test (value_cmp x v))
 compared_fitting Int (Number m) (Number n) test f g = refl
 compared_fitting Huge (Number m) (Number n) test f g = refl
 compared_fitting Text (Word a) (Word b) test f g = refl
@@ -184,7 +194,7 @@ each_if P false x h = tt
 -- ---- the terms
 
 -- The relations before have these kinds and rows, and the relation has these kinds and this row.
-module _ (before : List (List Kind)) (ks : List Kind) (after : List (List Kind)) (rows : Combination) (row : Row) (fit_before : FitRows before rows) (fit_row : FitAll ks row) where
+module _ (before : List (List Kind)) (ks : List Kind) (after : List (List Kind)) (rows : Combination) (row : Row) (before_are : RowsAreOf before rows) where
   abbrev pub kinds : List (List Kind)
   kinds = before ++ ks ∷ after
 
@@ -202,15 +212,20 @@ module _ (before : List (List Kind)) (ks : List Kind) (after : List (List Kind))
   abbrev pub IsWithin : ℕ → Range → Type 0
   IsWithin place r = (c : Column ks row place) × Fits c.kind r.value × (holds r.op (value_cmp c.value r.value) ≡ true)
 
+  -- the value of an equality does not lie outside the HUGE range
+  abbrev pub IsInside : TermEqual → Type 0
+  IsInside e = (x : Value) → equal_value rows e ≡ Some x → lies_outside x ≡ false
+
+  -- of a column that fits: a term of which a value lies outside the range says nothing
   abbrev pub IsSaidOf : ℕ → Term → Type 0
-  IsSaidOf place (equals e) = IsEqualTo place e
-  IsSaidOf place (ranges r) = IsWithin place r
+  IsSaidOf place (equals e) = Column ks row place → IsInside e → IsEqualTo place e
+  IsSaidOf place (ranges r) = Column ks row place → IsWithin place r
 
   abbrev pub IsSaid : ColumnTerm → Type 0
   IsSaid t = IsSaidOf t.column t.term
 
   own_kinds : slice_get kinds source ≡ Some ks
-  own_kinds = ap (slice_get kinds) (fit_rows_lengths before rows fit_before) ∙ get_behind before after ks
+  own_kinds = ap (slice_get kinds) (rows_lengths before rows before_are) ∙ get_behind before after ks
 
   own_kind : (place : ℕ) (kind : Kind) → kind_in kinds (record { source = source; column = place }) ≡ Some kind → slice_get ks place ≡ Some kind
   own_kind place kind e = sym (ap (option_and_then (λ (l : List Kind). slice_get l place)) own_kinds) ∙ e
@@ -240,9 +255,9 @@ module _ (before : List (List Kind)) (ks : List Kind) (after : List (List Kind))
   own_column (s.minus e) place h = absurd (cc)
   own_column (s.pair o a b) place h = absurd (cc)
 
-  literal_meaning : (e : Tree) (v : Value) → literal_of e ≡ Some v → (meaning e extended_rows ≡ outcome_of (Some v)) × (lies_within (length extended_rows) e ≡ true)
-  literal_meaning (s.number n) v h = (ap outcome_of h, refl)
-  literal_meaning (s.word w) v h = (ap outcome_of h, refl)
+  literal_meaning : (e : Tree) (v : Value) → literal_of e ≡ Some v → (meaning e extended_rows ≡ seen v) × (lies_within (length extended_rows) e ≡ true)
+  literal_meaning (s.number n) v h = (ap (λ o. option_map_or seen o refused) h, refl)
+  literal_meaning (s.word w) v h = (ap (λ o. option_map_or seen o refused) h, refl)
   literal_meaning (s.named r) v h = absurd (cc)
   literal_meaning (s.at p) v h = absurd (cc)
   literal_meaning (s.not e) v h = absurd (cc)
@@ -277,34 +292,49 @@ module _ (before : List (List Kind)) (ks : List Kind) (after : List (List Kind))
   both_true true b p q = q
   both_true false b p q = p
 
-  holds_of : (o : Op) (a b : Tree) (kind : Kind) (x v : Value) → compares o ≡ true → IsNotFalse o a b → (meaning a extended_rows ≡ outcome_of (Some x)) → (lies_within (length extended_rows) a ≡ true)
-      → (meaning b extended_rows ≡ outcome_of (Some v)) → (lies_within (length extended_rows) b ≡ true) → Fits kind x → Fits kind v → holds o (value_cmp x v) ≡ true
+  holds_of : (o : Op) (a b : Tree) (kind : Kind) (x v : Value) → compares o ≡ true → IsNotFalse o a b → (meaning a extended_rows ≡ seen x) → (lies_within (length extended_rows) a ≡ true)
+      → (meaning b extended_rows ≡ seen v) → (lies_within (length extended_rows) b ≡ true) → Fits kind x → Fits kind v → holds o (value_cmp x v) ≡ true
   holds_of o a b kind x v is h ma wa mb wb fx fv =
       let test : compared (holds o) (meaning a extended_rows) (meaning b extended_rows) ≡ truth (holds o (value_cmp x v)) =
-      ap (λ m. compared (holds o) m (meaning b extended_rows)) ma ∙ (ap (compared (holds o) (outcome_of (Some x))) mb ∙ compared_fitting kind x v (holds o) fx fv) in
+      ap (λ m. compared (holds o) m (meaning b extended_rows)) ma ∙ (ap (compared (holds o) (seen x)) mb ∙ compared_fitting kind x v (holds o) fx fv) in
       not_false (holds o (value_cmp x v)) (sym (ap is_false test) ∙ h is (both_true _ _ wa wb))
 
-  against_said : (o : Op) (a b : Tree) (place : ℕ) (c : Column ks row place) (v : Value) → IsNotFalse o a b → (meaning a extended_rows ≡ outcome_of (Some c.value)) → (lies_within (length extended_rows) a ≡ true)
-      → literal_of b ≡ Some v → AllByRecursion IsSaid (against c.kind o place v)
-  against_said op.Equal a b place c v h ma wa l = each_if IsSaid (fits c.kind v) (record { column = place; term = equals (literal v) })
-      (λ f.
+  -- the value of the column, as an expression sees it
+  own_seen : (a : Tree) (place : ℕ) (c : Column ks row place) → (meaning a extended_rows ≡ outcome_of (slice_get row place)) → meaning a extended_rows ≡ seen c.value
+  own_seen a place c ma = ma ∙ (ap outcome_of c.value_is ∙ seen_is c.kind c.value c.fits)
+
+  kind_of : (place : ℕ) (kind : Kind) → slice_get ks place ≡ Some kind → (c : Column ks row place) → kind ≡ c.kind
+  kind_of place kind is c = let same : Some kind ≡ Some c.kind = sym is ∙ c.kind_is in cc
+
+  fitting_at : (place : ℕ) (kind : Kind) → slice_get ks place ≡ Some kind → (v : Value) → fits kind v ≡ true → (c : Column ks row place) → Fits c.kind v
+  fitting_at place kind is v f c = subst (λ k. Fits k v) (kind_of place kind is c) (fitting kind v f)
+
+  against_holds : (o : Op) (a b : Tree) (place : ℕ) (v : Value) → IsNotFalse o a b → (meaning a extended_rows ≡ outcome_of (slice_get row place)) → (lies_within (length extended_rows) a ≡ true)
+      → literal_of b ≡ Some v → compares o ≡ true → (c : Column ks row place) → Fits c.kind v → holds o (value_cmp c.value v) ≡ true
+  against_holds o a b place v h ma wa l is c fv =
       let m = literal_meaning b v l in
-      let same : c.value ≡ v = value_cmp_exact c.value v (equal_is _ (holds_of op.Equal a b c.kind c.value v refl h ma wa m.0 m.1 c.fits (fitting c.kind v f))) in
+      holds_of o a b c.kind c.value v is h (own_seen a place c ma) wa m.0 m.1 c.fits fv
+
+  against_said : (o : Op) (a b : Tree) (place : ℕ) (kind : Kind) → slice_get ks place ≡ Some kind → (v : Value) → IsNotFalse o a b → (meaning a extended_rows ≡ outcome_of (slice_get row place)) → (lies_within (length extended_rows) a ≡ true)
+      → literal_of b ≡ Some v → AllByRecursion IsSaid (against kind o place v)
+  against_said op.Equal a b place kind is v h ma wa l = each_if IsSaid (fits kind v) (record { column = place; term = equals (literal v) })
+      (λ f c inside_v.
+      let same : c.value ≡ v = value_cmp_exact c.value v (equal_is _ (against_holds op.Equal a b place v h ma wa l refl c (fitting_at place kind is v f c))) in
       (c.value, c.value_is, ap Some (sym same)))
-  against_said op.Less a b place c v h ma wa l = each_if IsSaid (fits c.kind v) (record { column = place; term = ranges (record { op = op.Less; value = v }) })
-      (λ f. let m = literal_meaning b v l in (c, fitting c.kind v f, holds_of op.Less a b c.kind c.value v refl h ma wa m.0 m.1 c.fits (fitting c.kind v f)))
-  against_said op.AtMost a b place c v h ma wa l = each_if IsSaid (fits c.kind v) (record { column = place; term = ranges (record { op = op.AtMost; value = v }) })
-      (λ f. let m = literal_meaning b v l in (c, fitting c.kind v f, holds_of op.AtMost a b c.kind c.value v refl h ma wa m.0 m.1 c.fits (fitting c.kind v f)))
-  against_said op.Greater a b place c v h ma wa l = each_if IsSaid (fits c.kind v) (record { column = place; term = ranges (record { op = op.Greater; value = v }) })
-      (λ f. let m = literal_meaning b v l in (c, fitting c.kind v f, holds_of op.Greater a b c.kind c.value v refl h ma wa m.0 m.1 c.fits (fitting c.kind v f)))
-  against_said op.AtLeast a b place c v h ma wa l = each_if IsSaid (fits c.kind v) (record { column = place; term = ranges (record { op = op.AtLeast; value = v }) })
-      (λ f. let m = literal_meaning b v l in (c, fitting c.kind v f, holds_of op.AtLeast a b c.kind c.value v refl h ma wa m.0 m.1 c.fits (fitting c.kind v f)))
-  against_said op.Or a b place c v h ma wa l = tt
-  against_said op.And a b place c v h ma wa l = tt
-  against_said op.NotEqual a b place c v h ma wa l = tt
-  against_said op.Add a b place c v h ma wa l = tt
-  against_said op.Subtract a b place c v h ma wa l = tt
-  against_said op.Multiply a b place c v h ma wa l = tt
+  against_said op.Less a b place kind is v h ma wa l = each_if IsSaid (fits kind v) (record { column = place; term = ranges (record { op = op.Less; value = v }) })
+      (λ f c. let fv = fitting_at place kind is v f c in (c, fv, against_holds op.Less a b place v h ma wa l refl c fv))
+  against_said op.AtMost a b place kind is v h ma wa l = each_if IsSaid (fits kind v) (record { column = place; term = ranges (record { op = op.AtMost; value = v }) })
+      (λ f c. let fv = fitting_at place kind is v f c in (c, fv, against_holds op.AtMost a b place v h ma wa l refl c fv))
+  against_said op.Greater a b place kind is v h ma wa l = each_if IsSaid (fits kind v) (record { column = place; term = ranges (record { op = op.Greater; value = v }) })
+      (λ f c. let fv = fitting_at place kind is v f c in (c, fv, against_holds op.Greater a b place v h ma wa l refl c fv))
+  against_said op.AtLeast a b place kind is v h ma wa l = each_if IsSaid (fits kind v) (record { column = place; term = ranges (record { op = op.AtLeast; value = v }) })
+      (λ f c. let fv = fitting_at place kind is v f c in (c, fv, against_holds op.AtLeast a b place v h ma wa l refl c fv))
+  against_said op.Or a b place kind is v h ma wa l = tt
+  against_said op.And a b place kind is v h ma wa l = tt
+  against_said op.NotEqual a b place kind is v h ma wa l = tt
+  against_said op.Add a b place kind is v h ma wa l = tt
+  against_said op.Subtract a b place kind is v h ma wa l = tt
+  against_said op.Multiply a b place kind is v h ma wa l = tt
 
   same_kinds : (k l : Kind) → same_kind k l ≡ true → k ≡ l
   same_kinds Int Int e = refl
@@ -322,25 +352,18 @@ module _ (before : List (List Kind)) (ks : List Kind) (after : List (List Kind))
   one_kind (Some k) None e = absurd (cc)
   one_kind None l e = absurd (cc)
 
-  -- the value of a column, where its kind is known
-  known : (place : ℕ) (kind : Kind) → slice_get ks place ≡ Some kind → (c : Column ks row place) × (c.kind ≡ kind)
-  known place kind e =
-      let c : Column ks row place = column_at ks row place fit_row (inside ks place kind e) in
-      let same : Some c.kind ≡ Some kind = sym c.kind_is ∙ e in
-      (c, cc)
-
   equal_said : (a b : Tree) (place : ℕ) (p : ColumnAt) → IsNotFalse op.Equal a b → column_of source a ≡ Some place → earlier_of source b ≡ Some p
-      → both_kinds (kind_in kinds (record { source = source; column = place })) (kind_in kinds p) ≡ true → IsEqualTo place (column p)
-  equal_said a b place p h ca eb same =
+      → both_kinds (kind_in kinds (record { source = source; column = place })) (kind_in kinds p) ≡ true → IsSaidOf place (equals (column p))
+  equal_said a b place p h ca eb same c inside_p =
       let k = one_kind _ _ same in
-      let c = known place k.0 (own_kind place k.0 k.1) in
+      let kind_is : k.0 ≡ c.kind = kind_of place k.0 (own_kind place k.0 k.1) c in
       let m = earlier_meaning b p eb in
-      let early : p.source < length before = subst (λ (n : ℕ). p.source < n) (fit_rows_lengths before rows fit_before) m.0 in
-      let other = earlier_value before (ks ∷ after) rows p.source p.column k.0 fit_before early k.2 in
+      let early : p.source < length before = subst (λ (n : ℕ). p.source < n) (rows_lengths before rows before_are) m.0 in
+      let other = earlier_value before (ks ∷ after) rows p.source p.column k.0 before_are early k.2 in
       let own = own_column a place ca in
-      let fits_kind : Fits k.0 c.0.value = subst (λ (l : Kind). Fits l c.0.value) c.1 c.0.fits in
-      let tied = holds_of op.Equal a b k.0 c.0.value other.0 refl h (own.0 ∙ ap outcome_of c.0.value_is) own.1 (m.1 ∙ ap outcome_of other.1) m.2 fits_kind other.2 in
-      (c.0.value, c.0.value_is, other.1 ∙ ap Some (sym (value_cmp_exact c.0.value other.0 (equal_is _ tied))))
+      let fits_other : Fits c.kind other.0 = subst (λ (l : Kind). Fits l other.0) kind_is (inside_fits k.0 other.0 other.2 (inside_p other.0 other.1)) in
+      let tied = holds_of op.Equal a b c.kind c.value other.0 refl h (own_seen a place c own.0) own.1 (m.1 ∙ (ap outcome_of other.1 ∙ seen_is c.kind other.0 fits_other)) m.2 c.fits fits_other in
+      (c.value, c.value_is, other.1 ∙ ap Some (sym (value_cmp_exact c.value other.0 (equal_is _ tied))))
 
   -- what is said of a column
   abbrev literal_terms : Op → Tree → ℕ → List ColumnTerm
@@ -357,10 +380,7 @@ module _ (before : List (List Kind)) (ks : List Kind) (after : List (List Kind))
   literal_said o a b place h ca =
       each_some IsSaid (λ k. flat_map (against k o place) (option_to_list (literal_of b))) (kind_in kinds (record { source = source; column = place }))
       (λ kind e. each_some IsSaid (against kind o place) (literal_of b)
-      (λ v l.
-      let c = known place kind (own_kind place kind e) in
-      let own = own_column a place ca in
-      subst (λ k. AllByRecursion IsSaid (against k o place v)) c.1 (against_said o a b place c.0 v h (own.0 ∙ ap outcome_of c.0.value_is) own.1 l)))
+      (λ v l. let own = own_column a place ca in against_said o a b place kind (own_kind place kind e) v h own.0 own.1 l))
 
   joined_said : (o : Op) (a b : Tree) (place : ℕ) → IsNotFalse o a b → column_of source a ≡ Some place → AllByRecursion IsSaid (elim o [ op.Equal ↦ joined_terms b place | _ ↦ [] ])
   joined_said op.Equal a b place h ca =

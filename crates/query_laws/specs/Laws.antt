@@ -1,5 +1,5 @@
 -- Laws of databases that statements left, and of how a SELECT reads them.
-use Rattle.std.specs.Prelude.{◌≡◌, ◌≢◌, ◌⊎◌, ℕ, true, List, [], ◌∷◌, ◌++◌, map, filter, Option, Some, None, Ok, IsSome}
+use Rattle.std.specs.Prelude.{◌≡◌, ◌≢◌, ◌⊎◌, ℕ, true, List, [], ◌∷◌, ◌++◌, filter, Option, Some, None, Ok, IsSome}
 use Rattle.std.specs.List.{All}
 use Rattle.std.specs.Ordering.{nat_cmp, is_lt}
 use Rattle.std.specs.Cmp.Lexicographic.{slice_cmp}
@@ -12,9 +12,8 @@ use Rattle.iv_types.specs.Encoding.{FitAll}
 use Rattle.iv_types.specs.Syntax.{StatementTree}
 use Rattle.iv_meaning.specs.Schema.{Schema, Object, table, view, ViewTree, numbered}
 use Rattle.iv_meaning.specs.Database.{Row, Rows, Database, rows_of, key_of, set_row}
-use Rattle.iv_meaning.specs.Grouping.{all_of}
 use Rattle.iv_meaning.specs.Query.{BoundQuery}
-use Rattle.iv_meaning.specs.View.{relation_rows, lies_in, rows_between, read}
+use Rattle.iv_meaning.specs.View.{lies_in, rows_between, read}
 use Rattle.iv_meaning.specs.Statement.{create, select, bound_meaning, keep, defines}
 use Rattle.iv_meaning.specs.Binding.{bind}
 use Rattle.iv_meaning.specs.Reading.{Program, done, fetch, program, sources_for, replies_by, replies_of}
@@ -80,12 +79,11 @@ RelationsLaw = (db : Database) → IsSound db → (statement : StatementTree) (q
     → All (IsRelation db.schema) query.relations
 
 -- A SELECT that is read by its plan, and is told of each interval the rows of one database, replies what it means on this
--- database, if none of its views is refused.
+-- database. This is so whatever the sums of its views are: a number outside the HUGE range that the SELECT does not need is
+-- in no interval of its plan, or in a row that a false term excludes.
 abbrev pub ReadingLaw : Type 0
-ReadingLaw = (db : Database) → IsSound db → (query : BoundQuery) → All (IsRelation db.schema) query.relations
-    → (sources : List (List Row)) → all_of (map (λ n. relation_rows db (numbered db.schema n)) query.relations) ≡ Some sources
-    → (mode : Mode) (rows : ℕ → Interval → List Row) → ((n : ℕ) (i : Interval) (found : List Row) → read db n i ≡ Some found → rows n i ≡ found)
-    → replies_by rows (program query (sources_for db.schema query mode)) ≡ replies_of (bound_meaning (select query) db)
+ReadingLaw = (db : Database) → IsSound db → (query : BoundQuery) → All (IsRelation db.schema) query.relations → (mode : Mode)
+    → replies_by (read db) (program query (sources_for db.schema query mode)) ≡ replies_of (bound_meaning (select query) db)
 
 -- each interval that it asks for is one of an object that there is
 abbrev pub Asks : Schema → Program → Type 0

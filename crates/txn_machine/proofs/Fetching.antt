@@ -1,41 +1,27 @@
 -- What a Fetch is answered is what is read of the meaning: its numbers are in range, so that it is refused nowhere.
-use Rattle.std.specs.Prelude.{◌≡◌, ℕ, List, [], ℤ, pos, ◌+ℤ◌, ◌≤ℤ◌, Option, Some, None, IsSome}
-use Rattle.std.specs.Option.{option_map}
+use Rattle.std.specs.Prelude.{◌≡◌, ℕ, List, [], ℤ, pos, ◌+ℤ◌, ◌≤ℤ◌}
 use mathlib.Core.Path.{refl, sym, ap, subst, ◌∙◌}
-use mathlib.Core.Logic.{inl, inr}
 use Rattle.std.proofs.Common.{arith}
-use Rattle.std.proofs.lemmas.Bool.{false≢true}
 use Rattle.std.proofs.lemmas.Int.{ints}
-use Rattle.iv_types.specs.declared.value.Interval.{Interval}
 use Rattle.iv_types.specs.Encoding.{IsHuge}
 use Rattle.table_laws.specs.Place.{Place}
 use Rattle.table_laws.specs.Kept.{redo}
 use Rattle.table_laws.proofs.Stored.{by_session}
-use Rattle.iv_meaning.specs.Schema.{Object, table, index, view, ViewTree, numbered}
-use Rattle.iv_meaning.specs.Database.{Row, Database}
-use Rattle.iv_meaning.specs.View.{view_rows, view_key, rows_between, object_rows, read}
 use Rattle.iv_meaning.specs.Escrow.{IsSession, over_sessions, paid, lo, hi}
-use Rattle.txn_machine.specs.Acts as act
 use Rattle.txn_machine.specs.Deltas.{due}
 use Rattle.txn_machine.specs.Keeping.{increments, IsSettled}
 use Rattle.txn_machine.specs.Fresh.{fresh}
 use Rattle.txn_machine.specs.Locks.{with_one}
 use Rattle.txn_machine.specs.Store.{Store, committed, schema_of, now, changes_by}
 use Rattle.txn_machine.specs.Ghosts.{the_views}
-use Rattle.txn_machine.specs.May.{MayAct}
-use Rattle.txn_machine.specs.Alone.{ReadsFrom, Reads, with_changes}
-use Rattle.txn_machine.specs.ViewLaws.{AreSound}
-use Rattle.txn_machine.specs.Laws.{AreInRange, InRangeLaw, FetchLaw}
+use Rattle.txn_machine.specs.Laws.{InRangeLaw, FetchLaw}
 use Rattle.txn_machine.proofs.Basics.{one_same, one_other}
 use Rattle.txn_machine.proofs.Columns.{paid_in, owes_in, settled_sum}
 use Rattle.txn_machine.proofs.Bounds.{over_at_most, signs, all_low, all_high, huge_inside}
-use Rattle.txn_machine.proofs.Good.{value-redo, base_sound, own_sound}
+use Rattle.txn_machine.proofs.Good.{value-redo, base_sound}
 use Rattle.txn_machine.proofs.Looking.{view_laws}
 use Rattle.txn_machine.proofs.Framing.{over_one}
-use Rattle.txn_machine.proofs.Refusing.{rows_there}
 use Rattle.txn_machine.proofs.Reached.{Holds', reached}
-use Rattle.txn_machine.proofs.Stepping.{ready_owes}
-use Rattle.txn_machine.proofs.Moving.{may_of}
 use Rattle.txn_machine.proofs.Stories.{fetched}
 
 -- ---- numbers in range
@@ -86,31 +72,5 @@ in_range_law s r = (
 
 -- ---- what is read
 
-pub reads_read : (db : Database) → AreSound db.schema db.rows → AreInRange db.schema db.rows → (n : ℕ) (interval : Interval) (rows : List Row) → Reads db n interval rows → read db n interval ≡ Some rows
-reads_read db sound in_range n interval rows h = go (numbered db.schema n) refl h
-  where
-    at_view : (v : ViewTree) → ((found : List Row) → object_rows db (Some (view v)) interval ≡ Some found → found ≡ rows) → (o : Option (List Row)) → view_rows db.schema db.rows v ≡ o → IsSome o → object_rows db (Some (view v)) interval ≡ Some rows
-    at_view v is None e k = absurd (false≢true k)
-    at_view v is (Some all) e k =
-        let found : object_rows db (Some (view v)) interval ≡ Some (rows_between (view_key db.schema v) interval all) = ap (option_map (rows_between (view_key db.schema v) interval)) e in
-        found ∙ ap Some (is (rows_between (view_key db.schema v) interval all) found)
-
-    go : (o : Option Object) → numbered db.schema n ≡ o → ReadsFrom db o n interval rows → read db n interval ≡ Some rows
-    go None e h = h
-    go (Some (table t)) e h = h
-    go (Some (index i)) e h = h
-    go (Some (view v)) e h = ap (λ o. object_rows db o interval) e ∙ at_view v h.is_read (view_rows db.schema db.rows v) refl (rows_there db sound n v e in_range)
-
 pub fetch_law : FetchLaw
-fetch_law s r i number interval mode rows after step = elim step.does [
-  | inl x ↦
-      let g = reached s r in
-      let may : MayAct s.store i (act.Fetch number interval mode) = may_of s i (act.Fetch number interval mode) x.runs step.may.1 in
-      let is : IsSession i = may.0.goes_on.of_session in
-      let reads = fetched s r i number interval mode rows after step in (
-        reads,
-        reads_read (with_changes (changes_by s.store i) (committed s.store)) (own_sound the_views fresh view_laws (committed s.store) s.store g i is)
-            (λ p column. own_huge s.store g p column i is (ready_owes view_laws s.store i _ may.0)) number interval rows reads,
-      )
-  | inr x ↦ absurd (cc)
-]
+fetch_law s r i number interval mode rows after step = fetched s r i number interval mode rows after step

@@ -22,7 +22,6 @@ use Rattle.txn_machine.specs.Entries.{AgreeAt}
 use Rattle.txn_machine.specs.Ghosts.{MayRead, MayReadIn, the_views}
 use Rattle.txn_machine.specs.Store.{Store, now, changes_by, locks_of}
 use Rattle.txn_machine.specs.Steps.{FindsIn}
-use Rattle.txn_machine.specs.Alone.{ReadsFrom, Reads}
 use Rattle.txn_machine.specs.ViewLaws.{AreSound, IsRight}
 use Rattle.txn_machine.proofs.Basics.{read_meets_increment, one_same, one_other}
 use Rattle.txn_machine.proofs.Agreeing.{agree_back, agree_redo, agree_first}
@@ -34,7 +33,7 @@ use Rattle.txn_machine.proofs.Keeps.{pays_none}
 use Rattle.txn_machine.proofs.Reading.{lies, IsTableIndex, first, secondary, read_same}
 use Rattle.txn_machine.proofs.Summing.{sum_law}
 use Rattle.txn_machine.proofs.Looking.{local_law, view_laws}
-use Rattle.txn_machine.proofs.Listing.{view_read}
+use Rattle.txn_machine.proofs.Listing.{view_read, views_same}
 
 abbrev pub Fine : Database → Store → Type 0
 Fine = Good the_views fresh view_laws
@@ -108,25 +107,24 @@ view_number : (objects : Schema) (rows : Rows) (n : ℕ) (v : ViewTree) → AreS
 view_number objects rows n v s e = (s.objects n (view v) e).0
 
 pub reads_framed : (objects : Schema) (a b : ℕ) (locks : List Want) (one other : Rows) → Framed objects locks one other → AreSound objects one → AreSound objects other
-    → (n : ℕ) (interval : Interval) → MayReadIn locks n interval → (rows : List Row) → Reads (record { number = a; schema = objects; rows = one }) n interval rows → Reads (record { number = b; schema = objects; rows = other }) n interval rows
-reads_framed objects a b locks one other f so ss n interval may rows h = go (numbered objects n) refl h
+    → (n : ℕ) (interval : Interval) → MayReadIn locks n interval → read (record { number = a; schema = objects; rows = one }) n interval ≡ read (record { number = b; schema = objects; rows = other }) n interval
+reads_framed objects a b locks one other f so ss n interval may = go (numbered objects n) refl
   where
-    at_table : IsTableIndex (numbered objects n) → read (record { number = a; schema = objects; rows = one }) n interval ≡ read (record { number = b; schema = objects; rows = other }) n interval
+    here : Option Object → List Row
+    here x = object_rows (record { number = a; schema = objects; rows = one }) x interval
+
+    there : Option Object → List Row
+    there x = object_rows (record { number = b; schema = objects; rows = other }) x interval
+
+    at_table : IsTableIndex (numbered objects n) → here (numbered objects n) ≡ there (numbered objects n)
     at_table i = read_same objects a b one other so ss n i interval (λ k l. f.agree n k (may k l))
 
-    go : (o : Option Object) → numbered objects n ≡ o → ReadsFrom (record { number = a; schema = objects; rows = one }) o n interval rows → ReadsFrom (record { number = b; schema = objects; rows = other }) o n interval rows
-    go None e h = ap (λ x. object_rows (record { number = b; schema = objects; rows = other }) x interval) e ∙ (sym (ap (λ x. object_rows (record { number = a; schema = objects; rows = one }) x interval) e) ∙ h)
-    go (Some (table t)) e h = sym (at_table (first t e)) ∙ h
-    go (Some (index i)) e h = sym (at_table (secondary i e)) ∙ h
-    go (Some (view v)) e h =
-        let agrees : (key : List ℕ) → lies_in key interval ≡ true → (column : ℕ) → stored_number h.view_rows (v.number, key) column ≡ fresh objects other (v.number, key) column =
-        λ key l column. h.agree key l column ∙ f.same v.number key (subst (λ m. MayRead locks m key) (sym (view_number objects one n v so e)) (may key (lies key interval l))) column in
-        record {
-          view_rows = h.view_rows;
-          agree = agrees;
-          listed = h.listed;
-          is_read = view_read (record { number = b; schema = objects; rows = other }) ss n v e interval h.view_rows agrees rows h.listed;
-        }
+    go : (o : Option Object) → numbered objects n ≡ o → here (numbered objects n) ≡ there (numbered objects n)
+    go None e = ap here e ∙ sym (ap there e)
+    go (Some (table t)) e = at_table (first t e)
+    go (Some (index i)) e = at_table (secondary i e)
+    go (Some (view v)) e = ap here e ∙ (views_same objects a b one other so ss n v e interval (λ key l column.
+        f.same v.number key (subst (λ m. MayRead locks m key) (sym (view_number objects one n v so e)) (may key (lies key interval l))) column) ∙ sym (ap there e))
 
 -- ---- a session's own reading
 
@@ -163,7 +161,7 @@ module _ (base : Database) (s : Store) (good : Fine base s) (i : ℕ) (is : IsSe
   -- what is found is what the session's own database has
   pub finds_own : (a b n : ℕ) (interval : Interval) → MayReadIn (locks_of s i) n interval → (rows : List Row)
       → FindsIn (record { number = a; schema = base.schema; rows = s.rows }) s.view (numbered base.schema n) n interval rows
-      → Reads (record { number = b; schema = base.schema; rows = own }) n interval rows
+      → read (record { number = b; schema = base.schema; rows = own }) n interval ≡ rows
   finds_own a b n interval may rows h = go (numbered base.schema n) refl h
     where
       so : AreSound base.schema s.rows
@@ -175,16 +173,11 @@ module _ (base : Database) (s : Store) (good : Fine base s) (i : ℕ) (is : IsSe
       at_table : IsTableIndex (numbered base.schema n) → read (record { number = a; schema = base.schema; rows = s.rows }) n interval ≡ read (record { number = b; schema = base.schema; rows = own }) n interval
       at_table x = read_same base.schema a b s.rows own so ss n x interval (λ k l. read_at the_views fresh view_laws base s good i is n k (may k l))
 
-      go : (o : Option Object) → numbered base.schema n ≡ o → FindsIn (record { number = a; schema = base.schema; rows = s.rows }) s.view o n interval rows → ReadsFrom (record { number = b; schema = base.schema; rows = own }) o n interval rows
+      go : (o : Option Object) → numbered base.schema n ≡ o → FindsIn (record { number = a; schema = base.schema; rows = s.rows }) s.view o n interval rows → read (record { number = b; schema = base.schema; rows = own }) n interval ≡ rows
       go None e h = ap (λ x. object_rows (record { number = b; schema = base.schema; rows = own }) x interval) e ∙ (sym (ap (λ x. object_rows (record { number = a; schema = base.schema; rows = s.rows }) x interval) e) ∙ h)
       go (Some (table t)) e h = sym (at_table (first t e)) ∙ h
       go (Some (index x)) e h = sym (at_table (secondary x e)) ∙ h
       go (Some (view v)) e h =
           let agrees : (key : List ℕ) → lies_in key interval ≡ true → (column : ℕ) → stored_number s.view (v.number, key) column ≡ fresh base.schema own (v.number, key) column =
           λ key l column. own_number v.number key (subst (λ m. MayRead (locks_of s i) m key) (sym (view_number base.schema s.rows n v so e)) (may key (lies key interval l))) column in
-          record {
-            view_rows = s.view;
-            agree = agrees;
-            listed = h;
-            is_read = view_read (record { number = b; schema = base.schema; rows = own }) ss n v e interval s.view agrees rows h;
-          }
+          ap (λ x. object_rows (record { number = b; schema = base.schema; rows = own }) x interval) e ∙ view_read (record { number = b; schema = base.schema; rows = own }) ss n v e interval s.view agrees rows h

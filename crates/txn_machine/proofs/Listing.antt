@@ -1,7 +1,7 @@
 -- What is listed of a view is what is read of its meaning.
 use Rattle.std.specs.Prelude.{◌≡◌, ◌≢◌, ℕ, zero, suc, ◌==◌, ◌&&◌, cond, not, Bool, true, false, T, List, [], ◌∷◌, ◌++◌, map, filter, length, get_or, ℤ, pos, Option, Some, None}
-use Rattle.std.specs.List.{AllByRecursion, AllZip, Contains, cons_option}
-use Rattle.std.specs.Option.{option_map, option_map_or, option_and_then, unwrap_or}
+use Rattle.std.specs.List.{AllByRecursion, AllZip, Contains}
+use Rattle.std.specs.Option.{option_map_or}
 use mathlib.Core.Path.{refl, sym, ap, subst, ◌∙◌}
 use Rattle.std.proofs.Common.{arith, eq-eqb, eqb-true}
 use Rattle.std.proofs.lemmas.List.{take_at, length-map}
@@ -13,10 +13,7 @@ use Rattle.std.specs.Ordering.{int_cmp, nat_cmp, is_eq, is_lt, eq_by_cmp, orderi
 use Rattle.std.specs.Cmp.{tied_itself, nat_cmp_total}
 use Rattle.iv_types.specs.declared.value.Interval.{Interval}
 use Rattle.iv_types.specs.declared.value.Kind.{Kind}
-use Rattle.iv_types.specs.declared.value.Value.{Value}
 use Rattle.iv_types.specs.declared.value.Value.TheVariants.{Number}
-use Rattle.iv_types.specs.declared.expression.ColumnAt.{ColumnAt}
-use Rattle.iv_types.specs.Syntax.{Tree}
 use Rattle.iv_types.specs.Encoding.{FitAll, key_bytes, row_cmp}
 use Rattle.iv_types.proofs.Orders.{row_cmp_exact}
 use Rattle.row_codec.proofs.Columns.{fit_lengths}
@@ -24,15 +21,14 @@ use Rattle.table_laws.specs.Place.{Place, place_cmp}
 use Rattle.table_laws.specs.Table.{rows_where}
 use Rattle.table_laws.proofs.Place.{place_cmp_total, place_cmp-IsAntisymmetric}
 use Rattle.table_laws.proofs.Tables.{Contains-entries, Contains-rows_where, rows_where_sorted}
-use Rattle.iv_meaning.specs.Schema.{view, ViewTree, numbered, sources_of, kinds_of_table, group_kinds}
-use Rattle.iv_meaning.specs.Database.{Row, Database, rows_of}
-use Rattle.iv_meaning.specs.Values.{number, refused, is_huge, ranged, value_at, value_of, outcome_of}
-use Rattle.iv_meaning.specs.Query.{Combination, count, sum, combinations, conjunction, joined, item_of_group, row_by, values_at, listed, ordered}
-use Rattle.iv_meaning.specs.Grouping.{all_of, groups_of, members, number_in, sum_by}
-use Rattle.iv_meaning.specs.View.{conditions_of, query_of, view_rows, shares, lies_in, view_key, rows_between, object_rows, read}
+use Rattle.iv_meaning.specs.Schema.{Schema, view, ViewTree, numbered, sources_of, kinds_of_table, group_kinds}
+use Rattle.iv_meaning.specs.Database.{Row, Rows, Database}
+use Rattle.iv_meaning.specs.Query.{Combination, values_at}
+use Rattle.iv_meaning.specs.Grouping.{groups_of, members}
+use Rattle.iv_meaning.specs.View.{counted_combinations, view_rows, shares, lies_in, view_key, rows_between, object_rows}
 use Rattle.query_laws.specs.Laws.{Rises}
 use Rattle.query_laws.proofs.Rising.{is_true, key_cmp, key_total, key_exact, keyed, entries_rising}
-use Rattle.query_laws.proofs.GroupRows.{some_same, all_of_cons, all_of_zip, IsGroupIn, groups_are, first_member, kinds_long, view_items, query_by, value_again, unordered}
+use Rattle.query_laws.proofs.GroupRows.{IsGroupIn, groups_are, first_member, kinds_long}
 use Rattle.query_laws.proofs.TermLemmas.{equal_is}
 use Rattle.query_laws.proofs.Relations.{view_rows_are}
 use Rattle.txn_machine.specs.Stored.{ViewRows, stored_number, first_numbers, IsShown, is_shown, Lists}
@@ -44,36 +40,10 @@ use Rattle.txn_machine.proofs.Reading.{both_true}
 use Rattle.txn_machine.proofs.KeysApart.{keys_tell}
 use Rattle.txn_machine.proofs.Holding.{by_contains, contains_here, contains_next, contains_none, contains_map}
 use Rattle.txn_machine.proofs.Looking.{all_of_list}
-use Rattle.txn_machine.proofs.Sharing.{counted_combinations, groups_fit, fresh_law}
-use Rattle.txn_machine.proofs.Ranging.{all_contains, chosen_is, group_there, not_listed}
+use Rattle.txn_machine.proofs.Sharing.{groups_fit, fresh_law}
+use Rattle.txn_machine.proofs.Ranging.{all_contains, group_there}
 
--- ---- the row of a group
-
-ranged_is : (n : ℤ) (y : Value) → value_of (ranged n) ≡ Some y → y ≡ Number n
-ranged_is n y e = go (is_huge n) e
-  where
-    go : (b : Bool) → value_of (cond b (number n) refused) ≡ Some y → y ≡ Number n
-    go true e = sym (some_same (Number n) y e)
-    go false e = absurd (cc)
-
-sums_are : (ms : List Combination) (sums : List ColumnAt) (us : List Value) → all_of (map (λ i. value_of (item_of_group ms i)) (map sum sums)) ≡ Some us
-    → us ≡ map Number (map (λ column. sum_by (λ c. number_in (value_at c column)) ms) sums)
-sums_are ms [] us e = sym (some_same [] us e)
-sums_are ms (column ∷ sums) us e =
-    let p = all_of_cons (value_of (item_of_group ms (sum column))) (map (λ i. value_of (item_of_group ms i)) (map sum sums)) us e in
-    p.4 ∙ (λ i. ranged_is (sum_by (λ c. number_in (value_at c column)) ms) p.0 p.2 i ∷ sums_are ms sums p.1 p.3 i)
-
--- the group's values, and then the count and the sums
-items_are : (one : Combination) (others : List Combination) (group sums : List ColumnAt) (row : Row) → all_of (map (λ i. value_of (item_of_group (one ∷ others) i)) (view_items group sums)) ≡ Some row
-    → row ≡ values_at group one ++ map Number (pos (length (one ∷ others)) ∷ map (λ column. sum_by (λ c. number_in (value_at c column)) (one ∷ others)) sums)
-items_are one others [] sums row e =
-    let p = all_of_cons (value_of (item_of_group (one ∷ others) count)) (map (λ i. value_of (item_of_group (one ∷ others) i)) (map sum sums)) row e in
-    p.4 ∙ (λ i. ranged_is (pos (length (one ∷ others))) p.0 p.2 i ∷ sums_are (one ∷ others) sums p.1 p.3 i)
-items_are one others (column ∷ group) sums row e =
-    let p = all_of_cons (value_of (outcome_of (value_at one column))) (map (λ i. value_of (item_of_group (one ∷ others) i)) (view_items group sums)) row e in
-    let tail : Row = map Number (pos (length (one ∷ others)) ∷ map (λ column. sum_by (λ c. number_in (value_at c column)) (one ∷ others)) sums) in
-    let here : value_at one column ≡ Some p.0 = sym (value_again (value_at one column)) ∙ p.2 in
-    p.4 ∙ (ap (λ (l : List Value). p.0 ∷ l) (items_are one others group sums p.1 p.3) ∙ ap (λ (o : Option Value). cons_option o (values_at group one) ++ tail) (sym here))
+-- ---- numbers
 
 -- numbers that are the same in every column
 first_same : (n : ℕ) (ms ns : List ℤ) → length ns ≡ n → ((i : ℕ) → get_or ms i (pos 0) ≡ get_or ns i (pos 0)) → first_numbers n ms ≡ ns
@@ -84,20 +54,6 @@ first_same (suc n) [] (x ∷ ns) l h = λ i. h 0 i ∷ first_same n [] ns (omega
 first_same (suc n) (m ∷ ms) (x ∷ ns) l h = λ i. h 0 i ∷ first_same n ms ns (omega (arith, l)) (λ k. h (suc k)) i
 
 -- ---- lists place by place
-
-zip_left : {A B : Type 0} (Q : A → B → Type 0) (xs : List A) (ys : List B) → AllZip Q xs ys → (x : A) → Contains xs x → (y : B) × Contains ys y × Q x y
-zip_left Q [] ys z x c = absurd (contains_none x c)
-zip_left Q (a ∷ xs) [] z x c = absurd z
-zip_left Q (a ∷ xs) (b ∷ ys) z x c = by_contains a xs x c
-    (λ e. (b, contains_here b ys, subst (λ k. Q k b) e z.0))
-    (λ d. let r = zip_left Q xs ys z.1 x d in (r.0, contains_next b ys r.0 r.1, r.2))
-
-zip_right : {A B : Type 0} (Q : A → B → Type 0) (xs : List A) (ys : List B) → AllZip Q xs ys → (y : B) → Contains ys y → (x : A) × Contains xs x × Q x y
-zip_right Q xs [] z y c = absurd (contains_none y c)
-zip_right Q [] (b ∷ ys) z y c = absurd z
-zip_right Q (a ∷ xs) (b ∷ ys) z y c = by_contains b ys y c
-    (λ e. (a, contains_here a xs, subst (λ k. Q a k) e z.0))
-    (λ d. let r = zip_right Q xs ys z.1 y d in (r.0, contains_next a xs r.0 r.1, r.2))
 
 -- rows under the keys of some entries
 abbrev zipped : {X : Type 0} → List (Place × X) → List Row → List (List ℕ × Row)
@@ -189,13 +145,6 @@ row_there : (o : Option (List ℤ)) (k : ℕ) → option_map_or (λ ns. get_or n
 row_there None k e = absurd (cc)
 row_there (Some ns) k e = (ns, refl, e)
 
--- each group has its row, and each row is that of a group
-each_listed : (relations : List ℕ) (conditions : List Tree) (group sums : List ColumnAt) (found : List Combination) (all : List Row) → listed (query_by relations conditions group sums) found ≡ Some all
-    → AllZip (λ g row. row_by item_of_group (view_items group sums) (members (values_at group) found g) ≡ Some row) (groups_of (values_at group) found) all
-each_listed relations conditions [] sums [] all e = subst (AllZip (λ g row. row_by item_of_group (view_items [] sums) (members (values_at []) [] g) ≡ Some row) []) (some_same [] all e) tt
-each_listed relations conditions [] sums (c ∷ found) all e = absurd (not_listed sums c found all e)
-each_listed relations conditions (x ∷ xs) sums found all e = all_of_zip (λ (g : Row). row_by item_of_group (view_items (x ∷ xs) sums) (members (values_at (x ∷ xs)) found g)) (groups_of (values_at (x ∷ xs)) found) all e
-
 filter_where : (t : List ℕ → Bool) (es : List (List ℕ × Row)) → filter (λ (e : List ℕ × Row). t e.0) es ≡ rows_where (λ k row. t k) es
 filter_where t [] = refl
 filter_where t (e ∷ es) = λ i. cond (t e.0) (e ∷ filter_where t es i) (filter_where t es i)
@@ -206,20 +155,16 @@ keyed_has key (row ∷ rows) q r c = by_contains (key row, row) (keyed key rows)
     (λ e. (subst (Contains (row ∷ rows)) (ap (λ (x : List ℕ × Row). x.1) e) (contains_here row rows), ap key (sym (ap (λ (x : List ℕ × Row). x.1) e)) ∙ ap (λ (x : List ℕ × Row). x.0) e))
     (λ d. let h = keyed_has key rows q r d in (contains_next row rows r h.0, h.1))
 
--- the combinations that count, where none is refused
-meaning_found : (db : Database) (v : ViewTree) (all : List Row) → view_rows db.schema db.rows v ≡ Some all → listed (query_of db.schema v) (counted_combinations db.schema db.rows v) ≡ Some all
-meaning_found db v all e = go (joined (conditions_of db.schema v) (map (rows_of db.rows) (sources_of v))) refl e
-  where
-    unordered_is : (o : Option (List Row)) → option_map (ordered []) o ≡ Some all → o ≡ Some all
-    unordered_is None e = absurd (cc)
-    unordered_is (Some others) e = ap Some (sym (unordered others) ∙ some_same (ordered [] others) all e)
+-- what a list is made of
+map_has : {X Y : Type 0} (f : X → Y) (xs : List X) (y : Y) → Contains (map f xs) y → (x : X) × Contains xs x × (y ≡ f x)
+map_has f [] y c = absurd (contains_none y c)
+map_has f (x ∷ xs) y c = by_contains (f x) (map f xs) y c
+    (λ e. (x, contains_here x xs, sym e))
+    (λ d. let r = map_has f xs y d in (r.0, contains_next x xs r.0 r.1, r.2))
 
-    go : (o : Option (List Combination)) → joined (conditions_of db.schema v) (map (rows_of db.rows) (sources_of v)) ≡ o → option_map (ordered []) (option_and_then (listed (query_of db.schema v)) o) ≡ Some all
-        → listed (query_of db.schema v) (counted_combinations db.schema db.rows v) ≡ Some all
-    go None is h = absurd (cc)
-    go (Some found) is h =
-        let same : found ≡ counted_combinations db.schema db.rows v = chosen_is (conjunction (conditions_of db.schema v)) (combinations (map (rows_of db.rows) (sources_of v))) found is in
-        ap (listed (query_of db.schema v)) (sym same) ∙ unordered_is (listed (query_of db.schema v) found) h
+-- numbers that are as many, and the same in every column
+numbers_same : (n : ℕ) (ms ns : List ℤ) → length ms ≡ n → length ns ≡ n → ((i : ℕ) → get_or ms i (pos 0) ≡ get_or ns i (pos 0)) → ms ≡ ns
+numbers_same n ms ns l k h = sym (first_same n ms ms l (λ i. refl)) ∙ first_same n ms ns k h
 
 module _ (db : Database) (sound : AreSound db.schema db.rows) (n : ℕ) (v : ViewTree) (of : numbered db.schema n ≡ Some (view v)) where
   abbrev found : List Combination
@@ -248,41 +193,65 @@ module _ (db : Database) (sound : AreSound db.schema db.rows) (n : ℕ) (v : Vie
   key_for g tail fits = ap (key_bytes kinds) (take_at g tail (length v.group) (sym (fit_lengths kinds g fits)
       ∙ kinds_long (map (λ m. kinds_of_table (numbered db.schema m)) (sources_of v)) v.group (recursion_from_All _ v.group (sound.objects n (view v) of).1.group)))
 
-  row_is : (g : Row) → IsGroup g → (row : Row) → row_by item_of_group (view_items v.group v.sums) (members (values_at v.group) found g) ≡ Some row → row ≡ row_for g
-  row_is g is row e =
+  -- the rows of its meaning
+  abbrev all : List Row
+  all = view_rows db.schema db.rows v
+
+  of_group : (row : Row) → Contains all row → (g : Row) × IsGroup g × (row ≡ row_for g)
+  of_group row c =
+      let m = map_has row_for (groups_of (values_at v.group) found) row c in
+      (m.0, all_contains IsGroup (groups_of (values_at v.group) found) m.0 (groups_are (values_at v.group) found) m.1, m.2)
+
+  in_meaning : (g : Row) → IsGroup g → Contains all (row_for g)
+  in_meaning g is = contains_map row_for (groups_of (values_at v.group) found) g (subst (Contains (groups_of (values_at v.group) found)) is.2 (group_there (values_at v.group) found is.0 is.1))
+
+  rises : Rises key all
+  rises = (view_rows_are db (record { objects = sound.objects; rows = sound.rows }) n v of).1
+
+  -- a group that has a count is one that a combination has
+  has_count : (g : Row) → FitAll kinds g → (k : ℕ) → fresh db.schema db.rows (v.number, key_bytes kinds g) 0 ≡ pos (suc k) → IsGroup g
+  has_count g fits k e =
+      let counted : pos (length (members (values_at v.group) found g)) ≡ pos (suc k) = sym (fresh_law db sound n v of g fits 0) ∙ e in
+      some_member (values_at v.group) g found (λ none. let zero_is : pos 0 ≡ pos (suc k) = ap (λ (ms : List Combination). pos (length ms)) (sym none) ∙ counted in absurd (cc))
+
+  group_count : (g : Row) → IsGroup g → (k : ℕ) × (fresh db.schema db.rows (v.number, key_bytes kinds g) 0 ≡ pos (suc k))
+  group_count g is =
       let m = first_member (values_at v.group) found g is in
-      items_are m.one m.others v.group v.sums row (ap (row_by item_of_group (view_items v.group v.sums)) (sym m.members_are) ∙ e)
-      ∙ (λ i. sym m.group_is i ++ map Number (shares v (sym m.members_are i)))
+      (length m.others, fresh_law db sound n v of g (group_fits g is) 0 ∙ ap (λ (ms : List Combination). pos (length ms)) m.members_are)
 
-  module _ (all : List Row) (answered : view_rows db.schema db.rows v ≡ Some all) where
-    each : AllZip (λ g row. row_by item_of_group (view_items v.group v.sums) (members (values_at v.group) found g) ≡ Some row) (groups_of (values_at v.group) found) all
-    each = each_listed (sources_of v) (conditions_of db.schema v) v.group v.sums found all (meaning_found db v all answered)
+  -- ---- what is read in an interval
 
-    of_group : (row : Row) → Contains all row → (g : Row) × IsGroup g × (row ≡ row_for g)
-    of_group row c =
-        let z = zip_right (λ g row. row_by item_of_group (view_items v.group v.sums) (members (values_at v.group) found g) ≡ Some row) (groups_of (values_at v.group) found) all each row c in
-        let is : IsGroup z.0 = all_contains IsGroup (groups_of (values_at v.group) found) z.0 (groups_are (values_at v.group) found) z.1 in
-        (z.0, is, row_is z.0 is row z.2)
+  module _ (interval : Interval) where
+    abbrev read_entries : List (List ℕ × Row)
+    read_entries = rows_where (λ k row. lies_in k interval) (entries (from_entries {R = key_cmp} (keyed key all)))
 
-    in_meaning : (g : Row) → IsGroup g → Contains all (row_for g)
-    in_meaning g is =
-        let z = zip_left (λ g row. row_by item_of_group (view_items v.group v.sums) (members (values_at v.group) found g) ≡ Some row) (groups_of (values_at v.group) found) all each g
-        (subst (Contains (groups_of (values_at v.group) found)) is.2 (group_there (values_at v.group) found is.0 is.1)) in
-        subst (Contains all) (row_is g is z.0 z.2) z.1
+    entries_read : rows_between key interval all ≡ map (λ (e : List ℕ × Row). e.1) read_entries
+    entries_read = ap (map (λ (e : List ℕ × Row). e.1)) (filter_where (λ k. lies_in k interval) (entries (from_entries {R = key_cmp} (keyed key all))))
 
-    rises : Rises key all
-    rises = (view_rows_are db (record { objects = sound.objects; rows = sound.rows }) (λ m i. unwrap_or (read db m i) []) (λ m i rows e. ap (λ o. unwrap_or o []) e) n v of all answered).1
+    of_read : (q : List ℕ) (row : Row) → Contains read_entries (q, row) → (g : Row) × IsGroup g × (row ≡ row_for g) × (key_bytes kinds g ≡ q) × (lies_in (key_bytes kinds g) interval ≡ true)
+    of_read q row c =
+        let h = (Contains-rows_where key_total key_exact (λ k (row : Row). lies_in k interval) (from_entries {R = key_cmp} (keyed key all)) q row).0 c in
+        let k = keyed_has key all q row (subst (λ (l : List (List ℕ × Row)). Contains l (q, row)) (entries_rising key all rises) ((Contains-entries key_total key_exact (from_entries {R = key_cmp} (keyed key all)) q row).1 h.0)) in
+        let z = of_group row k.0 in
+        let key_is : key_bytes kinds z.0 ≡ q = sym (key_for z.0 (map Number (numbers z.0)) (group_fits z.0 z.1)) ∙ (ap key (sym z.2) ∙ k.1) in
+        (z.0, z.1, z.2, key_is, ap (λ x. lies_in x interval) key_is ∙ h.1)
 
-    module _ (interval : Interval) (view_map : ViewRows) (agree : (k : List ℕ) → lies_in k interval ≡ true → (column : ℕ) → stored_number view_map (v.number, k) column ≡ fresh db.schema db.rows (v.number, k) column)
+    in_read : (g : Row) → IsGroup g → lies_in (key_bytes kinds g) interval ≡ true → Contains read_entries (key_bytes kinds g, row_for g)
+    in_read g is lies =
+        let key_is : key (row_for g) ≡ key_bytes kinds g = key_for g (map Number (numbers g)) (group_fits g is) in
+        let among : Contains (keyed key all) (key_bytes kinds g, row_for g) = subst (λ k. Contains (keyed key all) (k, row_for g)) {x = key (row_for g)} {y = key_bytes kinds g} key_is (contains_map (λ (r : Row). (key r, r)) all (row_for g) (in_meaning g is)) in
+        (Contains-rows_where key_total key_exact (λ k (row : Row). lies_in k interval) (from_entries {R = key_cmp} (keyed key all)) (key_bytes kinds g) (row_for g)).1 (
+          (Contains-entries key_total key_exact (from_entries {R = key_cmp} (keyed key all)) (key_bytes kinds g) (row_for g)).0 (subst (λ (l : List (List ℕ × Row)). Contains l (key_bytes kinds g, row_for g)) (sym (entries_rising key all rises)) among),
+          lies,
+        )
+
+    module _ (view_map : ViewRows) (agree : (k : List ℕ) → lies_in k interval ≡ true → (column : ℕ) → stored_number view_map (v.number, k) column ≡ fresh db.schema db.rows (v.number, k) column)
         (rows : List Row) (lists : Lists db.schema v interval view_map rows) where
       abbrev stored : List (Place × List ℤ)
       stored = rows_where (is_shown v.number interval) (entries view_map)
 
       abbrev Shown : Place × List ℤ → Row → Type 0
       Shown = IsShown db.schema v
-
-      abbrev read_entries : List (List ℕ × Row)
-      read_entries = rows_where (λ k row. lies_in k interval) (entries (from_entries {R = key_cmp} (keyed key all)))
 
       -- the numbers of a group in the interval
       number_is : (g : Row) → FitAll kinds g → lies_in (key_bytes kinds g) interval ≡ true → (column : ℕ) → stored_number view_map (v.number, key_bytes kinds g) column ≡ get_or (numbers g) column (pos 0)
@@ -326,15 +295,8 @@ module _ (db : Database) (sound : AreSound db.schema db.rows) (n : ℕ) (v : Vie
 
       read_listed : (q : List ℕ) (row : Row) → Contains read_entries (q, row) → Contains (zipped stored rows) (q, row)
       read_listed q row c =
-          let h = (Contains-rows_where key_total key_exact (λ k (row : Row). lies_in k interval) (from_entries {R = key_cmp} (keyed key all)) q row).0 c in
-          let k = keyed_has key all q row (subst (λ (l : List (List ℕ × Row)). Contains l (q, row)) (entries_rising key all rises) ((Contains-entries key_total key_exact (from_entries {R = key_cmp} (keyed key all)) q row).1 h.0)) in
-          of_row (of_group row k.0) k.1 h.1
-        where
-          of_row : (z : (g : Row) × IsGroup g × (row ≡ row_for g)) → key row ≡ q → lies_in q interval ≡ true → Contains (zipped stored rows) (q, row)
-          of_row z is lies =
-              let key_is : key_bytes kinds z.0 ≡ q = sym (key_for z.0 (map Number (numbers z.0)) (group_fits z.0 z.1)) ∙ (ap key (sym z.2) ∙ is) in
-              subst (λ (y : List ℕ × Row). Contains (zipped stored rows) y) {x = (key_bytes kinds z.0, row_for z.0)} {y = (q, row)} (λ i. (key_is i, sym z.2 i))
-              (group_listed z.0 z.1 (ap (λ x. lies_in x interval) key_is ∙ lies))
+          let z = of_read q row c in
+          subst (λ (y : List ℕ × Row). Contains (zipped stored rows) y) {x = (key_bytes kinds z.0, row_for z.0)} {y = (q, row)} (λ i. (z.3 i, sym z.2 i)) (group_listed z.0 z.1 z.4)
 
       listed_read : (q : List ℕ) (row : Row) → Contains (zipped stored rows) (q, row) → Contains read_entries (q, row)
       listed_read q row c =
@@ -350,26 +312,53 @@ module _ (db : Database) (sound : AreSound db.schema db.rows) (n : ℕ) (v : Vie
           sym (ap (λ (o : Option (List ℤ)). option_map_or (λ ns. get_or ns 0 (pos 0)) o (pos 0)) there) ∙ number_is g x.fits lies 0 in
           let is_group : IsGroup g = some_member (values_at v.group) g found (λ none. absurd (cc (sym parts.2 ∙ ap (λ y. not (is_eq (int_cmp y (pos 0)))) (counted ∙ ap (λ (ms : List Combination). pos (length ms)) none)))) in
           let same : row ≡ row_for g = shown_row g x.fits lies e.1 there g row refl x.row_is in
-          let key_is : key row ≡ q = ap key same ∙ (key_for g (map Number (numbers g)) x.fits ∙ (x.key ∙ h.2)) in
-          let among : Contains (keyed key all) (q, row) = subst (λ k. Contains (keyed key all) (k, row)) {x = key row} {y = q} key_is (contains_map (λ (r : Row). (key r, r)) all row (subst (Contains all) (sym same) (in_meaning g is_group))) in
-          (Contains-rows_where key_total key_exact (λ k (row : Row). lies_in k interval) (from_entries {R = key_cmp} (keyed key all)) q row).1 (
-            (Contains-entries key_total key_exact (from_entries {R = key_cmp} (keyed key all)) q row).0 (subst (λ (l : List (List ℕ × Row)). Contains l (q, row)) (sym (entries_rising key all rises)) among),
-            ap (λ k. lies_in k interval) (sym (x.key ∙ h.2)) ∙ lies,
-          )
+          subst (λ (y : List ℕ × Row). Contains read_entries y) {x = (key_bytes kinds g, row_for g)} {y = (q, row)} (λ i. ((x.key ∙ h.2) i, sym same i)) (in_read g is_group lies)
 
       pub listed_is_read : rows_between key interval all ≡ rows
       listed_is_read =
-          ap (map (λ (e : List ℕ × Row). e.1)) (filter_where (λ k. lies_in k interval) (entries (from_entries {R = key_cmp} (keyed key all)))
-          ∙ same_members read_entries (zipped stored rows) (rows_where_sorted (λ k row. lies_in k interval) (from_entries {R = key_cmp} (keyed key all)))
+          entries_read
+          ∙ (ap (map (λ (e : List ℕ × Row). e.1)) (same_members read_entries (zipped stored rows) (rows_where_sorted (λ k row. lies_in k interval) (from_entries {R = key_cmp} (keyed key all)))
           (is_true _ (zipped_sorted v.number stored rows one_place (T_true _ (rows_where_sorted (is_shown v.number interval) view_map)))) read_listed listed_read)
-          ∙ zipped_rows Shown stored rows lists
+          ∙ zipped_rows Shown stored rows lists)
 
--- what a view's object has in an interval, if its meaning is not refused
+-- what a view's object has in an interval is what is listed of stored rows that agree with it
 pub view_read : (db : Database) → AreSound db.schema db.rows → (n : ℕ) (v : ViewTree) → numbered db.schema n ≡ Some (view v) → (interval : Interval) (view_map : ViewRows)
     → ((k : List ℕ) → lies_in k interval ≡ true → (column : ℕ) → stored_number view_map (v.number, k) column ≡ fresh db.schema db.rows (v.number, k) column)
-    → (rows : List Row) → Lists db.schema v interval view_map rows → (found : List Row) → object_rows db (Some (view v)) interval ≡ Some found → found ≡ rows
-view_read db sound n v of interval view_map agree rows lists found e = go (view_rows db.schema db.rows v) refl e
-  where
-    go : (o : Option (List Row)) → view_rows db.schema db.rows v ≡ o → option_map (rows_between (view_key db.schema v) interval) o ≡ Some found → found ≡ rows
-    go None is h = absurd (cc)
-    go (Some all) is h = sym (some_same (rows_between (view_key db.schema v) interval all) found h) ∙ listed_is_read db sound n v of all is interval view_map agree rows lists
+    → (rows : List Row) → Lists db.schema v interval view_map rows → object_rows db (Some (view v)) interval ≡ rows
+view_read db sound n v of interval view_map agree rows lists = listed_is_read db sound n v of interval view_map agree rows lists
+
+-- ---- two databases of which a view has the same numbers in an interval
+
+module _ (objects : Schema) (a b : ℕ) (one other : Rows) (so : AreSound objects one) (ss : AreSound objects other) (n : ℕ) (v : ViewTree) (of : numbered objects n ≡ Some (view v)) (interval : Interval)
+    (same : (k : List ℕ) → lies_in k interval ≡ true → (column : ℕ) → fresh objects one (v.number, k) column ≡ fresh objects other (v.number, k) column) where
+  abbrev here : Database
+  here = record { number = a; schema = objects; rows = one }
+
+  abbrev there : Database
+  there = record { number = b; schema = objects; rows = other }
+
+  pub carried : (q : List ℕ) (row : Row) → Contains (read_entries here so n v of interval) (q, row) → Contains (read_entries there ss n v of interval) (q, row)
+  carried q row c =
+      let z = of_read here so n v of interval q row c in
+      let g : Row = z.0 in
+      let fits : FitAll (group_kinds objects v) g = group_fits here so n v of g z.1 in
+      let count = group_count here so n v of g z.1 in
+      let group : IsGroup there ss n v of g = has_count there ss n v of g fits count.0 (sym (same (key_bytes (group_kinds objects v) g) z.4 0) ∙ count.1) in
+      let columns : (i : ℕ) → get_or (numbers here so n v of g) i (pos 0) ≡ get_or (numbers there ss n v of g) i (pos 0) = λ i.
+      sym (fresh_law here so n v of g fits i) ∙ (same (key_bytes (group_kinds objects v) g) z.4 i ∙ fresh_law there ss n v of g fits i) in
+      let numbers_are : numbers here so n v of g ≡ numbers there ss n v of g = numbers_same (suc (length v.sums)) (numbers here so n v of g) (numbers there ss n v of g) (ap suc (length-map v.sums _)) (ap suc (length-map v.sums _)) columns in
+      subst (λ (y : List ℕ × Row). Contains (read_entries there ss n v of interval) y) {x = (key_bytes (group_kinds objects v) g, row_for there ss n v of g)} {y = (q, row)}
+      (λ i. (z.3 i, (ap (λ (ms : List ℤ). g ++ map Number ms) (sym numbers_are) ∙ sym z.2) i)) (in_read there ss n v of interval g group z.4)
+
+pub views_same : (objects : Schema) (a b : ℕ) (one other : Rows) (so : AreSound objects one) (ss : AreSound objects other) (n : ℕ) (v : ViewTree) (of : numbered objects n ≡ Some (view v)) (interval : Interval)
+    → ((k : List ℕ) → lies_in k interval ≡ true → (column : ℕ) → fresh objects one (v.number, k) column ≡ fresh objects other (v.number, k) column)
+    → object_rows (record { number = a; schema = objects; rows = one }) (Some (view v)) interval ≡ object_rows (record { number = b; schema = objects; rows = other }) (Some (view v)) interval
+views_same objects a b one other so ss n v of interval same =
+    let here : Database = record { number = a; schema = objects; rows = one } in
+    let there : Database = record { number = b; schema = objects; rows = other } in
+    entries_read here so n v of interval
+    ∙ (ap (map (λ (e : List ℕ × Row). e.1)) (same_members (read_entries here so n v of interval) (read_entries there ss n v of interval)
+    (rows_where_sorted (λ k row. lies_in k interval) (from_entries {R = key_cmp} (keyed (view_key objects v) (view_rows objects one v))))
+    (rows_where_sorted (λ k row. lies_in k interval) (from_entries {R = key_cmp} (keyed (view_key objects v) (view_rows objects other v))))
+    (carried objects a b one other so ss n v of interval same) (carried objects b a other one ss so n v of interval (λ k l column. sym (same k l column))))
+    ∙ sym (entries_read there ss n v of interval))

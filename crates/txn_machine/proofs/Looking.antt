@@ -35,7 +35,7 @@ use Rattle.table_laws.proofs.Tables.{rows_where_same, Contains-entries}
 use Rattle.table_laws.proofs.Place.{place_cmp_total, place_cmp-IsAntisymmetric}
 use Rattle.iv_meaning.specs.Schema.{Schema, Object, table, ViewTree, numbered, items_at, key_kinds}
 use Rattle.iv_meaning.specs.Database.{Row, Rows, rows_of, key_of}
-use Rattle.iv_meaning.specs.Values.{Outcome, truth, refused, both, is_true, is_false, compared, holds, meaning, outcome_of}
+use Rattle.iv_meaning.specs.Values.{Outcome, number, word, truth, refused, is_huge, both, is_true, is_false, compared, holds, meaning, outcome_of}
 use Rattle.iv_meaning.specs.Query.{Combination, combinations, conjunction}
 use Rattle.iv_meaning.specs.View.{conditions_of, join_conditions, primary_of, index_key}
 use Rattle.iv_meaning.specs.Sound.{AreColumns, IsRow}
@@ -140,19 +140,43 @@ equal_is Less e = absurd (false≢true e)
 equal_is Equal e = refl
 equal_is Greater e = absurd (false≢true e)
 
+-- what an expression sees of a column: its number or text, or nothing
+abbrev IsSeen : Option Value → Outcome → Type 0
+IsSeen a (number n) = a ≡ Some (Number n)
+IsSeen a (word w) = a ≡ Some (Word w)
+IsSeen a (truth b) = Unit {0}
+IsSeen a refused = Unit {0}
+
+is_seen : (a : Option Value) → IsSeen a (outcome_of a)
+is_seen None = tt
+is_seen (Some (Number n)) = elim (is_huge n) as (λ b. IsSeen (Some (Number n)) (cond b (number n) refused)) [ true ↦ refl | false ↦ tt ]
+is_seen (Some (Word w)) = refl
+
+same_by : (a b : Option Value) (m n : Outcome) → IsSeen a m → IsSeen b n → is_true (compared (holds Same) m n) ≡ true → (x : Value) × (a ≡ Some x) × (b ≡ Some x)
+same_by a b (number m) (number n) s t h =
+    let e : m ≡ n = int_cmp-IsAntisymmetric m n (equal_is (int_cmp m n) h) in
+    (Number m, s, t ∙ ap (λ x. Some (Number x)) (sym e))
+same_by a b (word m) (word n) s t h =
+    let e : m ≡ n = slice_cmp-IsAntisymmetric nat_cmp-IsAntisymmetric m n (equal_is (slice_cmp nat_cmp m n) h) in
+    (Word m, s, t ∙ ap (λ x. Some (Word x)) (sym e))
+same_by a b (number m) (word n) s t h = absurd (false≢true h)
+same_by a b (number m) (truth n) s t h = absurd (false≢true h)
+same_by a b (number m) refused s t h = absurd (false≢true h)
+same_by a b (word m) (number n) s t h = absurd (false≢true h)
+same_by a b (word m) (truth n) s t h = absurd (false≢true h)
+same_by a b (word m) refused s t h = absurd (false≢true h)
+same_by a b (truth m) (number n) s t h = absurd (false≢true h)
+same_by a b (truth m) (word n) s t h = absurd (false≢true h)
+same_by a b (truth m) (truth n) s t h = absurd (false≢true h)
+same_by a b (truth m) refused s t h = absurd (false≢true h)
+same_by a b refused (number n) s t h = absurd (false≢true h)
+same_by a b refused (word n) s t h = absurd (false≢true h)
+same_by a b refused (truth n) s t h = absurd (false≢true h)
+same_by a b refused refused s t h = absurd (false≢true h)
+
 -- columns that are compared and found equal have one value
 same_values : (a b : Option Value) → is_true (compared (holds Same) (outcome_of a) (outcome_of b)) ≡ true → (x : Value) × (a ≡ Some x) × (b ≡ Some x)
-same_values None b h = absurd (false≢true h)
-same_values (Some (Number m)) None h = absurd (false≢true h)
-same_values (Some (Word m)) None h = absurd (false≢true h)
-same_values (Some (Number m)) (Some (Word n)) h = absurd (false≢true h)
-same_values (Some (Word m)) (Some (Number n)) h = absurd (false≢true h)
-same_values (Some (Number m)) (Some (Number n)) h =
-    let e : m ≡ n = int_cmp-IsAntisymmetric m n (equal_is (int_cmp m n) h) in
-    (Number m, refl, ap (λ x. Some (Number x)) (sym e))
-same_values (Some (Word m)) (Some (Word n)) h =
-    let e : m ≡ n = slice_cmp-IsAntisymmetric nat_cmp-IsAntisymmetric m n (equal_is (slice_cmp nat_cmp m n) h) in
-    (Word m, refl, ap (λ x. Some (Word x)) (sym e))
+same_values a b h = same_by a b (outcome_of a) (outcome_of b) (is_seen a) (is_seen b) h
 
 -- rows that meet the join conditions have the same values there
 joined_values : (joined place_s : List ℕ) (more : List Tree) (r s : Row) → length joined ≡ length place_s

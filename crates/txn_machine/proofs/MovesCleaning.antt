@@ -1,7 +1,6 @@
 -- Moves of snapshots and of the cleaner: a read at a number, the removal of a ghost, and the drop of versions.
-use Rattle.std.specs.Prelude.{◌≡◌, ℕ, zero, suc, ◌≤◌, ◌==◌, nat_le, cond, Bool, true, false, not, ◌&&◌, ◌||◌, T, List, [], ◌∷◌, ◌++◌, map, filter, ℤ, pos, negsuc, Option, Some, None, is_some, IsSome}
+use Rattle.std.specs.Prelude.{◌≡◌, ℕ, zero, suc, ◌≤◌, ◌==◌, nat_le, cond, Bool, true, false, not, ◌&&◌, ◌||◌, T, List, [], ◌∷◌, ◌++◌, map, filter, ℤ, pos, negsuc, Some, None, is_some, IsSome}
 use Rattle.std.specs.List.{Contains}
-use Rattle.std.specs.Option.{option_map}
 use mathlib.Core.Path.{refl, sym, ap, subst, ◌∙◌}
 use mathlib.Core.Logic.{inl, inr}
 use Rattle.std.proofs.Common.{arith, eq-eqb}
@@ -23,8 +22,7 @@ use Rattle.iv_meaning.specs.Schema.{numbered}
 use Rattle.iv_meaning.specs.Database.{Row, Rows, Database}
 use Rattle.iv_meaning.specs.History.{Entry, fold, state_at}
 use Rattle.iv_meaning.specs.Statement.{sets}
-use Rattle.iv_meaning.specs.Query.{answer as answer_of}
-use Rattle.iv_meaning.specs.View.{lies_in, view_key, query_of, read}
+use Rattle.iv_meaning.specs.View.{lies_in, view_key, read}
 use Rattle.txn_machine.specs.Acts as act
 use Rattle.txn_machine.specs.Answers as answer
 use Rattle.txn_machine.specs.Deltas.{RowChange, is_for}
@@ -38,9 +36,9 @@ use Rattle.txn_machine.specs.May.{MayPeek}
 use Rattle.txn_machine.specs.Steps.{Step, log_after}
 use Rattle.txn_machine.specs.Example.{by_shop, shop_database}
 use Rattle.txn_machine.proofs.Holding.{contains_here, contains_next}
-use Rattle.txn_machine.proofs.Playing.{shop_schema, set_in, Sold, entry_of, Plain, state_of, redo_in, base, number_after, txn, sales_in, fresh_in, each_to, each_of, is_serial, is_nil, is_zero, is_increment, goes_on, holds_in, peeked, sold_by, changes_deltas, deltas_in, is_cleanable, said_of, test, after, peeks, cleans_none, cleans, prunes}
+use Rattle.txn_machine.proofs.Playing.{shop_schema, set_in, Sold, entry_of, Plain, state_of, redo_in, base, number_after, txn, sales_in, fresh_in, each_to, each_of, is_serial, is_nil, is_zero, is_increment, goes_on, holds_in, view_of, peeked, sold_by, changes_deltas, deltas_in, is_cleanable, said_of, test, after, peeks, cleans_none, cleans, prunes}
 use Rattle.txn_machine.proofs.Tabled.{key_cmp, InOrder, entries_are, get_is, write_is, set_sorted, redo_sorted, sold_sorted, with_sales, keeps_is, fold_is, origin_is, base_sorted, committed_is, listed_is, owed_is, fresh_is}
-use Rattle.txn_machine.proofs.Testing.{is_true, holds, left_one, right_one, both, either, not_so, not_that, equal, there_is, nil_is, each_so, each_in, some_in, lies_so}
+use Rattle.txn_machine.proofs.Testing.{is_true, holds, left_one, right_one, both, either, not_so, not_that, equal, nil_is, each_so, each_in, some_in, lies_so}
 use Rattle.txn_machine.proofs.MovesAlone.{Sorted, step, of_db, number_is, log_room, going, holds_so}
 
 -- ---- tests of the cleaner
@@ -119,9 +117,8 @@ at_is p n = ap (λ (h : List Entry). fold h shop_database) (filter_is n p.sold) 
 
 peeked_is : (n : ℕ) (l : List (Place × Row)) (interval : Interval) → InOrder l → read (with_sales n l) 2 interval ≡ peeked l interval
 peeked_is n l interval h =
-    ap (λ (es : List (Place × Row)). option_map (λ (rows : List Row). map (λ (e : List ℕ × Row). e.1) (filter (λ (e : List ℕ × Row). lies_in e.0 interval) (entries (from_entries {R = key_cmp} (map (λ row. (view_key shop_schema by_shop row, row)) rows)))))
-    (answer_of (query_of shop_schema by_shop) (map (λ (e : Place × Row). e.1) (rows_where (λ place row. place.0 == 1) es) ∷ []))) (entries_are l h)
-    ∙ (λ j. option_map (λ (rows : List Row). map (λ (e : List ℕ × Row). e.1) (filter (λ (e : List ℕ × Row). lies_in e.0 interval) (listed_is (map (λ row. (view_key shop_schema by_shop row, row)) rows) j))) (answer_of (query_of shop_schema by_shop) (sales_in l ∷ [])))
+    ap (λ (es : List (Place × Row)). map (λ (e : List ℕ × Row). e.1) (filter (λ (e : List ℕ × Row). lies_in e.0 interval) (entries (from_entries {R = key_cmp} (map (λ row. (view_key shop_schema by_shop row, row)) (view_of (map (λ (e : Place × Row). e.1) (rows_where (λ place row. place.0 == 1) es)))))))) (entries_are l h)
+    ∙ ap (λ (es : List (List ℕ × Row)). map (λ (e : List ℕ × Row). e.1) (filter (λ (e : List ℕ × Row). lies_in e.0 interval) es)) (listed_is (map (λ row. (view_key shop_schema by_shop row, row)) (view_of (sales_in l))))
 
 snapshot_is : (m : Mode) → T (not (is_serial m)) → m ≡ Snapshot
 snapshot_is Serial h = absurd h
@@ -131,15 +128,12 @@ module _ (p : Plain) (i : ℕ) (sorted : Sorted p) (session : i ≤ 64) where
   pub peeks_so : (interval : Interval) → T (test p i (peeks interval)) → Step (state_of p) i (act.Peek 2 interval) (said_of p i (peeks interval)) (state_of (after p i (peeks interval)))
   peeks_so interval h =
       let n : ℕ = (txn p i).number in
-      let found : Option (List Row) = peeked (sold_by p n) interval in
-      let more = right_one (goes_on p i) (not (is_serial (txn p i).mode) && is_some found) h in
       step p i sorted session (act.Peek 2 interval) (said_of p i (peeks interval)) [] (state_of (after p i (peeks interval))) (
-        going p i sorted session Snapshot (left_one (goes_on p i) (not (is_serial (txn p i).mode) && is_some found) h) (snapshot_is (txn p i).mode (left_one (not (is_serial (txn p i).mode)) (is_some found) more)),
+        going p i sorted session Snapshot (left_one (goes_on p i) (not (is_serial (txn p i).mode)) h) (snapshot_is (txn p i).mode (right_one (goes_on p i) (not (is_serial (txn p i).mode)) h)),
         of_db p i sorted session (λ db. MayPeek (numbered db.schema 2)) tt,
       ) (
         ap (λ (db : Database). read db 2 interval) (at_is p n)
-            ∙ (peeked_is (number_after (kept_by p n) 2) (sold_by p n) interval (sold_sorted (kept_by p n) [] tt)
-            ∙ there_is found [] (right_one (not (is_serial (txn p i).mode)) (is_some found) more)),
+            ∙ peeked_is (number_after (kept_by p n) 2) (sold_by p n) interval (sold_sorted (kept_by p n) [] tt),
         refl,
       )
       refl

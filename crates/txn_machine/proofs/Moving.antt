@@ -31,7 +31,6 @@ use Rattle.txn_machine.specs.Store.{Store, committed, schema_of, now, changes_by
 use Rattle.txn_machine.specs.State.{State}
 use Rattle.txn_machine.specs.May.{MayAct}
 use Rattle.txn_machine.specs.Steps.{CommitsAs}
-use Rattle.txn_machine.specs.Alone.{Reads}
 use Rattle.txn_machine.specs.ViewLaws.{AreSound}
 use Rattle.txn_machine.specs.Laws.{IsSameReading, FrameLaw, CommitLaw, AnySubsetLaw}
 use Rattle.txn_machine.proofs.Basics.{one_same, one_other}
@@ -43,7 +42,7 @@ use Rattle.txn_machine.proofs.Good.{the_open, own_sound}
 use Rattle.txn_machine.proofs.Runs.{CanAll, keeps, committed_after}
 use Rattle.txn_machine.proofs.Stepping.{some_not_none, can_says}
 use Rattle.txn_machine.proofs.Looking.{view_laws}
-use Rattle.txn_machine.proofs.Framing.{Framed, framed_itself, framed_back, framed_commit, reads_framed}
+use Rattle.txn_machine.proofs.Framing.{Framed, framed_itself, framed_commit, reads_framed}
 use Rattle.txn_machine.proofs.Telling.{Good', Can', state_at_push}
 use Rattle.txn_machine.proofs.Reached.{may_define, reached}
 
@@ -140,10 +139,8 @@ changed_run s i (e ∷ es) g can j js n o is =
     (subst (λ l. Changed t (run the_views t i es) l) (ap (λ (x : Option Open). (the_open x).locks) same) rest)
 
 same_reading : (s t : Store) (locks : List Want) → Good' s → Changed s t locks → (n : ℕ) (interval : Interval) → MayReadIn locks n interval → IsSameReading (committed s) (committed t) n interval
-same_reading s t locks g c n interval may rows = subst (λ (d : Database). (Reads (committed s) n interval rows → Reads d n interval rows) × (Reads d n interval rows → Reads (committed s) n interval rows)) (sym c.is) (
-  reads_framed (schema_of s) (committed s).number c.number locks (committed s).rows c.rows c.framed g.sound c.sound n interval may rows,
-  reads_framed (schema_of s) c.number (committed s).number locks c.rows (committed s).rows (framed_back (schema_of s) locks (committed s).rows c.rows c.framed) c.sound g.sound n interval may rows,
-)
+same_reading s t locks g c n interval may = subst (λ (d : Database). IsSameReading (committed s) d n interval) (sym c.is)
+    (reads_framed (schema_of s) (committed s).number c.number locks (committed s).rows c.rows c.framed g.sound c.sound n interval may)
 
 pub may_of : (s : State) (i : ℕ) (a : Act) → s.stop ≡ None → (IsSome s.stop ⊎ MayAct s.store i a) → MayAct s.store i a
 may_of s i a runs (inl stopped) = absurd (some_not_none s.stop stopped runs)
@@ -156,7 +153,7 @@ frame_law s r d after step j n o number interval may = elim step.does [
       let can = can_says view_laws may_define s d.session d.act d.said x.effects g (may_of s d.session d.act x.runs step.may.1) x.says in
       subst (λ (z : State). IsSameReading (committed s.store) (committed z.store) number interval) (sym x.left)
       (same_reading s.store (run the_views s.store d.session x.effects) (locks_of s.store j) g (changed_run s.store d.session x.effects g can j o.of_session n o.transaction o.is_open) number interval may)
-  | inr x ↦ subst (λ (z : State). IsSameReading (committed s.store) (committed z.store) number interval) (sym x.left) (λ rows. ((λ h. h), (λ h. h)))
+  | inr x ↦ subst (λ (z : State). IsSameReading (committed s.store) (committed z.store) number interval) (sym x.left) refl
 ]
 
 -- ---- numbers

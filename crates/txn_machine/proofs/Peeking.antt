@@ -1,17 +1,13 @@
 -- What stood at each commit number: no view is refused there, so that a snapshot can read it.
-use Rattle.std.specs.Prelude.{◌≡◌, ℕ, ◌+◌, ◌≤◌, nat_le, cond, true, filter, List, [], ◌∷◌, ◌++◌, Option, Some, None, IsSome}
-use Rattle.std.specs.Option.{option_map}
+use Rattle.std.specs.Prelude.{◌≡◌, ℕ, ◌+◌, ◌≤◌, nat_le, cond, true, filter, List, [], ◌∷◌, ◌++◌}
 use mathlib.Core.Path.{refl, sym, ap, subst, ◌∙◌}
 use mathlib.Core.Logic.{inl, inr}
 use Rattle.std.proofs.Common.{arith}
-use Rattle.std.proofs.lemmas.Bool.{false≢true}
 use Rattle.std.proofs.lemmas.Bool.Decides.{leb_tells}
 use Rattle.iv_types.specs.declared.statement.Mode.TheVariants.{Snapshot}
 use Rattle.iv_types.specs.declared.lock.GroupDelta.{GroupDelta}
-use Rattle.iv_types.specs.declared.value.Interval.{Interval}
-use Rattle.iv_meaning.specs.Schema.{Object, table, index, view, ViewTree, numbered}
-use Rattle.iv_meaning.specs.Database.{Row, Database}
-use Rattle.iv_meaning.specs.View.{view_rows, view_key, rows_between, object_rows, read}
+use Rattle.iv_meaning.specs.Database.{Database}
+use Rattle.iv_meaning.specs.View.{read}
 use Rattle.iv_meaning.specs.Statement.{Kept, sets, defines, keep, keep_all}
 use Rattle.iv_meaning.specs.History.{Entry, fold, state_at}
 use Rattle.txn_machine.specs.Acts as act
@@ -20,7 +16,7 @@ use Rattle.txn_machine.specs.Fresh.{fresh}
 use Rattle.txn_machine.specs.Ghosts.{the_views}
 use Rattle.txn_machine.specs.Store.{Store, committed, schema_of, now, paid_first, undone, entry_changes, Effect, Opens, Takes, Notes, Writes, Pays, Ghosts, Undoes, Loses, Ends, Commits, Defines, Cleans, Prunes, does, run}
 use Rattle.txn_machine.specs.State.{State}
-use Rattle.txn_machine.specs.May.{GoesOn, IsOpen, MayPeek}
+use Rattle.txn_machine.specs.May.{GoesOn, IsOpen}
 use Rattle.txn_machine.specs.Steps.{Peeks, Step, Did, Run}
 use Rattle.txn_machine.specs.ViewLaws.{AreSound}
 use Rattle.txn_machine.specs.Laws.{AreInRange, IsReached, IsReadableAt, SnapshotReadableLaw, PeekLaw}
@@ -176,23 +172,6 @@ snapshot_readable_law s r = (λ n low high. readable_at s r n low high, λ i o m
 abbrev opened_by : (s : Store) (i : ℕ) → GoesOn s i Snapshot → IsOpen s i
 opened_by s i on = record { of_session = on.of_session; transaction = on.transaction; is_open = on.is_open }
 
--- of a table or a view there are rows
-read_there : (db : Database) → ((m : ℕ) (v : ViewTree) → numbered db.schema m ≡ Some (view v) → IsSome (view_rows db.schema db.rows v)) → (n : ℕ) (interval : Interval) → MayPeek (numbered db.schema n)
-    → (rows : List Row) × (read db n interval ≡ Some rows)
-read_there db views n interval may = go (numbered db.schema n) refl may
-  where
-    at_view : (v : ViewTree) → (o : Option (List Row)) → view_rows db.schema db.rows v ≡ o → IsSome o → (rows : List Row) × (object_rows db (Some (view v)) interval ≡ Some rows)
-    at_view v None e k = absurd (false≢true k)
-    at_view v (Some all) e k = (rows_between (view_key db.schema v) interval all, ap (option_map (rows_between (view_key db.schema v) interval)) e)
-
-    go : (o : Option Object) → numbered db.schema n ≡ o → MayPeek o → (rows : List Row) × (read db n interval ≡ Some rows)
-    go None e h = absurd h
-    go (Some (table t)) e h = (_, ap (λ (x : Option Object). object_rows db x interval) e)
-    go (Some (index x)) e h = absurd h
-    go (Some (view v)) e h =
-        let found = at_view v (view_rows db.schema db.rows v) refl (views n v e) in
-        (found.0, ap (λ (x : Option Object). object_rows db x interval) e ∙ found.1)
-
 pub peek_law : PeekLaw
 peek_law s r i n interval = (
   λ rows after step. elim step.does [
@@ -201,17 +180,12 @@ peek_law s r i n interval = (
         let found : Peeks s.store i n interval rows = x.says.0 in (
           opened_by s.store i on,
           on.mode_is,
-          subst (λ (t : Open). read (state_at s.store.origin s.store.history t.number) n interval ≡ Some rows) (now_is view_laws s.store i on.transaction on.is_open) found,
+          subst (λ (t : Open). read (state_at s.store.origin s.store.history t.number) n interval ≡ rows) (now_is view_laws s.store i on.transaction on.is_open) found,
           ap (λ (z : State). z.store) x.left ∙ ap (run the_views s.store i) x.says.1,
         )
     | inr x ↦ absurd (cc)
   ],
   λ runs on may.
-      let is = readable_open s r i (opened_by s.store i on) on.mode_is in
-      let there = read_there (state_at s.store.origin s.store.history on.transaction.number) is.0.views n interval (subst MayPeek (sym (ap (λ l. numbered l n) is.1)) may) in
-      let found : Peeks s.store i n interval there.0 = subst (λ (t : Open). read (state_at s.store.origin s.store.history t.number) n interval ≡ Some there.0) (sym (now_is view_laws s.store i on.transaction on.is_open)) there.1 in (
-        there.0,
-        _,
-        record { may = (on.of_session.1, inr (on, may)); does = inl (record { runs = runs; effects = []; says = (found, refl); left = refl }) },
-      ),
+      let found : Peeks s.store i n interval (read (state_at s.store.origin s.store.history (now s.store i).number) n interval) = refl in
+      (_, _, record { may = (on.of_session.1, inr (on, may)); does = inl (record { runs = runs; effects = []; says = (found, refl); left = refl }) }),
 )

@@ -1,7 +1,7 @@
 -- The shop's state with its tables as lists, moves on it, and tests of whether a move may come: all of it computes.
 use Rattle.std.specs.Prelude.{ℕ, zero, suc, ◌+◌, ◌==◌, nat_le, nat_lt, if◌then◌else◌, negsuc, cond, Bool, true, false, not, ◌&&◌, ◌||◌, List, [], ◌∷◌, ◌++◌, map, filter, reverse, length, replicate, ℤ, pos, ◌+ℤ◌, neg_ℤ, int_le, Option, Some, None, is_some}
 use Rattle.std.specs.List.{flat_map}
-use Rattle.std.specs.Option.{unwrap_or, option_map}
+use Rattle.std.specs.Option.{unwrap_or}
 use Rattle.std.specs.FinMap.{FinMap, empty, find, put as put_entry, is_sorted, from_sorted}
 use Rattle.std.specs.FinMap.Entries.{where_key}
 use Rattle.std.specs.Ordering.{nat_cmp, eq_by_cmp, is_lt}
@@ -32,9 +32,9 @@ use Rattle.iv_meaning.specs.Schema.{Schema, table}
 use Rattle.iv_meaning.specs.Database.{Row, Rows, key_of}
 use Rattle.iv_meaning.specs.Statement.{sets}
 use Rattle.iv_meaning.specs.History.{Entry}
-use Rattle.iv_meaning.specs.Query.{combinations, answer as answer_of}
-use Rattle.iv_meaning.specs.Values.{is_huge}
-use Rattle.iv_meaning.specs.View.{lies_in, view_key, query_of}
+use Rattle.iv_meaning.specs.Query.{combinations, conjunction}
+use Rattle.iv_meaning.specs.Values.{is_huge, is_true}
+use Rattle.iv_meaning.specs.View.{conditions_of, lies_in, view_key, rows_by_group}
 use Rattle.iv_meaning.specs.Escrow.{Account, with_increment, lo, hi, paid}
 use Rattle.iv_meaning.specs.Waits.{nobody}
 use Rattle.txn_machine.specs.Acts as act
@@ -393,8 +393,11 @@ abbrev pub ring_of : ℕ → ℕ → Cycle
 ring_of i other = record { length = 2; members = i ∷ other ∷ replicate 62 0 }
 
 -- the view of these rows, unless a sum is out of range
-abbrev pub peeked : List (Place × Row) → Interval → Option (List Row)
-peeked l interval = option_map (between (view_key shop_schema by_shop) interval) (answer_of (query_of shop_schema by_shop) (sales_in l ∷ []))
+abbrev pub view_of : List Row → List Row
+view_of sales = rows_by_group by_shop (filter (λ c. is_true (conjunction (conditions_of shop_schema by_shop) c)) (combinations (sales ∷ [])))
+
+abbrev pub peeked : List (Place × Row) → Interval → List Row
+peeked l interval = between (view_key shop_schema by_shop) interval (view_of (sales_in l))
 
 -- the rows as of a number
 abbrev pub sold_by : Plain → ℕ → List (Place × Row)
@@ -415,7 +418,7 @@ said_of p i leaves = answer.Committed (number_left p i)
 said_of p i (refuses column) = bounds_in p (txn p i).owed column
 said_of p i (blocks sessions) = answer.Blocked sessions
 said_of p i (deadlocks other mine theirs) = answer.Refused (refusal.Deadlock (ring_of i other))
-said_of p i (peeks interval) = answer.Rows (unwrap_or (peeked (sold_by p (txn p i).number) interval) [])
+said_of p i (peeks interval) = answer.Rows (peeked (sold_by p (txn p i).number) interval)
 said_of p i cleans_none = answer.Cleaned 0
 said_of p i (cleans place) = answer.Cleaned 1
 said_of p i prunes = answer.Pruned
@@ -504,7 +507,7 @@ test p i (blocks sessions) =
     owes p i && (not (is_nil (txn p i).owed) && (are_exact (locks_of p.of.store) i (first_want (txn p i).owed) sessions
     && (not (is_nil (members sessions)) && each_of (λ j. is_nil (p.of.waiting j)) (members sessions))))
 test p i (deadlocks other mine theirs) = owes p i && (not (is_nil (txn p i).owed) && are_rung p i (first_want (txn p i).owed) other mine theirs)
-test p i (peeks interval) = goes_on p i && (not (is_serial (txn p i).mode) && is_some (peeked (sold_by p (txn p i).number) interval))
+test p i (peeks interval) = goes_on p i && not (is_serial (txn p i).mode)
 test p i cleans_none = (i == 0) && each_of (λ e. not (is_cleanable p e.0)) p.view
 test p i (cleans place) =
     (i == 0) && (is_some (find place_cmp place p.view) && (is_cleanable p place && each_of (λ e. not (is_cleanable p e.0) || eq_by_cmp place_cmp place e.0) p.view))

@@ -6,7 +6,6 @@ use mathlib.Core.Path.{refl, sym, ap, subst, ◌∙◌}
 use Rattle.std.proofs.Common.{arith, leb-true}
 use Rattle.std.proofs.lemmas.Bool.{false≢true}
 use Rattle.std.proofs.lemmas.Int.{ints}
-use Rattle.std.proofs.lemmas.Option.{none-some, same_Some}
 use Rattle.std.specs.declared.cmp.Ordering.TheVariants.{Less, Equal, Greater}
 use Rattle.std.specs.Ordering.{match_ordering}
 use Rattle.iv_types.specs.declared.value.Value.{Value}
@@ -21,10 +20,11 @@ use Rattle.table_laws.specs.Place.{Place}
 use Rattle.table_laws.proofs.Stored.{by_session}
 use Rattle.iv_meaning.specs.Schema.{Schema, Object, table, view, ViewTree, numbered, sources_of, group_kinds}
 use Rattle.iv_meaning.specs.Database.{Row, Database, rows_of}
-use Rattle.iv_meaning.specs.Values.{Outcome, number, refused, is_true, is_false, is_huge, ranged, value_at, value_of}
-use Rattle.iv_meaning.specs.Query.{Combination, BoundItem, count, sum, plain, combinations, chosen, conjunction, joined, item_alone, item_of_group, row_by, values_at, listed, ordered}
+use Rattle.iv_meaning.specs.Values.{number, refused, is_true, is_huge, ranged, value_at, value_of}
+use Rattle.iv_meaning.specs.Query.{Combination, BoundItem, count, sum, plain, combinations, conjunction, joined, item_alone, item_of_group, row_by, values_at, listed, ordered}
 use Rattle.iv_meaning.specs.Grouping.{all_of, among, groups_of, members, number_in, sum_by}
-use Rattle.iv_meaning.specs.View.{conditions_of, join_conditions, primary_of, query_of, view_rows, shares}
+use Rattle.iv_meaning.specs.View.{conditions_of, join_conditions, primary_of, query_of, whole_view, counted_combinations, shares}
+use Rattle.query_laws.proofs.WholeViews.{chosen_is, not_listed}
 use Rattle.txn_machine.specs.Deltas.{contribution, is_for, worth, due}
 use Rattle.txn_machine.specs.Fresh.{all_contributions, fresh}
 use Rattle.txn_machine.specs.ViewLaws.{IsJoin}
@@ -34,7 +34,7 @@ use Rattle.txn_machine.proofs.Summing.{all_ones}
 use Rattle.txn_machine.proofs.Making.{made_law}
 use Rattle.txn_machine.proofs.Keeps.{shift}
 use Rattle.txn_machine.proofs.Holding.{by_contains, contains_here, contains_next, contains_none}
-use Rattle.txn_machine.proofs.Sharing.{apart_due, fresh_of, counted_combinations, groups_fit, due_members}
+use Rattle.txn_machine.proofs.Sharing.{apart_due, fresh_of, groups_fit, due_members}
 
 -- ---- numbers in range
 
@@ -91,19 +91,6 @@ all_right P (x ∷ xs) ys h = all_right P xs ys h.1
 
 -- ---- what is chosen, and its groups
 
-chosen_more : {X : Type 0} (x : X) (o : Option (List X)) (ys kept : List X) → ((zs : List X) → o ≡ Some zs → zs ≡ kept) → option_map (λ more. x ∷ more) o ≡ Some ys → ys ≡ x ∷ kept
-chosen_more x None ys kept h e = absurd (none-some ys e)
-chosen_more x (Some zs) ys kept h e = same_Some ys (x ∷ zs) (sym e) ∙ ap (λ l. x ∷ l) (h zs refl)
-
-chosen_next : {X : Type 0} (x : X) (t f : Bool) (o : Option (List X)) (ys kept : List X) → ((zs : List X) → o ≡ Some zs → zs ≡ kept) → cond t (option_map (λ more. x ∷ more) o) (cond f o None) ≡ Some ys → ys ≡ cond t (x ∷ kept) kept
-chosen_next x true f o ys kept h e = chosen_more x o ys kept h e
-chosen_next x false true o ys kept h e = h ys e
-chosen_next x false false o ys kept h e = absurd (none-some ys e)
-
-pub chosen_is : {X : Type 0} (test : X → Outcome) (xs ys : List X) → chosen test xs ≡ Some ys → ys ≡ filter (λ x. is_true (test x)) xs
-chosen_is test [] ys e = same_Some ys [] (sym e)
-chosen_is test (x ∷ xs) ys e = chosen_next x (is_true (test x)) (is_false (test x)) (chosen test xs) ys (filter (λ x. is_true (test x)) xs) (λ zs h. chosen_is test xs zs h) e
-
 among_keeps : (g : List Value) (hs : List (List Value)) (h : List Value) → Contains hs h → Contains (among g hs) h
 among_keeps g [] h c = absurd (contains_none h c)
 among_keeps g (x ∷ hs) h c = elim (row_cmp g x) as (λ o. Contains (match_ordering o (g ∷ x ∷ hs) (x ∷ hs) (x ∷ among g hs)) h) [
@@ -144,13 +131,6 @@ group_in_range v ms row column e = go column
     go zero = in_range (pos (length ms)) tail.0.0 tail.0.1
     go (suc i) = sums_in_range ms v.sums i tail.1
 
--- of a view without a group column nothing is listed where there is a combination
-pub not_listed : (sums : List ColumnAt) (c : Combination) (cs : List Combination) (rows : List Row) → all_of (map (row_by item_alone (count ∷ map sum sums)) (c ∷ cs)) ≡ Some rows → ⊥
-not_listed sums c cs rows e =
-    let p = all_of_cons (row_by item_alone (count ∷ map sum sums) c) (map (row_by item_alone (count ∷ map sum sums)) cs) rows e in
-    let q = all_of_cons (value_of refused) (map (λ i. value_of (item_alone c i)) (map sum sums)) p.0.0 p.0.1 in
-    none-some q.0.0 q.0.1
-
 module _ (v : ViewTree) (objects : Schema) (found : List Combination) (rows : List Row) (c : Combination) (there : Contains found c) (column : ℕ) where
   abbrev items : List BoundItem
   items = map (λ column. plain (syntax_tree.at column)) v.group ++ count ∷ map sum v.sums
@@ -176,7 +156,7 @@ module _ (v : ViewTree) (objects : Schema) (found : List Combination) (rows : Li
 
 -- ---- a view that may be made
 
-readable : (v : ViewTree) (db : Database) → IsSome (view_rows db.schema db.rows v) → (found : List Combination) × (rows : List Row) × (joined (conditions_of db.schema v) (map (rows_of db.rows) (sources_of v)) ≡ Some found) × (listed (query_of db.schema v) found ≡ Some rows)
+readable : (v : ViewTree) (db : Database) → IsSome (whole_view db.schema db.rows v) → (found : List Combination) × (rows : List Row) × (joined (conditions_of db.schema v) (map (rows_of db.rows) (sources_of v)) ≡ Some found) × (listed (query_of db.schema v) found ≡ Some rows)
 readable v db h = go (joined (conditions_of db.schema v) (map (rows_of db.rows) (sources_of v))) refl h
   where
     with_rows : (found : List Combination) (o : Option (List Row)) → listed (query_of db.schema v) found ≡ o → is_some (option_map (ordered []) o) ≡ true → (rows : List Row) × (listed (query_of db.schema v) found ≡ Some rows)

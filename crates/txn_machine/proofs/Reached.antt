@@ -14,7 +14,7 @@ use Rattle.table_laws.proofs.Kept.{stored_back}
 use Rattle.table_laws.proofs.Place.{place_cmp_total, place_cmp-IsAntisymmetric}
 use Rattle.iv_meaning.specs.Schema.{Object, table, index, view, ViewTree}
 use Rattle.iv_meaning.specs.Database.{Row, Rows, Database}
-use Rattle.iv_meaning.specs.View.{view_rows}
+use Rattle.iv_meaning.specs.View.{whole_view}
 use Rattle.iv_meaning.specs.Statement.{Kept, defines, Refused, Accepted, create_meaning}
 use Rattle.iv_meaning.specs.Escrow.{IsSession, over_sessions, paid, lo}
 use Rattle.txn_machine.specs.Deltas.{due, worth}
@@ -47,8 +47,8 @@ committed_in_range s g none p column =
     let zero_lo : all_lo the_views fresh view_laws s.open_of p column ≡ pos 0 = over_zero (λ j. lo (increments p column (now s j).kept)) (λ j js. ap (λ (o : Option _). lo (increments p column (the_open o).kept)) (none j js)) in
     shift (fresh (schema_of s) (committed s).rows p column +ℤ all_lo the_views fresh view_laws s.open_of p column) (fresh (schema_of s) (committed s).rows p column) (g.low p column) (omega (arith, ints))
 
-accepted_rows : (v : ViewTree) (db : Database) (count : ℕ) (kept : List Kept) → create_meaning (view v) db ≡ Accepted [] count kept → is_some (view_rows db.schema db.rows v) ≡ true
-accepted_rows v db count kept e = go (view_rows db.schema db.rows v) e
+accepted_rows : (v : ViewTree) (db : Database) (count : ℕ) (kept : List Kept) → create_meaning (view v) db ≡ Accepted [] count kept → is_some (whole_view db.schema db.rows v) ≡ true
+accepted_rows v db count kept e = go (whole_view db.schema db.rows v) e
   where
     go : (o : Option (List Row)) → cond (is_some o) (Accepted [] 0 (defines (view v) ∷ [])) (Refused NumberRange) ≡ Accepted [] count kept → is_some o ≡ true
     go None e = absurd (cc)

@@ -161,19 +161,18 @@ pub read_same : (objects : Schema) (a b : ℕ) (one other : Rows) → AreSound o
     → read (record { number = a; schema = objects; rows = one }) n interval ≡ read (record { number = b; schema = objects; rows = other }) n interval
 read_same objects a b one other so ss n (first t of) interval agree =
     let number_is : t.number ≡ n = (so.objects n (table t) of).0 in
-    let left : Option (List Row) → Option (List Row) = λ o. o in
     ap (λ (o : Option Object). object_rows (record { number = a; schema = objects; rows = one }) o interval) of
-    ∙ (ap Some (ap (λ m. rows_between (key_of t) interval (rows_of one m)) number_is
+    ∙ (ap (λ m. rows_between (key_of t) interval (rows_of one m)) number_is
     ∙ (between_same objects n n (key_of t) interval one other (table_entry objects one so n t of) (table_entry objects other ss n t of) agree
-    ∙ sym (ap (λ m. rows_between (key_of t) interval (rows_of other m)) number_is)))
+    ∙ sym (ap (λ m. rows_between (key_of t) interval (rows_of other m)) number_is))
     ∙ sym (ap (λ (o : Option Object). object_rows (record { number = b; schema = objects; rows = other }) o interval) of))
 read_same objects a b one other so ss n (secondary i of) interval agree =
     let is = (so.objects n (index i) of).1 in
     let number_is : is.of.number ≡ i.table = (so.objects i.table (table is.of) is.table_is).0 in
     ap (λ (o : Option Object). object_rows (record { number = a; schema = objects; rows = one }) o interval) of
-    ∙ (ap Some (ap (λ (o : Option Object). index_rows (record { number = a; schema = objects; rows = one }) i o interval) is.table_is
+    ∙ (ap (λ (o : Option Object). index_rows (record { number = a; schema = objects; rows = one }) i o interval) is.table_is
     ∙ (ap (λ m. rows_between (index_key is.of i) interval (rows_of one m)) number_is
     ∙ (between_same objects n i.table (index_key is.of i) interval one other (index_entry objects one so n i is.of of is.table_is) (index_entry objects other ss n i is.of of is.table_is) agree
     ∙ (sym (ap (λ m. rows_between (index_key is.of i) interval (rows_of other m)) number_is)
-    ∙ sym (ap (λ (o : Option Object). index_rows (record { number = b; schema = objects; rows = other }) i o interval) is.table_is)))))
+    ∙ sym (ap (λ (o : Option Object). index_rows (record { number = b; schema = objects; rows = other }) i o interval) is.table_is))))
     ∙ sym (ap (λ (o : Option Object). object_rows (record { number = b; schema = objects; rows = other }) o interval) of))

@@ -1,5 +1,5 @@
 -- The meaning of a view is refused in no sound database whose numbers are in range.
-use Rattle.std.specs.Prelude.{◌≡◌, ◌≢◌, ℕ, suc, ◌-◌, ◌^◌, ◌<◌, ◌≤◌, ◌&&◌, cond, Bool, true, false, List, [], ◌∷◌, ◌++◌, map, length, slice_get, get_or, ℤ, pos, negsuc, Option, Some, None, is_some, IsSome}
+use Rattle.std.specs.Prelude.{◌≡◌, ◌≢◌, ℕ, suc, ◌<◌, ◌&&◌, cond, Bool, true, false, List, [], ◌∷◌, ◌++◌, map, length, slice_get, get_or, ℤ, pos, Option, Some, None, is_some, IsSome}
 use Rattle.std.specs.List.{AllByRecursion, cons_option}
 use Rattle.std.specs.Option.{option_map, option_map_or, option_to_list, option_and_then, option_zip}
 use mathlib.Core.Path.{refl, sym, ap, subst, ◌∙◌}
@@ -22,20 +22,21 @@ use Rattle.iv_types.specs.Syntax as s
 use Rattle.iv_types.specs.Syntax.{Tree}
 use Rattle.iv_types.specs.Encoding.{Fits, FitAll, IsHuge, key_bytes}
 use Rattle.table_laws.specs.Place.{Place}
-use Rattle.table_laws.proofs.Stored.{by_session}
 use Rattle.iv_meaning.specs.Types as types
 use Rattle.iv_meaning.specs.Types.{Family, family, family_of_kind, typed, is_truth, is_number, is_text, alike}
 use Rattle.iv_meaning.specs.Shape.{has_arithmetic}
-use Rattle.iv_meaning.specs.Values.{Outcome, number, word, truth, refused, both, either, negated, compared, holds, is_true, is_false, is_huge, ranged, meaning, outcome_of, value_at, value_of}
+use Rattle.iv_meaning.specs.Values.{Outcome, number, word, truth, refused, both, either, negated, compared, holds, is_true, is_false, ranged, meaning, outcome_of, value_at, value_of}
 use Rattle.iv_meaning.specs.Schema.{Object, table, view, ViewTree, numbered, items_at, sources_of, kind_at, kinds_of_table, group_kinds}
 use Rattle.iv_meaning.specs.Database.{Row, Database, rows_of}
 use Rattle.iv_meaning.specs.Query.{Combination, count, sum, plain, chosen, combinations, conjunction, joined, item_of_group, row_by, values_at, listed, ordered}
 use Rattle.iv_meaning.specs.Grouping.{all_of, groups_of, members, number_in, sum_by}
-use Rattle.iv_meaning.specs.View.{conditions_of, join_conditions, primary_of, query_of, view_rows, shares}
+use Rattle.iv_meaning.specs.View.{conditions_of, join_conditions, primary_of, query_of, whole_view, counted_combinations, shares}
 use Rattle.iv_meaning.specs.Sound.{AreColumns}
 use Rattle.query_laws.proofs.Each.{each_append, each_to, each_filtered}
 use Rattle.query_laws.proofs.SoundLemmas.{neither}
-use Rattle.query_laws.proofs.GroupRows.{some_same, value_again, IsGroupIn, groups_are, first_member, view_items, query_by}
+use Rattle.query_laws.proofs.GroupRows.{some_same, IsGroupIn, groups_are, first_member}
+use Rattle.query_laws.proofs.Fitting.{seen, seen_is, huge_is, value_seen}
+use Rattle.query_laws.proofs.WholeViews.{chosen_is, view_items, query_by}
 use Rattle.txn_machine.specs.Deltas.{is_counted}
 use Rattle.txn_machine.specs.Fresh.{fresh}
 use Rattle.txn_machine.specs.ViewLaws.{AreSound, IsJoin, IsTyped}
@@ -43,11 +44,10 @@ use Rattle.txn_machine.specs.Laws.{ReadableLaw}
 use Rattle.txn_machine.proofs.Keeps.{shift}
 use Rattle.txn_machine.proofs.Looking.{fits_at}
 use Rattle.txn_machine.proofs.Reading.{both_true}
-use Rattle.txn_machine.proofs.Moving.{at_most}
 use Rattle.query_laws.proofs.TermLemmas.{FitRows}
 use Rattle.query_laws.proofs.GroupRows.{fitted_value, kind_at_is}
-use Rattle.txn_machine.proofs.Sharing.{source_kinds, all_fit, counted_combinations, groups_fit, fresh_law}
-use Rattle.txn_machine.proofs.Ranging.{all_contains, chosen_is}
+use Rattle.txn_machine.proofs.Sharing.{source_kinds, all_fit, groups_fit, fresh_law}
+use Rattle.txn_machine.proofs.Ranging.{all_contains}
 
 -- ---- what an expression gives
 
@@ -60,13 +60,16 @@ Has _ _ = ⊥
 abbrev pub IsTruth : Outcome → Type 0
 IsTruth = Has types.truth
 
+seen_has : (k : Kind) (x : Value) → Fits k x → Has (family_of_kind k) (seen x)
+seen_has Int (Number n) f = tt
+seen_has Huge (Number n) f = tt
+seen_has Text (Word w) f = tt
+seen_has Int (Word w) f = absurd f
+seen_has Huge (Word w) f = absurd f
+seen_has Text (Number n) f = absurd f
+
 kind_has : (k : Kind) (x : Value) → Fits k x → Has (family_of_kind k) (outcome_of (Some x))
-kind_has Int (Number n) f = tt
-kind_has Huge (Number n) f = tt
-kind_has Text (Word w) f = tt
-kind_has Int (Word w) f = absurd f
-kind_has Huge (Word w) f = absurd f
-kind_has Text (Number n) f = absurd f
+kind_has k x f = subst (Has (family_of_kind k)) (sym (seen_is k x f)) (seen_has k x f)
 
 typed_is : (b : Bool) (g f : Family) → typed b g ≡ Some f → (b ≡ true) × (g ≡ f)
 typed_is true g f e = (refl, some_same g f e)
@@ -212,15 +215,8 @@ chosen_there {X} test (x ∷ xs) h = go (test x) h.0 (chosen test xs) (chosen_th
 
 -- ---- numbers in range
 
-is_in_range : (n : ℤ) → IsHuge n → is_huge n ≡ true
-is_in_range (pos n) h = let f = h.0.sfits in at_most n (2 ^ 127 - 1) (omega (arith, f))
-is_in_range (negsuc n) h =
-    let f = h.0.sfits in
-    let below : n ≤ 2 ^ 127 - 2 = by_session n (2 ^ 127 - 1) (λ e. absurd (h.1 (ap negsuc e))) (λ d. omega (arith, f, d)) in
-    ap (λ b. b && true) (at_most n (2 ^ 127 - 2) below)
-
 ranged_there : (n : ℤ) → IsHuge n → IsSome (value_of (ranged n))
-ranged_there n h = ap (λ b. is_some (value_of (cond b (number n) refused))) (is_in_range n h)
+ranged_there n h = ap (λ b. is_some (value_of (cond b (number n) refused))) (huge_is n h)
 
 -- all are there where none is wanting
 all_of_there : {X Y : Type 0} (f : X → Option Y) (xs : List X) → AllByRecursion (λ x. IsSome (f x)) xs → IsSome (all_of (map f xs))
@@ -322,7 +318,7 @@ module _ (db : Database) (sound : AreSound db.schema db.rows) (n : ℕ) (v : Vie
     values_there one others fit [] h = tt
     values_there one others fit (place ∷ group) h =
         let x = fitted_value kinds one place.source place.column h.0.0 fit (sym (kind_at_is kinds place) ∙ h.0.1) in
-        (ap is_some (value_again (value_at one place) ∙ x.1), values_there one others fit group h.1)
+        (ap is_some (ap (λ o. value_of (outcome_of o)) x.1 ∙ value_seen h.0.0 x.0 x.2), values_there one others fit group h.1)
 
     group_there : (g : Row) → IsGroupIn group_of found g → IsSome (row_by item_of_group (view_items v.group v.sums) (members group_of found g))
     group_there g is =
@@ -345,7 +341,7 @@ module _ (db : Database) (sound : AreSound db.schema db.rows) (n : ℕ) (v : Vie
         (subst (λ (l : List ColumnAt). AllByRecursion (λ g. IsSome (row_by item_of_group (view_items l v.sums) (members (values_at l) found g))) (groups_of (values_at l) found)) is
         (each_to (IsGroupIn group_of found) (λ g. IsSome (row_by item_of_group (view_items v.group v.sums) (members group_of found g))) group_there (groups_of group_of found) (groups_are group_of found))))
 
-    pub rows_there : IsSome (view_rows db.schema db.rows v)
+    pub rows_there : IsSome (whole_view db.schema db.rows v)
     rows_there = go (joined (conditions_of db.schema v) sources) refl found_there
       where
         ordered_there : (o : Option (List Row)) → IsSome o → IsSome (option_map (ordered []) o)

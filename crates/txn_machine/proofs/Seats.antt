@@ -1,149 +1,35 @@
 -- Another number's part stays.
-use Rattle.std.specs.Prelude.{◌≡◌, ◌≢◌, ◌⊎◌, ℕ, ◌+◌, ◌==◌, Bool, cond, true, false, List, [], ◌∷◌, ◌++◌, map, filter, length, ℤ, pos, ◌+ℤ◌, Option, Some, None, is_some, IsSome, suc, ◌&&◌, not, get_or}
-use Rattle.std.specs.List.{AllByRecursion, AllZip, Contains}
+use Rattle.std.specs.Prelude.{◌≡◌, ◌≢◌, ◌⊎◌, ℕ, ◌+◌, ◌==◌, Bool, cond, true, false, List, [], ◌∷◌, map, filter, Option, Some, None, is_some, IsSome, not}
+use Rattle.std.specs.List.{Contains}
 use Rattle.std.specs.Option.{option_map}
-use Rattle.std.specs.FinMap.{empty, entries}
 use mathlib.Core.Path.{refl, sym, ap, subst, ◌∙◌}
 use mathlib.Core.Logic.{inl, inr}
 use Rattle.std.proofs.Common.{arith}
-use Rattle.std.proofs.lemmas.Int.{ints}
 use Rattle.std.proofs.lemmas.Option.{none-some}
-use Rattle.iv_types.specs.declared.value.Interval.{Interval}
-use Rattle.iv_types.specs.declared.value.Value.TheVariants.{Number}
 use Rattle.iv_types.specs.declared.lock.LockMode.{LockMode}
 use Rattle.iv_types.specs.declared.lock.LockMode.TheVariants.{Share, Exclusive, Increment}
 use Rattle.iv_types.specs.declared.lock.Want.{Want}
-use Rattle.iv_types.specs.Encoding.{FitAll, key_bytes}
-use Rattle.table_laws.specs.Place.{Place}
-use Rattle.iv_meaning.specs.Schema.{Object, table, index, view, ViewTree, numbered, group_kinds}
-use Rattle.iv_meaning.specs.Database.{Row, Database}
-use Rattle.iv_meaning.specs.View.{read, object_rows, view_rows, rows_between, view_key, lies_in}
+use Rattle.iv_meaning.specs.Database.{Database}
 use Rattle.iv_meaning.specs.Escrow.{IsSession}
-use Rattle.txn_machine.specs.Deltas.{due}
 use Rattle.txn_machine.specs.Keeping.{Open}
-use Rattle.txn_machine.specs.Stored.{ViewRows, stored_number, add_all, first_numbers, is_shown, IsShown, IsStoredRow, AreStored, Lists}
-use Rattle.txn_machine.specs.Fresh.{all_contributions, fresh}
 use Rattle.txn_machine.specs.Ghosts.{MayRead, MayReadIn, the_views}
 use Rattle.txn_machine.specs.Store.{Store, committed, schema_of, now, locks_of, Effect, Opens, Takes, Notes, Writes, Pays, Ghosts, Undoes, Loses, Ends, Commits, Defines, Cleans, Prunes, does}
 use Rattle.txn_machine.specs.State.{State, Stop, Seat, seat_after, is_fault, stop_after, most_steps}
 use Rattle.txn_machine.specs.May.{IsOpen}
 use Rattle.txn_machine.specs.Steps.{Did, Run, Step}
-use Rattle.txn_machine.specs.Alone.{Reads, ReadsFrom}
-use Rattle.txn_machine.specs.ViewLaws.{AreSound}
-use Rattle.txn_machine.specs.Laws.{AreInRange, IsSameReading}
 use Rattle.txn_machine.specs.Parts.{is_read, reading_of, SeatLaw}
-use Rattle.table_laws.specs.Table.{rows_where}
-use Rattle.table_laws.proofs.Place.{place_cmp_total, place_cmp-IsAntisymmetric}
 use Rattle.table_laws.proofs.Stored.{by_session}
-use Rattle.std.specs.FinMap.{get-empty}
 use Rattle.std.proofs.lemmas.Bool.{cases_lt}
 use Rattle.std.proofs.Common.{eqb-true}
 use Rattle.txn_machine.proofs.Basics.{one_same, one_other}
-use Rattle.txn_machine.proofs.Columns.{number_in_row, stored_add_all, first_true}
 use Rattle.txn_machine.proofs.Good.{the_open}
 use Rattle.txn_machine.proofs.Holding.{contains_here, contains_next}
-use Rattle.txn_machine.proofs.Stepping.{some_not_none, step_good}
-use Rattle.txn_machine.proofs.Reached.{may_define, reached}
-use Rattle.txn_machine.proofs.Looking.{view_laws, all_of_list}
+use Rattle.txn_machine.proofs.Stepping.{some_not_none}
 use Rattle.txn_machine.proofs.Telling.{Good', Can'}
 use Rattle.txn_machine.proofs.Moving.{frame_law}
 use Rattle.txn_machine.proofs.Rings.{other_opens}
 use Rattle.txn_machine.proofs.Parting.{part_law}
-use Rattle.txn_machine.proofs.Sharing.{fresh_of}
-use Rattle.txn_machine.proofs.Listing.{view_read}
-use Rattle.txn_machine.proofs.Refusing.{rows_there}
-use Rattle.txn_machine.proofs.Fetching.{committed_huge, reads_read}
 use Rattle.txn_machine.proofs.Always.{always}
-use Rattle.txn_machine.proofs.Shapes.{same_view, add_all_stored, made_are}
-use Rattle.table_laws.proofs.Tables.{Contains-rows_where}
-use Rattle.std.specs.Ordering.{int_cmp, is_eq}
-
--- ---- what is read, of a sound database with its numbers in range
-
-module _ (db : Database) (sound : AreSound db.schema db.rows) (in_range : AreInRange db.schema db.rows) where
-  -- a view's rows group by group
-  abbrev grouped : ViewTree → ViewRows
-  grouped v = add_all empty (all_contributions db.schema db.rows v)
-
-  grouped_stored : (n : ℕ) (v : ViewTree) → numbered db.schema n ≡ Some (view v) → AreStored db.schema (grouped v)
-  grouped_stored n v e = add_all_stored db.schema empty (all_contributions db.schema db.rows v) (λ place numbers there. absurd (none-some numbers (sym (get-empty _ place) ∙ there))) (made_are db.schema db.rows sound n (view v) e)
-
-  agrees : (n : ℕ) (v : ViewTree) → numbered db.schema n ≡ Some (view v) → (key : List ℕ) (column : ℕ) → stored_number (grouped v) (v.number, key) column ≡ fresh db.schema db.rows (v.number, key) column
-  agrees n v e key column =
-      let ds = all_contributions db.schema db.rows v in
-      let added : stored_number (grouped v) (v.number, key) column ≡ stored_number empty (v.number, key) column +ℤ due (v.number, key) column ds = stored_add_all empty ds (v.number, key) column in
-      let none : stored_number empty (v.number, key) column ≡ pos 0 = ap (number_in_row column) (get-empty _ (v.number, key)) in
-      let is : fresh db.schema db.rows (v.number, key) column ≡ due (v.number, key) column ds = fresh_of db.schema db.rows sound n v e key column in
-      omega (arith, ints)
-
-  abbrev IsOne : ViewTree → Place × List ℤ → Type 0
-  IsOne v e = (e.0.0 ≡ v.number) × IsStoredRow db.schema e.0 e.1
-
-  build : (n : ℕ) (v : ViewTree) → numbered db.schema n ≡ Some (view v) → (es : List (Place × List ℤ)) → AllByRecursion (IsOne v) es → (rows : List Row) × AllZip (IsShown db.schema v) es rows
-  build n v of [] h = ([], tt)
-  build n v of (e ∷ es) h =
-      let rest = build n v of es h.1 in
-      let r : IsStoredRow db.schema e.0 e.1 = h.0.1 in
-      let here : numbered db.schema e.0.0 ≡ Some (view v) = ap (numbered db.schema) (h.0.0 ∙ (sound.objects n (view v) of).0) ∙ of in
-      let same : r.of ≡ v = same_view r.of v (sym r.view_is ∙ here) in (
-        (r.group ++ map Number (first_numbers (suc (length v.sums)) e.1)) ∷ rest.0,
-        (
-          record {
-            group = r.group;
-            fits = subst (λ (w : ViewTree). FitAll (group_kinds db.schema w) r.group) same r.fits;
-            key = sym (r.key ∙ ap (λ (w : ViewTree). key_bytes (group_kinds db.schema w) r.group) same);
-            row_is = refl;
-          },
-          rest.1,
-        ),
-      )
-
-  listed : (n : ℕ) (v : ViewTree) → numbered db.schema n ≡ Some (view v) → (interval : Interval) → (rows : List Row) × Lists db.schema v interval (grouped v) rows
-  listed n v of interval =
-      build n v of (rows_where (is_shown v.number interval) (entries (grouped v)))
-      (all_of_list (IsOne v) (rows_where (is_shown v.number interval) (entries (grouped v))) (λ e c.
-      let is = (Contains-rows_where place_cmp_total place_cmp-IsAntisymmetric (is_shown v.number interval) (grouped v) e.0 e.1).0 c in
-      (eqb-true e.0.0 v.number (first_true (e.0.0 == v.number) (lies_in e.0.1 interval) (first_true ((e.0.0 == v.number) && lies_in e.0.1 interval) (not (is_eq (int_cmp (get_or e.1 0 (pos 0)) (pos 0)))) is.1)), grouped_stored n v of e.0 e.1 is.0)))
-
-  reads_again : (n : ℕ) (interval : Interval) (rows : List Row) → read db n interval ≡ Some rows → Reads db n interval rows
-  reads_again n interval rows h = go (numbered db.schema n) refl
-    where
-      go : (o : Option Object) → numbered db.schema n ≡ o → Reads db n interval rows
-      go None e = subst (λ (o : Option Object). ReadsFrom db o n interval rows) (sym e) h
-      go (Some (table t)) e = subst (λ (o : Option Object). ReadsFrom db o n interval rows) (sym e) h
-      go (Some (index i)) e = subst (λ (o : Option Object). ReadsFrom db o n interval rows) (sym e) h
-      go (Some (view v)) e =
-          let l = listed n v e interval in
-          let agree : (key : List ℕ) → _ → (column : ℕ) → stored_number (grouped v) (v.number, key) column ≡ fresh db.schema db.rows (v.number, key) column = λ key lies column. agrees n v e key column in
-          let is_view : object_rows db (Some (view v)) interval ≡ Some rows = sym (ap (λ (o : Option Object). object_rows db o interval) e) ∙ h in
-          let same : rows ≡ l.0 = view_read db sound n v e interval (grouped v) agree l.0 l.1 rows is_view in
-          subst (λ (o : Option Object). ReadsFrom db o n interval rows) (sym e) (record {
-            view_rows = grouped v;
-            agree = agree;
-            listed = subst (Lists db.schema v interval (grouped v)) (sym same) l.1;
-            is_read = λ found f. view_read db sound n v e interval (grouped v) agree l.0 l.1 found f ∙ sym same;
-          })
-
-  some_read : (n : ℕ) (interval : Interval) → (rows : List Row) × (read db n interval ≡ Some rows)
-  some_read n interval = go (numbered db.schema n) refl
-    where
-      of_view : (v : ViewTree) (o : Option (List Row)) → view_rows db.schema db.rows v ≡ o → IsSome o → (rows : List Row) × (object_rows db (Some (view v)) interval ≡ Some rows)
-      of_view v None e h = absurd (cc)
-      of_view v (Some all) e h = (rows_between (view_key db.schema v) interval all, ap (option_map (rows_between (view_key db.schema v) interval)) e)
-
-      go : (o : Option Object) → numbered db.schema n ≡ o → (rows : List Row) × (read db n interval ≡ Some rows)
-      go None e = ([], ap (λ (o : Option Object). object_rows db o interval) e)
-      go (Some (table t)) e = (_, ap (λ (o : Option Object). object_rows db o interval) e)
-      go (Some (index i)) e = (_, ap (λ (o : Option Object). object_rows db o interval) e)
-      go (Some (view v)) e =
-          let x = of_view v (view_rows db.schema db.rows v) refl (rows_there db sound n v e in_range) in
-          (x.0, ap (λ (o : Option Object). object_rows db o interval) e ∙ x.1)
-
-same_read : (s t : Store) → Good' s → Good' t → (n : ℕ) (interval : Interval) → IsSameReading (committed s) (committed t) n interval → read (committed t) n interval ≡ read (committed s) n interval
-same_read s t g h n interval same =
-    let x = some_read (committed s) g.sound (λ p column. committed_huge s g p column) n interval in
-    let reads = (same x.0).0 (reads_again (committed s) g.sound (λ p column. committed_huge s g p column) n interval x.0 x.1) in
-    reads_read (committed t) h.sound (λ p column. committed_huge t h p column) n interval x.0 reads ∙ sym x.1
 
 -- ---- locks by which rows are read
 
@@ -276,9 +162,7 @@ seat_law s r d after step j n =
         go None e = refl
         go (Some t) e = readings_same (committed s.store) (committed after.store) t.locks (λ w c reads.
             let locks_are : t.locks ≡ locks_of s.store j = sym (ap (λ (o : Option Open). (the_open o).locks) e) in
-            let g = reached s r in
-            same_read s.store after.store g (step_good view_laws may_define s d.session d.act d.said after g step) w.index w.interval
-            (frame_law s r d after step j n (is_open t e) w.index w.interval (may_read_in (locks_of s.store j) w (subst (λ (ls : List Want). Contains ls w) locks_are c) reads)))
+            sym (frame_law s r d after step j n (is_open t e) w.index w.interval (may_read_in (locks_of s.store j) w (subst (λ (ls : List Want). Contains ls w) locks_are c) reads)))
 
     stop_is : cond (after.seat_of j).told_of_stop after.stop None ≡ cond (s.seat_of j).told_of_stop s.stop None
     stop_is = ap (λ (y : Seat). cond y.told_of_stop after.stop None) seat_is ∙ go (s.seat_of j).told_of_stop refl

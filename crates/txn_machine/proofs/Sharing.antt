@@ -1,5 +1,5 @@
 -- The numbers of a view by encoded groups are those of its meaning by the groups' values.
-use Rattle.std.specs.Prelude.{◌≡◌, ◌≢◌, ℕ, zero, suc, ◌+◌, ◌<◌, ◌==◌, ◌&&◌, cond, true, false, List, [], ◌∷◌, ◌++◌, map, filter, slice_get, get_or, ℤ, pos, ◌+ℤ◌, Some}
+use Rattle.std.specs.Prelude.{◌≡◌, ◌≢◌, ℕ, zero, suc, ◌+◌, ◌<◌, ◌==◌, ◌&&◌, cond, true, false, List, [], ◌∷◌, ◌++◌, map, slice_get, get_or, ℤ, pos, ◌+ℤ◌, Some}
 use Rattle.std.specs.List.{AllByRecursion, flat_map, filter_map}
 use mathlib.Core.Path.{refl, sym, ap, subst, ◌∙◌}
 use Rattle.std.proofs.Common.{arith, eq-eqb, eqb-true}
@@ -25,7 +25,7 @@ use Rattle.iv_meaning.specs.Database.{Row, Rows, rows_of}
 use Rattle.iv_meaning.specs.Values.{value_at}
 use Rattle.iv_meaning.specs.Query.{Combination, combinations, values_at}
 use Rattle.iv_meaning.specs.Grouping.{members, number_in, sum_by}
-use Rattle.iv_meaning.specs.View.{shares}
+use Rattle.iv_meaning.specs.View.{counted_combinations, shares}
 use Rattle.iv_meaning.specs.Sound.{IsTable, IsRow}
 use Rattle.query_laws.proofs.Each.{each_filtered}
 use Rattle.query_laws.proofs.TermLemmas.{FitRows, equal_is}
@@ -111,10 +111,6 @@ table_fits objects rows sound n t = rows_fit (kinds_of_table (numbered objects n
     (all_entries (λ (e : Place × Row). e.0.0 ≡ n → FitAll (kinds_of_table (numbered objects n)) e.1) rows (λ k r e g.
     let row : IsRow objects k r = sound.rows k r e in
     subst (λ ks. FitAll ks r) (sym (ap kinds_of_table (sym (ap (numbered objects) g) ∙ row.table_is))) row.fits))
-
--- the combinations that count
-abbrev pub counted_combinations : Schema → Rows → ViewTree → List Combination
-counted_combinations objects rows v = filter (is_counted objects v) (combinations (map (rows_of rows) (sources_of v)))
 
 -- the kinds of the rows that a view reads
 abbrev pub source_kinds : Schema → ViewTree → List (List Kind)

@@ -23,7 +23,8 @@ use Rattle.txn_machine.specs.Store.{Store, committed, now, changes_by, change_at
 use Rattle.txn_machine.specs.State.{State}
 use Rattle.txn_machine.specs.May.{MayAct}
 use Rattle.txn_machine.specs.Steps.{asked, CommitsAs, Says, Step, Did, Run}
-use Rattle.txn_machine.specs.Alone.{Told, Found, WasThere, told_of_undo, told_after, Story, story_after, begun_story, Tells, IsTrueIn, Reads, with_changes}
+use Rattle.iv_meaning.specs.View.{read}
+use Rattle.txn_machine.specs.Alone.{Told, Found, WasThere, told_of_undo, told_after, Story, story_after, begun_story, Tells, IsTrueIn, with_changes}
 use Rattle.txn_machine.specs.Laws.{IsReachedStory}
 use Rattle.txn_machine.specs.KeptLaws.{oldest, NotesLaw}
 use Rattle.txn_machine.proofs.Basics.{one_same, one_other}
@@ -299,8 +300,8 @@ notes_law s r i o serial =
     let is_open : story.0.state.store.open_of i ≡ Some o.transaction = ap (λ (z : State). z.store.open_of i) story.1 ∙ o.is_open in
     let told = (told_law story.0 reached i (record { of_session = o.of_session; transaction = o.transaction; is_open = is_open })).0 serial in
     let each : AllByRecursion (λ n. Contains (story.0.told i) (found n o.transaction.kept)) o.transaction.notes = subst (λ (t : Open). AllByRecursion (λ n. Contains (story.0.told i) (found n t.kept)) t.notes) own good.each in
-    subst (λ (z : State). All (λ n. Reads (with_changes (changes_of (oldest n.kept o.transaction.kept)) (committed z.store)) n.index n.interval n.rows) o.transaction.notes) story.1
+    subst (λ (z : State). All (λ n. read (with_changes (changes_of (oldest n.kept o.transaction.kept)) (committed z.store)) n.index n.interval ≡ n.rows) o.transaction.notes) story.1
     (All-from_recursion _ o.transaction.notes
     (each_note (λ n. Contains (story.0.told i) (found n o.transaction.kept)) (λ n. Contains (story.0.told i) (found n o.transaction.kept))
-    (λ n. Reads (with_changes (changes_of (oldest n.kept o.transaction.kept)) (committed story.0.state.store)) n.index n.interval n.rows) o.transaction.notes
+    (λ n. read (with_changes (changes_of (oldest n.kept o.transaction.kept)) (committed story.0.state.store)) n.index n.interval ≡ n.rows) o.transaction.notes
     (λ n c d. all_contains (IsTrueIn (committed story.0.state.store)) (story.0.told i) (found n o.transaction.kept) (recursion_from_All (IsTrueIn (committed story.0.state.store)) (story.0.told i) told.0) c) each each))

@@ -31,7 +31,7 @@ use Rattle.txn_machine.specs.Store.{Store, committed, schema_of, now, changes_by
 use Rattle.txn_machine.specs.State.{State}
 use Rattle.txn_machine.specs.May.{IsReady, MayLock, MayAct}
 use Rattle.txn_machine.specs.Steps.{asked, IsFree, Finds, note_of, CommitsAs, Says, Step, Did}
-use Rattle.txn_machine.specs.Alone.{Told, Found, WasThere, TookBack, told_after, Story, story_after, Tells, Reads, with_changes, IsTrueIn, IsReadIn, Program, Fetch, Change, Undo, Next, Goes, without_latest}
+use Rattle.txn_machine.specs.Alone.{Told, Found, WasThere, TookBack, told_after, Story, story_after, Tells, with_changes, IsTrueIn, IsReadIn, Program, Fetch, Change, Undo, Next, Goes, without_latest}
 use Rattle.txn_machine.specs.Laws.{IsReached, IsReachedStory, RepliesLaw, SnapshotRepliesLaw}
 use Rattle.txn_machine.proofs.Basics.{one_same, one_other, holds_new}
 use Rattle.txn_machine.proofs.Good.{the_open}
@@ -73,7 +73,7 @@ module _ (s : Store) (i number : ℕ) (interval : Interval) (mode : LockMode) (r
     | inr e ↦ inr (holds_new Exclusive wants (now s i).locks number key (record { lock = record { index = number; interval = interval; mode = mode }; held = contains_here (record { index = number; interval = interval; mode = mode }) []; mode_is = e; index_is = refl; covers = lies }))
   ])
 
-  fetch_reads : Reads (with_changes (changes_by locked i) (committed s)) number interval rows
+  fetch_reads : read (with_changes (changes_by locked i) (committed s)) number interval ≡ rows
   fetch_reads = finds_own (committed s) locked locked_good i ready.goes_on.of_session (subst (λ (t : Open). t.owed ≡ []) (sym locked_is) (ready_owes view_laws s i Serial ready)) (committed s).number (committed s).number number interval fetch_may rows found
 
   same_changes : changes_by locked i ≡ changes_by s i
@@ -104,7 +104,7 @@ locked_mode : (s : Store) (i : ℕ) (wants : List Want) → (now s i).mode ≡ S
 locked_mode s i wants e = ap (λ (t : Open). t.mode) (now_locked view_laws s i wants) ∙ e
 
 peeked : (s : Store) (i n : ℕ) (interval : Interval) (rows : List Row) (told : List Told) (o : Option Open) → s.open_of i ≡ o → (the_open o).mode ≡ Snapshot
-    → read (state_at s.origin s.history (the_open o).number) n interval ≡ Some rows → NoteOf s.origin s.history o told → NoteOf s.origin s.history o (Found n interval rows [] ∷ told)
+    → read (state_at s.origin s.history (the_open o).number) n interval ≡ rows → NoteOf s.origin s.history o told → NoteOf s.origin s.history o (Found n interval rows [] ∷ told)
 peeked s i n interval rows told None e m r h = absurd (cc)
 peeked s i n interval rows told (Some t) e m r h = record {
   serial = λ x. absurd (cc (sym x ∙ m));
@@ -279,11 +279,11 @@ snapshot_replies_law story r i o m p q cs led =
     goes_so (IsReadIn (state_at story.state.store.origin story.state.store.history o.transaction.number)) p (story.told i) q cs (note.snapshot m).notes led
 
 pub fetched : (s : State) → IsReached s → (i number : ℕ) (interval : Interval) (mode : LockMode) (rows : List Row) (after : State) → Step s i (act.Fetch number interval mode) (answer.Rows rows) after
-    → Reads (with_changes (changes_by s.store i) (committed s.store)) number interval rows
+    → read (with_changes (changes_by s.store i) (committed s.store)) number interval ≡ rows
 fetched s r i number interval mode rows after step = elim step.does [
   | inl x ↦
       let g = reached s r in
       let may : MayAct s.store i (act.Fetch number interval mode) = elim step.may.1 [ inl stopped ↦ absurd (some_not_none s.stop stopped x.runs) | inr m ↦ m ] in
-      subst (λ l. Reads (with_changes l (committed s.store)) number interval rows) (same_changes s.store i number interval mode rows g may.0 may.1 x.says.free x.says.found) (fetch_reads s.store i number interval mode rows g may.0 may.1 x.says.free x.says.found)
+      subst (λ l. read (with_changes l (committed s.store)) number interval ≡ rows) (same_changes s.store i number interval mode rows g may.0 may.1 x.says.free x.says.found) (fetch_reads s.store i number interval mode rows g may.0 may.1 x.says.free x.says.found)
   | inr x ↦ absurd (cc)
 ]

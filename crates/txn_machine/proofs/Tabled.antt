@@ -122,9 +122,9 @@ listed_is [] = no_keys
 listed_is (e ∷ es) = entries-insert nat_list_cmp_total (from_entries es) e.0 e.1 ∙ ap (put_entry key_cmp e.0 e.1) (listed_is es)
 
 -- a sale is found by its key
-pub read_is : (n : ℕ) (l : List (Place × Row)) (interval : Interval) → InOrder l → read (with_sales n l) 1 interval ≡ Some (found_in l interval)
+pub read_is : (n : ℕ) (l : List (Place × Row)) (interval : Interval) → InOrder l → read (with_sales n l) 1 interval ≡ found_in l interval
 read_is n l interval h =
-    ap (λ (es : List (List ℕ × Row)). Some (map (λ (e : List ℕ × Row). e.1) (filter (λ (e : List ℕ × Row). lies_in e.0 interval) es)))
+    ap (λ (es : List (List ℕ × Row)). map (λ (e : List ℕ × Row). e.1) (filter (λ (e : List ℕ × Row). lies_in e.0 interval) es))
     (ap (λ (es : List (Place × Row)). entries (from_entries {R = key_cmp} (map (λ row. (key_of sale row, row)) (map (λ (e : Place × Row). e.1) (rows_where (λ place row. place.0 == 1) es))))) (entries_are l h)
     ∙ listed_is (map (λ row. (key_of sale row, row)) (sales_in l)))
 

@@ -15,6 +15,7 @@ use Rattle.iv_types.specs.declared.value.Interval.{Interval}
 use Rattle.table_laws.specs.Place.{Place}
 use Rattle.table_laws.specs.Kept.{redo, AreTrue}
 use Rattle.iv_meaning.specs.Schema.{Schema}
+use Rattle.iv_meaning.specs.View.{read}
 use Rattle.iv_meaning.specs.Database.{Row, Rows, Database}
 use Rattle.iv_meaning.specs.Statement.{defines}
 use Rattle.iv_meaning.specs.History.{Entry, fold, state_at}
@@ -25,7 +26,7 @@ use Rattle.txn_machine.specs.Keeping.{KeptStep, Put, Pay, changes_of, Open, begu
 use Rattle.txn_machine.specs.Fresh.{fresh}
 use Rattle.txn_machine.specs.Ghosts.{Holds, MayReadIn, the_views}
 use Rattle.txn_machine.specs.Store.{Store, committed, schema_of, now, changes_by, locks_of, change_at, notes_before, paid_first, undone, entry_changes, Effect, Opens, Takes, Notes, Writes, Pays, Ghosts, Undoes, Loses, Ends, Commits, Defines, Cleans, Prunes, does, run}
-use Rattle.txn_machine.specs.Alone.{Told, Found, WasThere, TookBack, told_of_undo, Reads, with_changes, IsReadIn, without_latest}
+use Rattle.txn_machine.specs.Alone.{Told, Found, WasThere, TookBack, told_of_undo, with_changes, IsReadIn, without_latest}
 use Rattle.txn_machine.specs.ViewLaws.{AreSound}
 pub use Rattle.txn_machine.specs.KeptLaws.{kept_after}
 use Rattle.txn_machine.proofs.Basics.{one_same, one_other, holds_more, read_more}
@@ -50,7 +51,7 @@ pub record FoundGood (base : Database) (locks : List Want) (n : ℕ) (interval :
   pub proper : AreProper base.schema cs
   pub is_true : AreTrue base.rows cs
   pub may : MayReadIn locks n interval
-  pub so : Reads (with_changes cs base) n interval rows
+  pub so : read (with_changes cs base) n interval ≡ rows
 
 pub record WasGood (base : Database) (locks : List Want) (p : Place) (before : Option Row) (cs : List RowChange) : Type 0 where
   pub holds : HoldsAll base.schema locks cs
@@ -86,7 +87,7 @@ notes_framed base number rows locks f so ss (Found n interval found cs ∷ told)
         proper = h.0.proper;
         is_true = r.1;
         may = h.0.may;
-        so = reads_framed base.schema base.number number locks (redo cs base.rows) (redo cs rows) r.0 (sound_redo base.schema base.rows cs so h.0.proper) (sound_redo base.schema rows cs ss h.0.proper) n interval h.0.may found h.0.so;
+        so = sym (reads_framed base.schema base.number number locks (redo cs base.rows) (redo cs rows) r.0 (sound_redo base.schema base.rows cs so h.0.proper) (sound_redo base.schema rows cs ss h.0.proper) n interval h.0.may) ∙ h.0.so;
       },
       notes_framed base number rows locks f so ss told h.1,
     )
@@ -153,7 +154,7 @@ tell s i _ told = told
 
 -- what is noted is read from the session's own database
 abbrev pub CanTell : Store → ℕ → Effect → Type 0
-CanTell s i (Notes n) = MayReadIn (locks_of s i) n.index n.interval × Reads (with_changes (changes_by s i) (committed s)) n.index n.interval n.rows
+CanTell s i (Notes n) = MayReadIn (locks_of s i) n.index n.interval × (read (with_changes (changes_by s i) (committed s)) n.index n.interval ≡ n.rows)
 CanTell s i (Defines o) = s.open_of i ≡ None
 CanTell s i _ = Unit {0}
 

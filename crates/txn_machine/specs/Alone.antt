@@ -1,12 +1,11 @@
 -- What transactions are told, and programs of reads and writes that run alone.
-use Rattle.std.specs.Prelude.{◌≡◌, ℕ, true, List, [], ◌∷◌, Option, Some}
+use Rattle.std.specs.Prelude.{◌≡◌, ℕ, List, [], ◌∷◌, Option}
 use Rattle.std.specs.FinMap.{get}
 use Rattle.iv_types.specs.declared.value.Interval.{Interval}
 use Rattle.table_laws.specs.Place.{Place}
 use Rattle.table_laws.specs.Kept.{redo}
-use Rattle.iv_meaning.specs.Schema.{Object, view, ViewTree, numbered}
 use Rattle.iv_meaning.specs.Database.{Row, Database}
-use Rattle.iv_meaning.specs.View.{object_rows, read, lies_in}
+use Rattle.iv_meaning.specs.View.{read}
 use Rattle.txn_machine.specs.Acts as act
 use Rattle.txn_machine.specs.Acts.{Act}
 use Rattle.txn_machine.specs.Answers as answer
@@ -14,8 +13,6 @@ use Rattle.txn_machine.specs.Answers.{Answer}
 use Rattle.txn_machine.specs.Locks.{with_one}
 use Rattle.txn_machine.specs.Deltas.{RowChange}
 use Rattle.txn_machine.specs.Keeping.{KeptStep, Put, Pay, changes_of}
-use Rattle.txn_machine.specs.Stored.{ViewRows, stored_number, Lists}
-use Rattle.txn_machine.specs.Fresh.{fresh}
 use Rattle.txn_machine.specs.Store.{Store, now, changes_by}
 use Rattle.txn_machine.specs.State.{State}
 use Rattle.txn_machine.specs.Steps.{Did, Step}
@@ -62,31 +59,15 @@ story_after story d after = record {
 abbrev pub with_changes : List RowChange → Database → Database
 with_changes changes db = record db { rows = redo changes db.rows }
 
--- the rows are those that a view's groups have when it is evaluated afresh, and so what is read of its meaning, if that is not
--- refused
-pub record AreFresh (db : Database) (v : ViewTree) (interval : Interval) (rows : List Row) : Type 0 where
-  pub view_rows : ViewRows
-  pub agree : (key : List ℕ) → lies_in key interval ≡ true → (column : ℕ) → stored_number view_rows (v.number, key) column ≡ fresh db.schema db.rows (v.number, key) column
-  pub listed : Lists db.schema v interval view_rows rows
-  pub is_read : (found : List Row) → object_rows db (Some (view v)) interval ≡ Some found → found ≡ rows
-
-abbrev pub ReadsFrom : Database → Option Object → ℕ → Interval → List Row → Type 0
-ReadsFrom db (Some (view v)) number interval rows = AreFresh db v interval rows
-ReadsFrom db _ number interval rows = read db number interval ≡ Some rows
-
--- the rows that an interval of a table, an index or a view has in a database
-abbrev pub Reads : Database → ℕ → Interval → List Row → Type 0
-Reads db number interval rows = ReadsFrom db (numbered db.schema number) number interval rows
-
--- what was told is so in the database with the changes that were kept then
+-- what was told is so in the database with the changes that were kept then, views evaluated afresh
 abbrev pub IsTrueIn : Database → Told → Type 0
-IsTrueIn db (Found number interval rows kept) = Reads (with_changes kept db) number interval rows
+IsTrueIn db (Found number interval rows kept) = read (with_changes kept db) number interval ≡ rows
 IsTrueIn db (WasThere place new before kept) = before ≡ get (redo kept db.rows) place
 IsTrueIn db (TookBack kept) = Unit {0}
 
 -- the rows are those that an interval has in a database, views evaluated afresh
 abbrev pub IsReadIn : Database → Told → Type 0
-IsReadIn db (Found number interval rows kept) = read db number interval ≡ Some rows
+IsReadIn db (Found number interval rows kept) = read db number interval ≡ rows
 IsReadIn db (WasThere place new before kept) = ⊥
 IsReadIn db (TookBack kept) = ⊥
 

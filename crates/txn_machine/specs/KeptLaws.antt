@@ -9,6 +9,7 @@ use Rattle.table_laws.specs.Place.{Place, place_cmp}
 use Rattle.table_laws.specs.Kept.{redo}
 use Rattle.iv_meaning.specs.Schema.{Object, Schema, view, ViewTree, numbered, group_kinds}
 use Rattle.iv_meaning.specs.Database.{Row}
+use Rattle.iv_meaning.specs.View.{read}
 use Rattle.iv_meaning.specs.History.{Entry, state_at}
 use Rattle.iv_meaning.specs.Escrow.{IsSession, lo, hi}
 use Rattle.txn_machine.specs.Deltas.{RowChange}
@@ -20,7 +21,7 @@ use Rattle.txn_machine.specs.Ghosts.{MayRead}
 use Rattle.txn_machine.specs.State.{State, most_steps}
 use Rattle.txn_machine.specs.May.{IsOpen}
 use Rattle.txn_machine.specs.Steps.{Did, Step}
-use Rattle.txn_machine.specs.Alone.{Told, Found, WasThere, TookBack, Story, IsTrueIn, IsReadIn, without_latest, Reads, with_changes}
+use Rattle.txn_machine.specs.Alone.{Told, Found, WasThere, TookBack, Story, IsTrueIn, IsReadIn, without_latest, with_changes}
 use Rattle.txn_machine.specs.Laws.{IsReached, IsReachedStory, changes_above}
 use Rattle.iv_types.specs.declared.lock.GroupDelta.{GroupDelta}
 use Rattle.txn_machine.specs.Stored.{AreStored}
@@ -62,7 +63,7 @@ oldest many ks = drop (length ks - many) ks
 -- these are kept still.
 abbrev pub NotesLaw : Type 0
 NotesLaw = (s : State) → IsReached s → (session : ℕ) → (o : IsOpen s.store session) → o.transaction.mode ≡ Serial
-    → All (λ n. Reads (with_changes (changes_of (oldest n.kept o.transaction.kept)) (committed s.store)) n.index n.interval n.rows) o.transaction.notes
+    → All (λ n. read (with_changes (changes_of (oldest n.kept o.transaction.kept)) (committed s.store)) n.index n.interval ≡ n.rows) o.transaction.notes
 
 -- ---- rows under locks
 

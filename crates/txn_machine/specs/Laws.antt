@@ -12,7 +12,7 @@ use Rattle.iv_types.specs.Syntax.{StatementTree}
 use Rattle.iv_meaning.specs.Schema.{Schema, Object, view, ViewTree, numbered, group_kinds}
 use Rattle.iv_meaning.specs.Binding.{bind}
 use Rattle.iv_meaning.specs.Statement.{Kept, sets, defines, create}
-use Rattle.iv_meaning.specs.View.{view_rows, read, share}
+use Rattle.iv_meaning.specs.View.{whole_view, read, share}
 use Rattle.iv_meaning.specs.Database.{Row, Rows, Database}
 use Rattle.iv_meaning.specs.History.{Entry, state_at}
 use Rattle.iv_meaning.specs.Waits.{AreDifferent}
@@ -29,7 +29,7 @@ use Rattle.iv_types.specs.declared.session.Sessions.{Sessions}
 use Rattle.iv_types.specs.declared.session.Cycle.{Cycle}
 use Rattle.iv_types.specs.declared.refusal.EngineRefusal.TheVariants as refusal
 use Rattle.iv_types.specs.Replies.{members}
-use Rattle.txn_machine.specs.Alone.{Story, Program, begun_story, Tells, with_changes, Reads, IsLed, RunsAlone, ReadsAlone}
+use Rattle.txn_machine.specs.Alone.{Story, Program, begun_story, Tells, with_changes, IsLed, RunsAlone, ReadsAlone}
 use Rattle.txn_machine.specs.May.{GoesOn, IsOpen, IsReady, MayPeek, Owes}
 use Rattle.iv_meaning.specs.Escrow.{IsSession, over_sessions, paid, inf, sup, value}
 use Rattle.txn_machine.specs.Locks.{Meet}
@@ -64,9 +64,9 @@ KeysTell = (kinds : List Kind) (one other : List Value) → FitAll kinds one →
 abbrev pub AreInRange : Schema → Rows → Type 0
 AreInRange objects rows = (place : Place) (column : ℕ) → IsHuge (fresh objects rows place column)
 
--- a view can be read only where its numbers are in range
+-- the query of a view is accepted only where its numbers are in range
 abbrev pub RangeLaw : Type 0
-RangeLaw = (db : Database) (v : ViewTree) → AreSound db.schema db.rows → AreSound (db.schema ++ view v ∷ []) db.rows → IsSome (view_rows db.schema db.rows v)
+RangeLaw = (db : Database) (v : ViewTree) → AreSound db.schema db.rows → AreSound (db.schema ++ view v ∷ []) db.rows → IsSome (whole_view db.schema db.rows v)
     → AreInRange db.schema db.rows → AreInRange (db.schema ++ view v ∷ []) db.rows
 
 -- a number of a view by an encoded group is the share of the group in the view's meaning
@@ -75,10 +75,10 @@ FreshLaw = (db : Database) → AreSound db.schema db.rows → (n : ℕ) (v : Vie
     → (g : Row) → FitAll (group_kinds db.schema v) g → (column : ℕ)
     → fresh db.schema db.rows (v.number, key_bytes (group_kinds db.schema v) g) column ≡ get_or (share db.schema db.rows v g) column (pos 0)
 
--- no view's meaning is refused where the numbers are in range
+-- no view's query is refused where the numbers are in range
 abbrev pub ReadableLaw : Type 0
 ReadableLaw = (db : Database) → AreSound db.schema db.rows → AreInRange db.schema db.rows → (n : ℕ) (v : ViewTree) → numbered db.schema n ≡ Some (view v)
-    → IsSome (view_rows db.schema db.rows v)
+    → IsSome (whole_view db.schema db.rows v)
 
 -- ---- states
 
@@ -167,18 +167,15 @@ GhostedLaw =
 
 -- ---- readings
 
--- what a Fetch answers is what the interval has in the committed database with the session's own changes, a view's as it is read
--- of its meaning
+-- what a Fetch answers is what the interval has in the committed database with the session's own changes
 abbrev pub FetchLaw : Type 0
 FetchLaw = (s : State) → IsReached s → (session number : ℕ) (interval : Interval) (mode : LockMode) (rows : List Row) (after : State)
     → Step s session (act.Fetch number interval mode) (answer.Rows rows) after
-    → Reads (with_changes (changes_by s.store session) (committed s.store)) number interval rows
-    × (read (with_changes (changes_by s.store session) (committed s.store)) number interval ≡ Some rows)
+    → read (with_changes (changes_by s.store session) (committed s.store)) number interval ≡ rows
 
 -- what is read is the same in both
 abbrev pub IsSameReading : Database → Database → ℕ → Interval → Type 0
-IsSameReading one other number interval =
-    (rows : List Row) → (Reads one number interval rows → Reads other number interval rows) × (Reads other number interval rows → Reads one number interval rows)
+IsSameReading one other number interval = read one number interval ≡ read other number interval
 
 -- a step leaves what another session's open transaction may read by its locks
 abbrev pub FrameLaw : Type 0
@@ -282,13 +279,13 @@ abbrev pub RowsAtLaw : Type 0
 RowsAtLaw = (s : State) → IsReached s → (number : ℕ)
     → take_back (changes_above number s.store.history) (committed s.store).rows ≡ (state_at s.store.origin s.store.history number).rows
 
--- the database of a commit number: it has that number, it is sound, its views' numbers are in range, and none of its views is
--- refused
+-- the database of a commit number: it has that number, it is sound, its views' numbers are in range, and so the query of none of
+-- its views is refused
 pub record IsReadableAt (number : ℕ) (db : Database) : Type 0 where
   pub number_is : db.number ≡ number
   pub sound : AreSound db.schema db.rows
   pub in_range : AreInRange db.schema db.rows
-  pub views : (n : ℕ) (v : ViewTree) → numbered db.schema n ≡ Some (view v) → IsSome (view_rows db.schema db.rows v)
+  pub views : (n : ℕ) (v : ViewTree) → numbered db.schema n ≡ Some (view v) → IsSome (whole_view db.schema db.rows v)
 
 -- There is one at each number from the opened database's up to what is committed. So there is at the number of each open
 -- snapshot, and its objects are those that are defined now.
@@ -300,12 +297,12 @@ SnapshotReadableLaw = (s : State) → IsReached s
     IsReadableAt o.transaction.number at_number × (at_number.schema ≡ schema_of s.store))
 
 -- What a Peek is answered is what is read of the meaning at the number of the session's snapshot, and it changes nothing that is
--- stored. Whatever a snapshot may peek at, it can be answered so: no view is refused.
+-- stored. Whatever a snapshot may peek at, it can be answered so.
 abbrev pub PeekLaw : Type 0
 PeekLaw = (s : State) → IsReached s → (session number : ℕ) (interval : Interval)
     → ((rows : List Row) (after : State) → Step s session (act.Peek number interval) (answer.Rows rows) after
     → (o : IsOpen s.store session) × (o.transaction.mode ≡ Snapshot)
-    × (read (state_at s.store.origin s.store.history o.transaction.number) number interval ≡ Some rows) × (after.store ≡ s.store))
+    × (read (state_at s.store.origin s.store.history o.transaction.number) number interval ≡ rows) × (after.store ≡ s.store))
     × (s.stop ≡ None → GoesOn s.store session Snapshot → MayPeek (numbered (schema_of s.store) number)
     → (rows : List Row) × (after : State) × Step s session (act.Peek number interval) (answer.Rows rows) after)
 

@@ -21,7 +21,7 @@ pub record Part : Type 0 where
   -- the definitions, while its transaction is open
   pub objects : Option Schema
   -- what is committed in each interval that it locked in Share or Exclusive
-  pub readings : List (Option (List Row))
+  pub readings : List (List Row)
   pub waiting : List Want
   -- how many steps it did, the last of them, and its last refusal
   pub seat : Seat
@@ -35,7 +35,7 @@ abbrev pub is_read : Want → Bool
 is_read w = elim w.mode [ Share ↦ true | Exclusive ↦ true | Increment ↦ false ]
 
 -- what is committed in the locked interval
-abbrev pub reading_of : Database → Want → Option (List Row)
+abbrev pub reading_of : Database → Want → List Row
 reading_of db w = read db w.index w.interval
 
 abbrev pub part_of : State → ℕ → Part

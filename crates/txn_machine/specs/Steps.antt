@@ -133,7 +133,7 @@ stored s = record (committed s) { rows = s.rows }
 -- stand for a group.
 abbrev pub FindsIn : Database → ViewRows → Option Object → ℕ → Interval → List Row → Type 0
 FindsIn db view_rows (Some (view v)) number interval rows = Lists db.schema v interval view_rows rows
-FindsIn db view_rows _ number interval rows = read db number interval ≡ Some rows
+FindsIn db view_rows _ number interval rows = read db number interval ≡ rows
 
 abbrev pub Finds : Store → ℕ → Interval → List Row → Type 0
 Finds s number interval rows = FindsIn (stored s) s.view (numbered (schema_of s) number) number interval rows
@@ -354,7 +354,7 @@ pub record IsSchemaFull (s : State) (statement : StatementTree) (kept need : ℕ
 
 -- the rows at the number of the session's snapshot
 abbrev pub Peeks : Store → ℕ → ℕ → Interval → List Row → Type 0
-Peeks s session number interval rows = read (state_at s.origin s.history (now s session).number) number interval ≡ Some rows
+Peeks s session number interval rows = read (state_at s.origin s.history (now s session).number) number interval ≡ rows
 
 -- ---- all answers
 
