@@ -6,3 +6,5 @@ pub mod Going
 pub mod Refusing
 pub mod Owning
 pub mod Running
+pub mod Showing
+pub mod OverMachine

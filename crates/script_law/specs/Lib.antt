@@ -2,3 +2,4 @@ pub mod Seen
 pub mod Programs
 pub mod RunLines
 pub mod Laws
+pub mod Machine

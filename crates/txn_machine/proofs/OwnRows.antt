@@ -7,7 +7,7 @@ use Rattle.txn_machine.specs.Keeping.{changes_of, Open}
 use Rattle.txn_machine.specs.Fresh.{fresh}
 use Rattle.txn_machine.specs.Ghosts.{the_views}
 use Rattle.txn_machine.specs.Store.{committed}
-use Rattle.txn_machine.specs.Alone.{IsTrueIn, IsReadIn}
+use Rattle.txn_machine.specs.Alone.{IsTrueIn}
 use Rattle.txn_machine.specs.KeptLaws.{OwnRowsLaw, ToldLaw}
 use Rattle.txn_machine.proofs.Good.{the_open, read_at}
 use Rattle.txn_machine.proofs.Looking.{view_laws}
@@ -30,7 +30,7 @@ told_law story r i o =
           ),
       λ m.
           let told = note.snapshot m in (
-            All-from_recursion (IsReadIn (state_at s.origin s.history o.transaction.number)) (story.told i) told.notes,
+            All-from_recursion (IsTrueIn (state_at s.origin s.history o.transaction.number)) (story.told i) told.notes,
             ap (λ (x : Option Open). changes_of (the_open x).kept) o.is_open ∙ ap changes_of told.nothing,
           ),
     )

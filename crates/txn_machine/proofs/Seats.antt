@@ -18,6 +18,7 @@ use Rattle.txn_machine.specs.State.{State, Stop, Seat, seat_after, is_fault, sto
 use Rattle.txn_machine.specs.May.{IsOpen}
 use Rattle.txn_machine.specs.Steps.{Did, Run, Step}
 use Rattle.txn_machine.specs.Parts.{is_read, reading_of, SeatLaw}
+use Rattle.txn_machine.specs.Laws.{IsReached}
 use Rattle.table_laws.proofs.Stored.{by_session}
 use Rattle.std.proofs.lemmas.Bool.{cases_lt}
 use Rattle.std.proofs.Common.{eqb-true}
@@ -52,7 +53,7 @@ readings_same a b (w ∷ ws) h =
 
 -- ---- who has a transaction, and who was told of the stop
 
-abbrev NobodyElse : Store → Type 0
+abbrev pub NobodyElse : Store → Type 0
 NobodyElse s = (j : ℕ) → (IsSession j → ⊥) → s.open_of j ≡ None
 
 nobody_else : (s : Store) (i : ℕ) (e : Effect) → Good' s → Can' s i e → NobodyElse s → NobodyElse (does the_views s i e)
@@ -76,7 +77,7 @@ nobody_else s i e g can h = λ j n. go e can j n
     go (Cleans p) can j n = h j n
     go Prunes can j n = h j n
 
-session_or : (j : ℕ) → IsSession j ⊎ (IsSession j → ⊥)
+pub session_or : (j : ℕ) → IsSession j ⊎ (IsSession j → ⊥)
 session_or j = elim (cases_lt 64 j) [
   | inl more ↦ inr (λ is. omega (arith, more, is.1))
   | inr few ↦ elim (cases_lt 0 j) [
@@ -108,6 +109,9 @@ told_run : (s : State) (ds : List Did) (after : State) → ToldStops s → Run s
 told_run s [] after h r = subst ToldStops (sym r) h
 told_run s (d ∷ ds) after h r = told_run r.0 ds after (told_step s d r.0 h r.1) r.2
 
+pub nobody_open : (s : State) → IsReached s → NobodyElse s.store
+nobody_open s r = always NobodyElse nobody_else s r (λ j n. refl)
+
 -- ---- the parts
 
 pub seat_law : SeatLaw
@@ -130,7 +134,7 @@ seat_law s r d after step j n =
     none_told = told_run _ r.steps s (λ j e. absurd (cc)) r.run
 
     nobody : NobodyElse s.store
-    nobody = always NobodyElse nobody_else s r (λ j n. refl)
+    nobody = nobody_open s r
 
     open_is : after.store.open_of j ≡ s.store.open_of j
     open_is = ((part_law s d after step).0 j n).open_is

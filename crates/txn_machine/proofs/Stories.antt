@@ -31,7 +31,7 @@ use Rattle.txn_machine.specs.Store.{Store, committed, schema_of, now, changes_by
 use Rattle.txn_machine.specs.State.{State}
 use Rattle.txn_machine.specs.May.{IsReady, MayLock, MayAct}
 use Rattle.txn_machine.specs.Steps.{asked, IsFree, Finds, note_of, CommitsAs, Says, Step, Did}
-use Rattle.txn_machine.specs.Alone.{Told, Found, WasThere, TookBack, told_after, Story, story_after, Tells, with_changes, IsTrueIn, IsReadIn, Program, Fetch, Change, Undo, Next, Goes, without_latest}
+use Rattle.txn_machine.specs.Alone.{Told, Found, WasThere, TookBack, told_after, Story, story_after, Tells, with_changes, IsTrueIn, Program, Fetch, Change, Undo, Next, Goes, without_latest}
 use Rattle.txn_machine.specs.Laws.{IsReached, IsReachedStory, RepliesLaw, SnapshotRepliesLaw}
 use Rattle.txn_machine.proofs.Basics.{one_same, one_other, holds_new}
 use Rattle.txn_machine.proofs.Good.{the_open}
@@ -276,7 +276,7 @@ pub snapshot_replies_law : SnapshotRepliesLaw
 snapshot_replies_law story r i o m p q cs led =
     let g = story_reached story r in
     let note : NoteFor story.state.store.origin story.state.store.history o.transaction (story.told i) = subst (λ (x : Option Open). NoteOf story.state.store.origin story.state.store.history x (story.told i)) o.is_open (g.noted i o.of_session) in
-    goes_so (IsReadIn (state_at story.state.store.origin story.state.store.history o.transaction.number)) p (story.told i) q cs (note.snapshot m).notes led
+    goes_so (IsTrueIn (state_at story.state.store.origin story.state.store.history o.transaction.number)) p (story.told i) q cs (note.snapshot m).notes led
 
 pub fetched : (s : State) → IsReached s → (i number : ℕ) (interval : Interval) (mode : LockMode) (rows : List Row) (after : State) → Step s i (act.Fetch number interval mode) (answer.Rows rows) after
     → read (with_changes (changes_by s.store i) (committed s.store)) number interval ≡ rows

@@ -26,7 +26,7 @@ use Rattle.txn_machine.specs.Keeping.{KeptStep, Put, Pay, changes_of, Open, begu
 use Rattle.txn_machine.specs.Fresh.{fresh}
 use Rattle.txn_machine.specs.Ghosts.{Holds, MayReadIn, the_views}
 use Rattle.txn_machine.specs.Store.{Store, committed, schema_of, now, changes_by, locks_of, change_at, notes_before, paid_first, undone, entry_changes, Effect, Opens, Takes, Notes, Writes, Pays, Ghosts, Undoes, Loses, Ends, Commits, Defines, Cleans, Prunes, does, run}
-use Rattle.txn_machine.specs.Alone.{Told, Found, WasThere, TookBack, told_of_undo, with_changes, IsReadIn, without_latest}
+use Rattle.txn_machine.specs.Alone.{Told, Found, WasThere, TookBack, told_of_undo, with_changes, IsTrueIn, without_latest}
 use Rattle.txn_machine.specs.ViewLaws.{AreSound}
 pub use Rattle.txn_machine.specs.KeptLaws.{kept_after}
 use Rattle.txn_machine.proofs.Basics.{one_same, one_other, holds_more, read_more}
@@ -113,7 +113,7 @@ pub record SerialTold (base : Database) (t : Open) (told : List Told) : Type 0 w
 pub record SnapshotTold (origin : Database) (history : List Entry) (t : Open) (told : List Told) : Type 0 where
   pub number : t.number ≤ (fold history origin).number
   pub nothing : t.kept ≡ []
-  pub notes : AllByRecursion (IsReadIn (state_at origin history t.number)) told
+  pub notes : AllByRecursion (IsTrueIn (state_at origin history t.number)) told
 
 pub record NoteFor (origin : Database) (history : List Entry) (t : Open) (told : List Told) : Type 0 where
   pub serial : t.mode ≡ Serial → SerialTold (fold history origin) t told
@@ -171,7 +171,7 @@ set_note s i u told mode number told' h serial snapshot = subst (λ (o : Option 
       subst (λ l. SnapshotTold s.origin s.history u l) (sym stays.0) (record {
         nothing = stays.1 ∙ was.nothing;
         number = subst (λ n. n ≤ (committed s).number) (sym number) was.number;
-        notes = subst (λ n. AllByRecursion (IsReadIn (state_at s.origin s.history n)) told) (sym number) was.notes;
+        notes = subst (λ n. AllByRecursion (IsTrueIn (state_at s.origin s.history n)) told) (sym number) was.notes;
       });
 })
 
@@ -294,7 +294,7 @@ module _ (s : Store) (i : ℕ) (g : Good' s) (is : IsSession i) (owes : (now s i
             record {
               number = subst (λ x. t.number ≤ x) (sym number_is) (omega (arith, below));
               nothing = was.nothing;
-              notes = subst (λ (d : Database). AllByRecursion (IsReadIn d) told) (sym (state_at_push s.origin s.history made t.number (omega (arith, below)))) was.notes;
+              notes = subst (λ (d : Database). AllByRecursion (IsTrueIn d) told) (sym (state_at_push s.origin s.history made t.number (omega (arith, below)))) was.notes;
             };
       }
 

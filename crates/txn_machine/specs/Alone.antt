@@ -65,12 +65,6 @@ IsTrueIn db (Found number interval rows kept) = read (with_changes kept db) numb
 IsTrueIn db (WasThere place new before kept) = before ≡ get (redo kept db.rows) place
 IsTrueIn db (TookBack kept) = Unit {0}
 
--- the rows are those that an interval has in a database, views evaluated afresh
-abbrev pub IsReadIn : Database → Told → Type 0
-IsReadIn db (Found number interval rows kept) = read db number interval ≡ rows
-IsReadIn db (WasThere place new before kept) = ⊥
-IsReadIn db (TookBack kept) = ⊥
-
 -- ---- programs
 
 -- a transaction's reads and writes, each with what follows when it is told
@@ -106,10 +100,6 @@ IsLed p told q cs = Goes (λ t. Unit {0}) p told q cs
 -- the program that runs alone on the database is told the same, and comes here
 abbrev pub RunsAlone : {R : Type 0} → Database → Program R → List Told → Program R → List RowChange → Type 0
 RunsAlone db p told q cs = Goes (IsTrueIn db) p told q cs
-
--- a program that only reads is told the same of the database
-abbrev pub ReadsAlone : {R : Type 0} → Database → Program R → List Told → Program R → List RowChange → Type 0
-ReadsAlone db p told q cs = Goes (IsReadIn db) p told q cs
 
 -- ---- runs with what was told
 

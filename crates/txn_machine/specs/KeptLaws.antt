@@ -21,7 +21,7 @@ use Rattle.txn_machine.specs.Ghosts.{MayRead}
 use Rattle.txn_machine.specs.State.{State, most_steps}
 use Rattle.txn_machine.specs.May.{IsOpen}
 use Rattle.txn_machine.specs.Steps.{Did, Step}
-use Rattle.txn_machine.specs.Alone.{Told, Found, WasThere, TookBack, Story, IsTrueIn, IsReadIn, without_latest, with_changes}
+use Rattle.txn_machine.specs.Alone.{Told, Found, WasThere, TookBack, Story, IsTrueIn, without_latest, with_changes}
 use Rattle.txn_machine.specs.Laws.{IsReached, IsReachedStory, changes_above}
 use Rattle.iv_types.specs.declared.lock.GroupDelta.{GroupDelta}
 use Rattle.txn_machine.specs.Stored.{AreStored}
@@ -53,7 +53,7 @@ abbrev pub ToldLaw : Type 0
 ToldLaw = (story : Story) → IsReachedStory story → (session : ℕ) → (o : IsOpen story.state.store session)
     → (o.transaction.mode ≡ Serial → All (IsTrueIn (committed story.state.store)) (story.told session) × (kept_after (story.told session) ≡ changes_by story.state.store session))
     × (o.transaction.mode ≡ Snapshot →
-    All (IsReadIn (state_at story.state.store.origin story.state.store.history o.transaction.number)) (story.told session) × (changes_by story.state.store session ≡ []))
+    All (IsTrueIn (state_at story.state.store.origin story.state.store.history o.transaction.number)) (story.told session) × (changes_by story.state.store session ≡ []))
 
 -- of kept steps, of which the latest stands first, so many of the oldest
 abbrev pub oldest : ℕ → List KeptStep → List KeptStep

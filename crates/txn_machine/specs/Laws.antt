@@ -29,7 +29,7 @@ use Rattle.iv_types.specs.declared.session.Sessions.{Sessions}
 use Rattle.iv_types.specs.declared.session.Cycle.{Cycle}
 use Rattle.iv_types.specs.declared.refusal.EngineRefusal.TheVariants as refusal
 use Rattle.iv_types.specs.Replies.{members}
-use Rattle.txn_machine.specs.Alone.{Story, Program, begun_story, Tells, with_changes, IsLed, RunsAlone, ReadsAlone}
+use Rattle.txn_machine.specs.Alone.{Story, Program, begun_story, Tells, with_changes, IsLed, RunsAlone}
 use Rattle.txn_machine.specs.May.{GoesOn, IsOpen, IsReady, MayPeek, Owes}
 use Rattle.iv_meaning.specs.Escrow.{IsSession, over_sessions, paid, inf, sup, value}
 use Rattle.txn_machine.specs.Locks.{Meet}
@@ -219,7 +219,7 @@ RepliesLaw = (story : Story) → IsReachedStory story → (session : ℕ) → (o
 abbrev pub SnapshotRepliesLaw : Type 0
 SnapshotRepliesLaw = (story : Story) → IsReachedStory story → (session : ℕ) → (o : IsOpen story.state.store session) → o.transaction.mode ≡ Snapshot
     → (p q : Program (List Reply)) (cs : List RowChange) → IsLed p (story.told session) q cs
-    → ReadsAlone (state_at story.state.store.origin story.state.store.history o.transaction.number) p (story.told session) q cs
+    → RunsAlone (state_at story.state.store.origin story.state.store.history o.transaction.number) p (story.told session) q cs
 
 -- a commit that keeps changes is the entry of its number: what was committed before it is the state at the number before, and
 -- what is committed after it the state at its number

@@ -1,0 +1,54 @@
+-- The machine of transactions as its sessions see it.
+use Rattle.std.specs.Prelude.{◌≡◌, ℕ, List, [], ◌∷◌, Option, Some, None, IsSome}
+use Rattle.std.specs.Option.{option_map}
+use Rattle.iv_types.specs.declared.refusal.Refusal.{Refusal}
+use Rattle.iv_types.specs.declared.refusal.EngineRefusal.{EngineRefusal}
+use Rattle.iv_meaning.specs.Schema.{Schema}
+use Rattle.iv_meaning.specs.Database.{Database}
+use Rattle.iv_meaning.specs.Said.{Said}
+use Rattle.iv_meaning.specs.Serial.{opened_with, IsSerialFrom}
+use Rattle.txn_machine.specs.Acts.{Act}
+use Rattle.txn_machine.specs.Answers.{Answer}
+use Rattle.txn_machine.specs.Deltas.{RowChange}
+use Rattle.txn_machine.specs.Keeping.{KeptStep, Put, Pay, Open}
+use Rattle.txn_machine.specs.Stored.{ViewRows}
+use Rattle.txn_machine.specs.Store.{opened, schema_of}
+use Rattle.txn_machine.specs.Log.{Opening}
+use Rattle.txn_machine.specs.State.{State, opened_state}
+use Rattle.txn_machine.specs.Steps.{Step}
+use Rattle.txn_machine.specs.Alone.{Told, Story, story_after, begun_story}
+use Rattle.txn_machine.specs.Laws.{IsOpened}
+use Rattle.script_law.specs.Seen.{Txn, Visible}
+use Rattle.script_law.specs.Programs.{Programs, ProgramLaws}
+use Rattle.script_law.specs.RunLines.{RunsScript}
+use Rattle.script_law.specs.Laws.{AreEngines}
+
+-- of kept steps: a change, or a pay
+abbrev pub kept_seen : List KeptStep → List (Option RowChange)
+kept_seen [] = []
+kept_seen (Put c owed ∷ ks) = Some c ∷ kept_seen ks
+kept_seen (Pay d ∷ ks) = None ∷ kept_seen ks
+
+abbrev pub txn_seen : Schema → List Told → Open → Txn
+txn_seen objects told o = record { mode = o.mode; number = o.number; objects = objects; told = told; kept = kept_seen o.kept }
+
+abbrev pub seen_of : Story → Visible
+seen_of story = record {
+  origin = story.state.store.origin;
+  history = story.state.store.history;
+  open_of = λ session. option_map (txn_seen (schema_of story.state.store) (story.told session)) (story.state.store.open_of session);
+}
+
+-- a step of the machine, with what its session was told
+abbrev pub DoesOf : Story → ℕ → Act → Answer → Story → Type 0
+DoesOf story session a said after = (s : State) × Step story.state session a said s × (after ≡ story_after story (record { session = session; act = a; said = said }) s)
+
+abbrev pub IsStopped : Story → Type 0
+IsStopped story = IsSome story.state.stop
+
+-- what a script prints that is run over the machine, from an opened database, is serial
+abbrev pub MachineLaw : Type 0
+MachineLaw = (programs : Programs) (tell : EngineRefusal → Refusal) → ProgramLaws programs → AreEngines tell
+    → (db : Database) (view : ViewRows) (opening : Opening) → IsOpened db view → (all : List ℕ) (lines : List Said) (out : List ℕ) (after : Story)
+    → RunsScript DoesOf programs tell seen_of all lines (begun_story (opened_state opening (opened db view))) out after
+    → IsSerialFrom (opened_with db) lines out
