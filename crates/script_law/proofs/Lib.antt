@@ -8,3 +8,6 @@ pub mod Owning
 pub mod Running
 pub mod Showing
 pub mod OverMachine
+pub mod Changing
+pub mod Working
+pub mod Lone

@@ -3,3 +3,5 @@ pub mod Programs
 pub mod RunLines
 pub mod Laws
 pub mod Machine
+pub mod Works
+pub mod Sessions

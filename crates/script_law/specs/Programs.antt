@@ -1,11 +1,11 @@
 -- Statements as programs of steps, and when a session's programs are right: what they tell is what the lone transaction is told
 -- on every database in which all that they were told is so.
-use Rattle.std.specs.Prelude.{◌≡◌, ℕ, Bool, true, false, IsTrue, ◌⊎◌, ◌||◌, List, [], ◌∷◌, ◌++◌, map, length, Option, Some, None}
+use Rattle.std.specs.Prelude.{◌≡◌, ℕ, Bool, true, false, IsTrue, ◌⊎◌, ◌||◌, List, [], ◌∷◌, ◌++◌, ◌-◌, map, length, drop, Option, Some, None}
 use Rattle.iv_types.specs.declared.refusal.Refusal.{Refusal}
 use Rattle.iv_types.specs.declared.reply.Reply.{Reply}
 use Rattle.iv_types.specs.declared.reply.Reply.TheVariants as reply
 use Rattle.iv_types.specs.declared.statement.Mode.{Mode}
-use Rattle.iv_types.specs.declared.statement.Mode.TheVariants.{Serial}
+use Rattle.iv_types.specs.declared.statement.Mode.TheVariants.{Serial, Snapshot}
 use Rattle.iv_types.specs.Syntax.{StatementTree, begin, commit, rollback}
 use Rattle.iv_meaning.specs.Schema.{Schema}
 use Rattle.iv_meaning.specs.Database.{Database}
@@ -54,13 +54,21 @@ lone o db = alone o.mode (map (λ p. p.0) o.told) db
 abbrev pub IsToldAlone : Open → Database → Type 0
 IsToldAlone o db = (lone o db).0 ≡ map (λ p. p.1) o.told
 
--- The savepoints of a lone transaction are those that a session marked by how many steps were kept: before each the transaction
--- kept the earlier of these steps.
+-- of kept steps, of which the latest stands first, so many of the oldest
+abbrev pub oldest : ℕ → List (Option RowChange) → List (Option RowChange)
+oldest many kept = drop (length kept - many) kept
+
+-- savepoints are marked by how many steps were kept, the latest first
+abbrev pub AreMarks : List (Option RowChange) → List (List ℕ × ℕ) → Type 0
+AreMarks kept [] = Unit {0}
+AreMarks kept (mark ∷ marks) =
+    (later : List (Option RowChange)) × (earlier : List (Option RowChange)) × (kept ≡ later ++ earlier) × (length earlier ≡ mark.1) × AreMarks earlier marks
+
+-- a lone transaction's savepoints are these: before each it kept so many of the oldest of these steps
 abbrev pub AreSaved : Database → List (Option RowChange) → List Saved → List (List ℕ × ℕ) → Type 0
 AreSaved db kept [] [] = Unit {0}
 AreSaved db kept (s ∷ ss) (mark ∷ marks) =
-    (later : List (Option RowChange)) × (earlier : List (Option RowChange)) × (kept ≡ later ++ earlier) × (length earlier ≡ mark.1)
-    × (s.kept ≡ in_order (changes earlier)) × (s.db ≡ keep_all s.kept db) × AreSaved db earlier ss marks
+    (s.kept ≡ in_order (changes (oldest mark.1 kept))) × (s.db ≡ keep_all s.kept db) × AreSaved db (oldest mark.1 kept) ss marks
 AreSaved db kept _ _ = ⊥
 
 -- a lone transaction keeps what this one keeps
@@ -90,6 +98,9 @@ pub record IsAt (stopped : Bool) (o : Open) (t : Txn) (standing : Standing) : Ty
   pub names : (db : Database) → IsTruthful db t → names_of (lone o db).1.saved ≡ marked_names standing.saved
   pub fits : IsTrue stopped ⊎ ((db : Database) → IsTruthful db t → Fits t standing db (lone o db).1)
   pub counts : IsTrue stopped ⊎ (length t.kept ≡ standing.kept)
+  pub marks : IsTrue stopped ⊎ AreMarks t.kept standing.saved
+  -- a snapshot keeps nothing
+  pub snapshot : IsTrue stopped ⊎ (o.mode ≡ Snapshot → t.kept ≡ [])
 
 -- no transaction is open, unless the engine is known to be stopped
 abbrev pub IsOut : Bool → Option Txn → Type 0
