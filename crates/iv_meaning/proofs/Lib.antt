@@ -10,3 +10,4 @@ pub mod Saying
 pub mod SerialRuns
 pub mod SerialTurns
 pub mod SerialMisses
+pub mod RangeLemmas

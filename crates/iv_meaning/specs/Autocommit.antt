@@ -1,5 +1,5 @@
 -- Statements that are transactions of their own: which of them are built, and what one is told.
-use Rattle.std.specs.Prelude.{◌≡◌, ◌⊎◌, Bool, true, false, not, List, [], ◌∷◌, Option, Some, is_some, Result, Ok, if◌then◌else◌}
+use Rattle.std.specs.Prelude.{◌≡◌, ◌⊎◌, Bool, true, false, not, List, [], ◌∷◌, Option, Some, None, is_some, Result, Ok, Err, if◌then◌else◌}
 use Rattle.std.specs.List.{list_any}
 use Rattle.iv_types.specs.declared.refusal.Refusal.{Refusal}
 use Rattle.iv_types.specs.declared.refusal.Refusal.TheVariants.{NumberRange, NoMemory}
@@ -10,9 +10,9 @@ use Rattle.iv_meaning.specs.Schema.{Object, view, numbered}
 use Rattle.iv_meaning.specs.Database.{Database}
 use Rattle.iv_meaning.specs.View.{whole_view}
 use Rattle.iv_meaning.specs.Binding.{bind}
-use Rattle.iv_meaning.specs.Statement.{BoundTree, Refused}
+use Rattle.iv_meaning.specs.Statement.{BoundTree, Meaning, Refused, bound_meaning}
 use Rattle.iv_meaning.specs.Statement as bound
-use Rattle.iv_meaning.specs.Transaction.{Transaction, ended_by, outside}
+use Rattle.iv_meaning.specs.Transaction.{Transaction, refused_outside, ended_by}
 
 abbrev pub has_no_join : List JoinTree → Bool
 has_no_join [] = true
@@ -36,15 +36,24 @@ abbrev pub is_refused_whole : Database → Option Object → Bool
 is_refused_whole db (Some (view v)) = not (is_some (whole_view db.schema db.rows v))
 is_refused_whole db _ = false
 
--- a SELECT names such a view
-abbrev pub names_refused : Database → Result BoundTree Refusal → Bool
-names_refused db (Ok (bound.select query)) = list_any (λ n. is_refused_whole db (numbered db.schema n)) query.relations
-names_refused db _ = false
+-- what a bound statement means where views are evaluated whole: a SELECT that names such a view is refused, whatever its WHERE
+abbrev pub whole_meaning : BoundTree → Database → Meaning
+whole_meaning (bound.select query) db = if list_any (λ n. is_refused_whole db (numbered db.schema n)) query.relations then Refused NumberRange else bound_meaning (bound.select query) db
+whole_meaning statement db = bound_meaning statement db
 
--- A statement outside a transaction, where views are evaluated whole: a SELECT that names one of which a sum leaves the HUGE
--- range is refused, whatever its WHERE.
+abbrev pub whole_or_refused : Result BoundTree Refusal → Database → Meaning
+whole_or_refused (Ok statement) db = whole_meaning statement db
+whole_or_refused (Err refusal) db = Refused refusal
+
+abbrev pub means_whole : StatementTree → Database → Meaning
+means_whole statement db = whole_or_refused (bind db.schema statement) db
+
+-- a statement outside a transaction, where views are evaluated whole
 abbrev pub outside_whole : StatementTree → Database → Transaction
-outside_whole statement db = if names_refused db (bind db.schema statement) then ended_by (Refused NumberRange) db else outside statement db
+outside_whole statement db = elim (refused_outside statement) [
+  | Some refusal ↦ ended_by (Refused refusal) db
+  | None ↦ ended_by (means_whole statement db) db
+]
 
 -- the statement ran alone, as a transaction of its own
 pub record RunsAlone (statement : StatementTree) (before : Database) (replies : List Reply) (after : Database) : Type 0 where

@@ -1,7 +1,7 @@
 -- How a statement is bound to what a database defines: names become numbers, or the statement is refused by the first
 -- pass that finds a fault.
 use Rattle.std.specs.Prelude.{ℕ, ℤ, pos, negsuc, ◌+◌, ◌-◌, ◌==◌, ◌&&◌, Bool, true, false, List, [], ◌∷◌, ◌++◌, map, length, slice_get, Option, Some, None, Result, Ok, Err, if◌then◌else◌}
-use Rattle.std.specs.List.{flat_map, filter_map, list_any}
+use Rattle.std.specs.List.{flat_map, filter_map}
 use Rattle.std.specs.Option.{option_map, option_map_or, option_and_then, option_to_list, unwrap_or}
 use Rattle.iv_types.specs.declared.refusal.Refusal.{Refusal}
 use Rattle.iv_types.specs.declared.refusal.Refusal.TheVariants.{WrongType, WrongShape, Limit, NeedsIndex}
@@ -12,13 +12,12 @@ use Rattle.iv_types.specs.declared.catalog.Second.{Second}
 use Rattle.iv_types.specs.declared.catalog.TableDef.{TableDef}
 use Rattle.iv_types.specs.declared.catalog.IndexDef.{IndexDef}
 use Rattle.iv_types.specs.declared.expression.ColumnAt.{ColumnAt}
-use Rattle.iv_types.specs.Syntax as s
 use Rattle.iv_types.specs.Syntax.{Tree, QueryTree, JoinTree, StatementTree, create_table, create_index, create_view, insert, update, delete, select}
-use Rattle.iv_meaning.specs.Schema.{Schema, Object, table, index, view, as_table, indexes_of}
+use Rattle.iv_meaning.specs.Schema.{Schema, Object, table, index, view, indexes_of}
 use Rattle.iv_meaning.specs.Names.{Visible, seen_as, scope_of, bound, name_faults}
 use Rattle.iv_meaning.specs.Types.{well_typed}
 use Rattle.iv_meaning.specs.Shape.{NamedItem, Bounded, rules_of, limits_of, items_of, group_of, places_of, table_of, terms, joins_by, is_named, object_number}
-use Rattle.iv_meaning.specs.Query.{BoundItem, sum, count, plain, BoundOrder, BoundQuery}
+use Rattle.iv_meaning.specs.Query.{BoundItem, sum, BoundOrder, BoundQuery}
 use Rattle.iv_meaning.specs.Statement as bound_
 use Rattle.iv_meaning.specs.Statement.{BoundTree, BoundSet}
 

@@ -1,27 +1,23 @@
 -- The shape rules of statements, and their limits.
-use Rattle.std.specs.Prelude.{ℕ, ℤ, pos, ◌+◌, ◌-◌, ◌==◌, ◌&&◌, ◌||◌, nat_lt, nat_le, not, is_some, Bool, true, false, List, [], ◌∷◌, ◌++◌, map, length, slice_get, filter, int_le, Option, Some, None, Ok, Err, if◌then◌else◌}
+use Rattle.std.specs.Prelude.{ℕ, pos, ◌+◌, ◌==◌, ◌&&◌, ◌||◌, nat_lt, not, is_some, Bool, true, false, List, [], ◌∷◌, ◌++◌, map, length, slice_get, int_le, Option, Some, None, Ok, Err, if◌then◌else◌}
 use Rattle.std.specs.List.{flat_map, filter_map, list_any, list_all}
-use Rattle.std.specs.Option.{option_map, option_map_or, option_and_then, option_to_list, unwrap_or}
+use Rattle.std.specs.Option.{option_map_or, option_and_then}
 use Rattle.std.specs.Str.{bytes_eq}
 use Rattle.iv_types.specs.declared.value.Kind.{Kind}
 use Rattle.iv_types.specs.declared.value.Kind.TheVariants.{Int, Huge, Text}
-use Rattle.iv_types.specs.declared.expression.Op.{Op}
 use Rattle.iv_types.specs.declared.expression.Op.TheVariants as op
 use Rattle.iv_types.specs.declared.expression.Ref.{Ref}
 use Rattle.iv_types.specs.declared.expression.ColumnAt.{ColumnAt}
 use Rattle.iv_types.specs.declared.catalog.TableDef.{TableDef}
-use Rattle.iv_types.specs.declared.catalog.IndexDef.{IndexDef}
-use Rattle.iv_types.specs.declared.statement.Order.{Order}
 use Rattle.iv_types.specs.declared.statement.OrderKey.{OrderKey}
 use Rattle.iv_types.specs.declared.statement.OrderKey.TheVariants.{Place, Name}
 use Rattle.iv_types.specs.Syntax as s
 use Rattle.iv_types.specs.Syntax.{Tree, ItemTree, QueryTree, JoinTree, SetTree, StatementTree, create_table, create_index, create_view, insert, update, delete, select}
 use Rattle.iv_types.specs.Printing.{statement_size}
-use Rattle.iv_meaning.specs.Schema as schema
 use Rattle.iv_types.specs.Definitions.{kinds_of}
-use Rattle.iv_meaning.specs.Schema.{Schema, Object, ViewTree, as_table, as_index, as_view, table, index, view, items_at, key_kinds, kind_at, sources_of}
+use Rattle.iv_meaning.specs.Schema.{Schema, Object, as_table, as_index, as_view, table, index, view, items_at, kind_at, sources_of}
 use Rattle.iv_meaning.specs.Query.{BoundItem, count, sum, plain}
-use Rattle.iv_meaning.specs.Names.{Visible, seen_as, scope_of, resolve, bound, columns_named, how_many, is_among}
+use Rattle.iv_meaning.specs.Names.{Visible, seen_as, scope_of, resolve, bound, columns_named, how_many}
 
 -- ---- places
 

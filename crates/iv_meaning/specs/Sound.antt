@@ -1,16 +1,15 @@
 -- What laws ask of a database. Each object has its number. The columns of a table's key, of an index and of a view's groups
 -- are there, and a view reads tables. Each row fits its table and stands under its key.
-use Rattle.std.specs.Prelude.{◌≡◌, ◌<◌, ℕ, List, length, map, Option, Some}
+use Rattle.std.specs.Prelude.{◌≡◌, ◌<◌, ℕ, List, length, map, Some}
 use Rattle.std.specs.List.{All}
 use Rattle.std.specs.FinMap.{get}
 use Rattle.iv_types.specs.declared.catalog.TableDef.{TableDef}
 use Rattle.iv_types.specs.declared.catalog.IndexDef.{IndexDef}
-use Rattle.iv_types.specs.declared.catalog.Second.{Second}
 use Rattle.iv_types.specs.Definitions.{kinds_of}
 use Rattle.iv_types.specs.Encoding.{FitAll}
 use Rattle.table_laws.specs.Place.{Place}
 use Rattle.iv_meaning.specs.Schema.{Schema, Object, table, index, view, ViewTree, numbered, sources_of, kinds_of_table, kind_at}
-use Rattle.iv_meaning.specs.Database.{Row, Rows, Database, key_of}
+use Rattle.iv_meaning.specs.Database.{Row, Database, key_of}
 
 -- places of columns of a table
 abbrev pub AreColumns : TableDef → List ℕ → Type 0

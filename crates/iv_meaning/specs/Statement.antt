@@ -1,7 +1,6 @@
 -- What a bound statement means on a database: it is refused, or it lists rows, counts rows and keeps changes.
-use Rattle.std.specs.Prelude.{ℕ, ℤ, pos, neg_ℤ, ◌+◌, ◌==◌, ◌^◌, ◌-◌, ◌&&◌, int_le, nat_le, not, Bool, true, false, List, [], ◌∷◌, ◌++◌, map, filter, length, slice_get, is_some, Option, Some, None, if◌then◌else◌}
-use Rattle.std.specs.List.{list_all, filter_map}
-use Rattle.std.specs.Option.{option_to_list, option_map, option_and_then, option_zip}
+use Rattle.std.specs.Prelude.{ℕ, pos, neg_ℤ, ◌+◌, ◌==◌, ◌^◌, ◌-◌, ◌&&◌, int_le, nat_le, not, Bool, false, List, [], ◌∷◌, ◌++◌, map, filter, length, is_some, Option, Some, None, if◌then◌else◌}
+use Rattle.std.specs.Option.{option_to_list, option_map, option_and_then}
 use Rattle.std.specs.FinMap.{get}
 use Rattle.std.specs.Ordering.{eq_by_cmp}
 use Rattle.iv_types.specs.declared.value.Kind.{Kind}
@@ -15,9 +14,9 @@ use Rattle.iv_types.specs.Syntax.{Tree}
 use Rattle.std.specs.Str.{is_utf8}
 use Rattle.iv_types.specs.Encoding.{row_cmp, longest_text}
 use Rattle.table_laws.specs.Place.{Place}
-use Rattle.table_laws.specs.Kept.{Change, redo}
+use Rattle.table_laws.specs.Kept.{Change}
 use Rattle.iv_types.specs.Definitions.{kinds_of}
-use Rattle.iv_meaning.specs.Schema.{Schema, Object, view, numbered, as_table}
+use Rattle.iv_meaning.specs.Schema.{Object, view, numbered, as_table}
 use Rattle.iv_meaning.specs.Database.{Row, Rows, Database, rows_of, key_of, set_row}
 use Rattle.iv_meaning.specs.Values.{Outcome, meaning, value_of, is_huge}
 use Rattle.iv_meaning.specs.Query.{BoundQuery, chosen, conjunction}

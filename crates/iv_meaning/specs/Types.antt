@@ -1,17 +1,15 @@
 -- The types of a statement's expressions.
-use Rattle.std.specs.Prelude.{ℕ, ◌&&◌, Bool, true, false, List, [], ◌∷◌, map, Option, Some, None, Ok, Err}
+use Rattle.std.specs.Prelude.{ℕ, ◌&&◌, Bool, true, false, List, [], ◌∷◌, map, Option, Some, None}
 use Rattle.std.specs.List.{list_all}
-use Rattle.std.specs.Option.{option_map, option_map_or, option_and_then}
+use Rattle.std.specs.Option.{option_map, option_map_or}
 use Rattle.iv_types.specs.declared.value.Kind.{Kind}
 use Rattle.iv_types.specs.declared.value.Kind.TheVariants.{Int, Huge, Text}
 use Rattle.iv_types.specs.declared.expression.Op.{Op}
 use Rattle.iv_types.specs.declared.expression.Op.TheVariants as op
-use Rattle.iv_types.specs.declared.expression.Ref.{Ref}
-use Rattle.iv_types.specs.declared.expression.ColumnAt.{ColumnAt}
 use Rattle.iv_types.specs.Syntax as s
 use Rattle.iv_types.specs.Syntax.{Tree, ItemTree, all, count, sum, plain, QueryTree, SetTree, StatementTree, create_table, create_index, create_view, insert, update, delete, select}
 use Rattle.iv_meaning.specs.Schema.{Schema, kind_at}
-use Rattle.iv_meaning.specs.Names.{Visible, seen_as, scope_of, resolve, bound, columns_named}
+use Rattle.iv_meaning.specs.Names.{Visible, seen_as, scope_of, bound, columns_named}
 
 pub data Family : Type 0 where
   number : Family

@@ -1,5 +1,5 @@
 -- Lemmas on how a transaction ends.
-use Rattle.std.specs.Prelude.{◌≡◌, ◌==◌, ◌≢◌, ◌⊎◌, ◌+◌, ◌-◌, ℕ, suc, true, List, [], ◌∷◌, ◌++◌, map, length, slice_get, Option, Some, None, Err, if◌then◌else◌}
+use Rattle.std.specs.Prelude.{◌≡◌, ◌==◌, ◌≢◌, ◌⊎◌, ◌+◌, ◌-◌, ℕ, suc, true, not, is_some, List, [], ◌∷◌, ◌++◌, map, length, slice_get, Option, Some, None, Err, if◌then◌else◌}
 use Rattle.std.specs.FinMap.{entries, empty, entries_sorted, get-entries, get-empty}
 use Rattle.std.specs.FinMap.Entries.{same_entries}
 use Rattle.table_laws.specs.Place.{place_cmp}
@@ -20,15 +20,16 @@ use Rattle.iv_meaning.specs.Statement as bound
 use Rattle.iv_types.specs.Syntax.{StatementTree, create_table, create_index, create_view, insert, update, delete, select, begin, commit, rollback, savepoint}
 use Rattle.iv_meaning.specs.Database.{Row, Database}
 use Rattle.iv_meaning.specs.Statement.{Kept, sets, defines, Meaning, Refused, Accepted, keep, keep_all, select_meaning, bound_meaning}
-use Rattle.iv_meaning.specs.Transaction.{ended_by, next_number, committed, means, outside}
+use Rattle.iv_meaning.specs.Transaction.{ended_by, next_number, committed}
 use Rattle.iv_meaning.specs.Reading.{replies_of}
-use Rattle.iv_meaning.specs.Autocommit.{is_built}
+use Rattle.iv_meaning.specs.Autocommit.{is_built, whole_meaning, means_whole, outside_whole}
 use Rattle.list_engine.specs.declared.engine.ListEngine.{ListEngine}
 use Rattle.std.specs.List.{AllByRecursion}
 use Rattle.std.specs.Option.{option_and_then}
 use Rattle.iv_meaning.specs.Query.{BoundQuery, answer}
 use Rattle.row_eval.specs.Grouped.{Gives}
 use Rattle.list_store.specs.Held.{Holds, IsEvaluated, sources}
+use Rattle.list_store.proofs.HeldLemmas.{any_refused}
 use Rattle.list_engine.specs.Engine.{HasDatabase, IsIn, Answers, EndsAs, is_done, with_commit, IsSelected}
 
 -- ---- databases
@@ -111,16 +112,24 @@ selected_ends db o read replies engine is e = elim e.told [
   | inr over ↦ record { after = db; told = inr over; holds = e.holds }
 ]
 
-refused_by : (o : Option (List (List Row))) (q : BoundQuery) (why : Refusal) → Gives o (Err why) → (why ≡ NoMemory) ⊎ (select_meaning (option_and_then (answer q) o) ≡ Refused why)
-refused_by (Some found) q why g = inl g
-refused_by None q why g = elim g [
-  | inl range ↦ inr (ap Refused (sym range))
+-- a SELECT by whether one of its relations is refused
+by_relations : (db : Database) (q : BoundQuery) (o : Option (List (List Row))) → sources db q.relations ≡ o → whole_meaning (bound.select q) db ≡ (if not (is_some o) then Refused NumberRange else bound_meaning (bound.select q) db)
+by_relations db q o e = ap (λ b. if b then Refused NumberRange else bound_meaning (bound.select q) db) (any_refused db q.relations ∙ ap (λ x. not (is_some x)) e)
+
+refused_by : (db : Database) (q : BoundQuery) (o : Option (List (List Row))) → sources db q.relations ≡ o → (why : Refusal) → Gives o (Err why) → (why ≡ NoMemory) ⊎ (whole_meaning (bound.select q) db ≡ Refused why)
+refused_by db q (Some found) e why g = inl g
+refused_by db q None e why g = elim g [
+  | inl range ↦ inr (by_relations db q None e ∙ ap Refused (sym range))
   | inr memory ↦ inl memory
 ]
 
 -- a view among its relations refuses it
-pub select_refused : (db : Database) (q : BoundQuery) (why : Refusal) → Gives (sources db q.relations) (Err why) → (why ≡ NoMemory) ⊎ (bound_meaning (bound.select q) db ≡ Refused why)
-select_refused db q why g = refused_by (sources db q.relations) q why g
+pub select_refused : (db : Database) (q : BoundQuery) (why : Refusal) → Gives (sources db q.relations) (Err why) → (why ≡ NoMemory) ⊎ (whole_meaning (bound.select q) db ≡ Refused why)
+select_refused db q why g = refused_by db q (sources db q.relations) refl why g
+
+-- where none of them does, it means what it does anywhere
+pub select_accepted : (db : Database) (q : BoundQuery) (found : List (List Row)) → sources db q.relations ≡ Some found → whole_meaning (bound.select q) db ≡ bound_meaning (bound.select q) db
+select_accepted db q found e = by_relations db q (Some found) e
 
 -- with other views that are evaluated
 pub with_more : (engine : ListEngine) (db : Database) (views : List RowsOf) → IsIn engine db → AllByRecursion (IsEvaluated db) views → IsIn (record engine { views = views }) db
@@ -132,7 +141,7 @@ with_more engine db views i h = record {
 
 -- ---- statements
 
-of_its_own : (s : StatementTree) (db : Database) → is_built s ≡ true → ended_by (means s db) db ≡ outside s db
+of_its_own : (s : StatementTree) (db : Database) → is_built s ≡ true → ended_by (means_whole s db) db ≡ outside_whole s db
 of_its_own (create_table name columns primary) db e = refl
 of_its_own (create_index name of columns) db e = absurd (cc)
 of_its_own (create_view name query) db e = refl
@@ -145,7 +154,7 @@ of_its_own commit db e = absurd (cc)
 of_its_own (rollback to) db e = absurd (cc)
 of_its_own (savepoint name) db e = absurd (cc)
 
-pub answers : (s : StatementTree) (db : Database) (replies : List Reply) (engine : ListEngine) → is_built s ≡ true → EndsAs (means s db) db replies engine → Answers s db replies engine
+pub answers : (s : StatementTree) (db : Database) (replies : List Reply) (engine : ListEngine) → is_built s ≡ true → EndsAs (means_whole s db) db replies engine → Answers s db replies engine
 answers s db replies engine built e = record {
   after = e.after;
   told = elim e.told [

@@ -15,10 +15,13 @@ use Rattle.iv_types.specs.declared.refusal.EngineRefusal.{EngineRefusal}
 use Rattle.iv_types.specs.declared.refusal.EngineRefusal.TheVariants as refusal
 use Rattle.iv_types.specs.declared.reply.Reply.{Reply}
 use Rattle.iv_types.specs.declared.reply.Reply.TheVariants as reply
-use Rattle.iv_types.specs.Syntax.{statement_tree}
+use Rattle.iv_types.specs.Syntax.{StatementTree, statement_tree, create_table, create_index, create_view, insert, update, delete, select, begin, commit, rollback, savepoint}
 use Rattle.iv_meaning.specs.Database.{Database}
-use Rattle.iv_meaning.specs.Statement.{defines, keep}
-use Rattle.iv_meaning.specs.Transaction.{means}
+use Rattle.iv_meaning.specs.Schema.{Object}
+use Rattle.iv_meaning.specs.Statement.{create, defines, keep}
+use Rattle.iv_meaning.specs.Binding.{faults, unless}
+use Rattle.iv_meaning.specs.Transaction.{means, bound_or_refused}
+use Rattle.iv_meaning.specs.Autocommit.{means_whole, whole_or_refused}
 use Rattle.txn_book.specs.declared.step.Step.{Step}
 use Rattle.txn_book.specs.declared.step.Act.{Act}
 use Rattle.txn_book.specs.declared.step.Act.TheVariants as act
@@ -109,9 +112,31 @@ left_in engine s after st l h = subst (IsIn engine) l.committed (is_in engine af
 
 -- ---- CREATE
 
+-- a CREATE statement means the same where views are evaluated whole
+of_created : (found : List Refusal) (o : Object) (db : Database) → whole_or_refused (unless found (create o)) db ≡ bound_or_refused (unless found (create o)) db
+of_created [] o db = refl
+of_created (fault ∷ more) o db = refl
+
+means_created : (s : StatementTree) (db : Database) → IsCreate s → means_whole s db ≡ means s db
+means_created (create_table name columns primary) db is = of_created (faults db.schema (create_table name columns primary)) _ db
+means_created (create_index name of columns) db is = of_created (faults db.schema (create_index name of columns)) _ db
+means_created (create_view name query) db is = of_created (faults db.schema (create_view name query)) _ db
+means_created (insert into tuples) db is = absurd is
+means_created (update in_ ss condition) db is = absurd is
+means_created (delete in_ condition) db is = absurd is
+means_created (select query order) db is = absurd is
+means_created (begin mode) db is = absurd is
+means_created commit db is = absurd is
+means_created (rollback to) db is = absurd is
+means_created (savepoint name) db is = absurd is
+
+pub created_whole : {P : List Reply → Type 0} (new : ListEngine) (db : Database) (statement : Statement) → IsCreate (statement_tree statement)
+    → ((replies : List Reply) → P replies → EndsAs (means (statement_tree statement) db) db replies new) → (replies : List Reply) → P replies → EndsAs (means_whole (statement_tree statement) db) db replies new
+created_whole new db statement is f replies p = subst (λ m. EndsAs m db replies new) (sym (means_created (statement_tree statement) db is)) (f replies p)
+
 module _ (old new : ListEngine) (db : Database) (i : IsIn old db) (statement : Statement) (step : Step) (is : step.act ≡ act.Schema statement) where
   pub may_create : IsSession step.session → IsCreate (statement_tree statement) → May (state_of old db) step
-  may_create of_session create = inr (subst (MayAct (state_of old db) step.session) (sym is) (of_session, closed_in old db i step.session, create))
+  may_create of_session creates = inr (subst (MayAct (state_of old db) step.session) (sym is) (of_session, closed_in old db i step.session, creates))
 
   pub create_done : (number : ℕ) → Moves (Stands new) (state_of old db) step (answer.Committed number) → (replies : List Reply)
       → replies ≡ reply.Done 0 ∷ reply.Commit number ∷ [] → EndsAs (means (statement_tree statement) db) db replies new

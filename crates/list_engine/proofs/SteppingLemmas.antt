@@ -15,7 +15,7 @@ use Rattle.iv_types.specs.declared.reply.Reply.{Reply}
 use Rattle.iv_types.specs.declared.refusal.EngineRefusal.TheVariants as refusal
 use Rattle.iv_meaning.specs.Schema.{numbered, schema_of}
 use Rattle.iv_meaning.specs.Database.{Row, Database}
-use Rattle.iv_meaning.specs.View.{read}
+use Rattle.iv_meaning.specs.View.{read as reader}
 use Rattle.iv_meaning.specs.Reading.{Program, replies_by}
 use Rattle.txn_book.specs.declared.step.Step.{Step}
 use Rattle.txn_book.specs.declared.step.Act.{Act}
@@ -40,11 +40,10 @@ use Rattle.iv_types.specs.declared.refusal.Refusal.{Refusal}
 use Rattle.iv_types.specs.declared.refusal.Refusal.TheVariants as range
 use Rattle.row_eval.specs.Grouped.{Gives}
 use Rattle.list_engine.specs.declared.engine.ListEngine.{ListEngine}
-use Rattle.list_store.specs.Held.{IsEvaluated, reader}
+use Rattle.list_store.specs.Held.{IsEvaluated}
 use Rattle.list_engine.specs.Parts.{nothing, part_in, open_of, IsLeastOpen}
 use Rattle.list_engine.specs.Engine.{Stands, Moved, IsReading, WasRead}
 use Rattle.list_store.specs.Made.{is_want}
-use Rattle.list_store.proofs.HeldLemmas.{told}
 use Rattle.list_engine.proofs.TurnLemmas.{IsWanted, turn_want}
 
 -- ---- parts
@@ -165,7 +164,7 @@ bound_here engine s st statement bound tree found is = ap (λ x. bind x statemen
 -- it leaves what is committed, and the open transactions, whatever it is answered
 pub fetched : (s : State) (session i : ℕ) (interval : Interval) (mode : LockMode) (a : Answer) (after : State) → Does s session (act.Fetch i interval mode) a after
     → (after.committed ≡ s.committed) × (after.open_of ≡ s.open_of)
-fetched s session i interval mode (answer.Rows rows) after d = (ap (λ t. t.committed) d.1, ap (λ t. t.open_of) d.1)
+fetched s session i interval mode (answer.Rows rows) after d = (ap (λ t. t.committed) d.2, ap (λ t. t.open_of) d.2)
 fetched s session i interval mode (answer.Denied why) after d = (ap (λ t. t.committed) d.2, ap (λ t. t.open_of) d.2)
 fetched s session i interval mode (answer.Refused refusal.NoMemory) after d = (ap (λ t. t.committed) d, ap (λ t. t.open_of) d)
 fetched s session i interval mode (answer.Refused (refusal.Deadlock cycle)) after d = absurd d
@@ -216,7 +215,7 @@ module _ (s : State) (session : ℕ) (reading : IsReading s session) (whole p : 
         | inr moved ↦
             let d : Does u.after step.session (act.Fetch w.i w.interval Share) (answer.Rows rows) m.after = subst (λ a. Does u.after step.session a (answer.Rows rows) m.after) act_is moved.1 in
             let same = fetched u.after step.session w.i w.interval Share (answer.Rows rows) m.after d in
-            let told_rows : read s.committed w.i w.interval ≡ Some rows = ap (λ db. read db w.i w.interval) (sym u.committed) ∙ d.0 in
+            let told_rows : reader s.committed w.i w.interval ≡ rows = ap (λ db. reader db w.i w.interval) (sym u.committed) ∙ d.0 in
             let more : Program = w.more rows in
             let left_is : after (Some (answer.Rows rows)) p ≡ w.more rows = ap (after (Some (answer.Rows rows))) w.is in
             record {
@@ -226,7 +225,7 @@ module _ (s : State) (session : ℕ) (reading : IsReading s session) (whole p : 
               stands = m.stands;
               asks = subst (Asks s.committed.schema) (sym left_is) ((subst (Asks s.committed.schema) w.is u.asks).1 rows);
               reads = ap (replies_by (reader s.committed)) left_is
-                  ∙ (ap (λ found. replies_by (reader s.committed) (w.more found)) (sym (told s.committed w.i w.interval rows told_rows))
+                  ∙ (ap (λ found. replies_by (reader s.committed) (w.more found)) (sym told_rows)
                   ∙ (ap (replies_by (reader s.committed)) (sym w.is) ∙ u.reads));
             }
       ]

@@ -20,7 +20,8 @@ use Rattle.txn_book.specs.declared.step.Answer.{Answer}
 use Rattle.txn_book.specs.State.{State}
 use Rattle.txn_book.specs.Steps.{IsFree, IsSession, Does}
 use Rattle.list_engine.specs.declared.engine.ListEngine.{ListEngine}
-use Rattle.list_store.specs.Held.{Holds, IsEvaluated, reader}
+use Rattle.iv_meaning.specs.View.{read as reader}
+use Rattle.list_store.specs.Held.{Holds, IsEvaluated}
 use Rattle.list_engine.specs.Parts.{part_in, open_in}
 
 -- the engine holds this database, and the rows of some of its views

@@ -7,15 +7,15 @@ ghost use Rattle.iv_meaning.specs.Binding as binding;
 ghost use Rattle.iv_meaning.specs.Statement as meaning;
 ghost use Rattle.iv_meaning.specs.Statement.{bound_meaning, Kept};
 ghost use Rattle.iv_meaning.specs.Reading.{replies_by};
-ghost use Rattle.iv_meaning.specs.Transaction.{means, next_number};
-ghost use Rattle.iv_meaning.specs.Autocommit.{is_built, IsPassedOver};
+ghost use Rattle.iv_meaning.specs.Transaction.{next_number};
+ghost use Rattle.iv_meaning.specs.Autocommit.{is_built, IsPassedOver, whole_meaning, means_whole};
 ghost use Rattle.txn_book.specs.State.{State};
 ghost use Rattle.sql_bind.specs.Bound.{bound_tree};
 ghost use Rattle.txn_book.specs.declared.step.Act.TheVariants as act;
 ghost use Rattle.txn_book.specs.Steps.{IsSession, IsCreate};
 ghost use Rattle.query_exec.specs.Tasks.{left};
 ghost use Rattle.query_laws.specs.Laws.{Asks};
-ghost use Rattle.list_store.specs.Held.{reader};
+ghost use Rattle.iv_meaning.specs.View.{read as reader};
 ghost use Rattle.list_engine.specs.Engine.{Stands, IsIn, Answers, EndsAs, IsReading, IsClosedBut, IsBegun, IsSelected, with_commit};
 
 use crate::answers::{committed, is_begun, is_ended};
@@ -43,7 +43,7 @@ fn next_number(number: u64, count: u64) -> u64
 impl ListEngine {
     // Runs a CREATE statement, which is a step.
     fn run_create(&mut self, step: &Step) -> Result<ReplyList, NoMemory>
-        ensures { (db : Database) (statement : Statement) → IsIn self.old db → IsSession step.now.session → step.now.act ≡ act.Schema statement → IsCreate (statement_tree statement) → IfOk result (λ replies. EndsAs (means (statement_tree statement) db) db replies self.new) }
+        ensures { (db : Database) (statement : Statement) → IsIn self.old db → IsSession step.now.session → step.now.act ≡ act.Schema statement → IsCreate (statement_tree statement) → IfOk result (λ replies. EndsAs (means_whole (statement_tree statement) db) db replies self.new) }
     {
         match self.step(step) {
             Answer::Committed(number) => done(self.alloc, 0, number),
@@ -149,7 +149,7 @@ impl ListEngine {
 
     // Runs a SELECT.
     fn run_select(&mut self, session: u32, bound: Bound) -> Result<ReplyList, NoMemory>
-        ensures { (db : Database) (s : StatementTree) (q : BoundQuery) → IsIn self.old db → IsSession session → binding.bind db.schema s ≡ Ok (meaning.select q) → bound_tree bound ≡ meaning.select q → IfOk result (λ replies. EndsAs (bound_meaning (meaning.select q) db) db replies self.new) }
+        ensures { (db : Database) (s : StatementTree) (q : BoundQuery) → IsIn self.old db → IsSession session → binding.bind db.schema s ≡ Ok (meaning.select q) → bound_tree bound ≡ meaning.select q → IfOk result (λ replies. EndsAs (whole_meaning (meaning.select q) db) db replies self.new) }
     {
         let Ok(plan) = plan(self.alloc, &self.catalog, &bound, Mode::Serial) else {
             return refused(self.alloc, Refusal::NoMemory);
@@ -172,7 +172,7 @@ impl ListEngine {
 
     // Runs a bound statement that is no CREATE.
     fn run_bound(&mut self, session: u32, bound: Bound) -> Result<ReplyList, NoMemory>
-        ensures { (db : Database) (s : StatementTree) → IsIn self.old db → IsSession session → binding.bind db.schema s ≡ Ok (bound_tree bound) → IfOk result (λ replies. EndsAs (bound_meaning (bound_tree bound) db) db replies self.new) }
+        ensures { (db : Database) (s : StatementTree) → IsIn self.old db → IsSession session → binding.bind db.schema s ≡ Ok (bound_tree bound) → IfOk result (λ replies. EndsAs (whole_meaning (bound_tree bound) db) db replies self.new) }
     {
         match bound {
             Bound::Insert { table, tuples } => self.run_insert(table, &tuples),
@@ -184,7 +184,7 @@ impl ListEngine {
 
     // Runs a statement that is no CREATE.
     fn run_parsed(&mut self, session: u32, statement: &Statement) -> Result<ReplyList, NoMemory>
-        ensures { (db : Database) → IsIn self.old db → IsSession session → IfOk result (λ replies. EndsAs (means (statement_tree statement.now) db) db replies self.new) }
+        ensures { (db : Database) → IsIn self.old db → IsSession session → IfOk result (λ replies. EndsAs (means_whole (statement_tree statement.now) db) db replies self.new) }
     {
         match bind(self.alloc, &self.catalog, statement) {
             Ok(bound) => self.run_bound(session, bound),
@@ -194,7 +194,7 @@ impl ListEngine {
 
     // Runs the statement that a step of CREATE would be of.
     fn run_step(&mut self, step: &Step) -> Result<ReplyList, NoMemory>
-        ensures { (db : Database) (statement : Statement) → IsIn self.old db → IsSession step.now.session → step.now.act ≡ act.Schema statement → IfOk result (λ replies. EndsAs (means (statement_tree statement) db) db replies self.new) }
+        ensures { (db : Database) (statement : Statement) → IsIn self.old db → IsSession step.now.session → step.now.act ≡ act.Schema statement → IfOk result (λ replies. EndsAs (means_whole (statement_tree statement) db) db replies self.new) }
     {
         let Act::Schema(statement) = &step.act else {
             return Err(NoMemory);

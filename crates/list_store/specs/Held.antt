@@ -1,15 +1,13 @@
 -- Which database some lists of rows hold, and what was evaluated of it.
-use Rattle.std.specs.Prelude.{◌≡◌, ◌==◌, ◌||◌, ℕ, Bool, false, List, [], ◌∷◌, map, Option, Some, Result, Ok, Err}
+use Rattle.std.specs.Prelude.{◌≡◌, ◌==◌, ◌||◌, ℕ, Bool, false, List, [], ◌∷◌, map, Option, Some, None, Result, Ok, Err}
 use Rattle.std.specs.List.{AllByRecursion}
-use Rattle.std.specs.Option.{unwrap_or}
-use Rattle.iv_types.specs.declared.value.Interval.{Interval}
 use Rattle.iv_types.specs.declared.catalog.Definition.{Definition}
 use Rattle.iv_types.specs.declared.value.RowsOf.{RowsOf}
 use Rattle.iv_types.specs.declared.refusal.Refusal.{Refusal}
-use Rattle.iv_meaning.specs.Schema.{view, ViewTree, numbered, schema_of}
+use Rattle.iv_meaning.specs.Schema.{Object, table, index, view, ViewTree, numbered, schema_of}
 use Rattle.iv_meaning.specs.Database.{Row, Database, rows_of}
 use Rattle.iv_meaning.specs.Grouping.{all_of}
-use Rattle.iv_meaning.specs.View.{view_rows, relation_rows, read}
+use Rattle.iv_meaning.specs.View.{whole_view}
 use Rattle.iv_meaning.specs.Sound.{IsSound}
 use Rattle.row_eval.specs.Fresh.{table_rows}
 use Rattle.row_eval.specs.Grouped.{Gives}
@@ -22,19 +20,26 @@ pub record Holds (definitions : List Definition) (tables : List RowsOf) (db : Da
 
 -- ---- views that were evaluated
 
--- the rows of a view
+-- the rows of a view, evaluated whole
 pub record IsEvaluated (db : Database) (e : RowsOf) : Type 0 where
   pub v : ViewTree
   pub view_is : numbered db.schema e.table ≡ Some (view v)
-  pub rows : view_rows db.schema db.rows v ≡ Some e.rows
+  pub rows : whole_view db.schema db.rows v ≡ Some e.rows
 
 -- rows of this number were evaluated
 abbrev pub has_rows : List RowsOf → ℕ → Bool
 has_rows [] n = false
 has_rows (e ∷ es) n = (e.table == n) || has_rows es n
 
+-- the rows of a relation, where a view is evaluated whole: it is refused where a sum leaves the HUGE range
+abbrev pub whole_rows : Database → Option Object → Option (List Row)
+whole_rows db None = Some []
+whole_rows db (Some (table t)) = Some (rows_of db.rows t.number)
+whole_rows db (Some (index i)) = Some []
+whole_rows db (Some (view v)) = whole_view db.schema db.rows v
+
 abbrev pub sources : Database → List ℕ → Option (List (List Row))
-sources db relations = all_of (map (λ n. relation_rows db (numbered db.schema n)) relations)
+sources db relations = all_of (map (λ n. whole_rows db (numbered db.schema n)) relations)
 
 -- a relation can be read, or it is refused
 abbrev pub CanBeRead : {X : Type 0} → Option X → Result (Unit {0}) Refusal → Type 0
@@ -44,15 +49,9 @@ CanBeRead o (Err why) = Gives o (Err why)
 -- a relation was looked at, and the views are evaluated
 pub record IsLookedAt (db : Database) (n : ℕ) (told : Result (Unit {0}) Refusal) (views : List RowsOf) : Type 0 where
   pub keeps : AllByRecursion (IsEvaluated db) views
-  pub there : CanBeRead (relation_rows db (numbered db.schema n)) told
+  pub there : CanBeRead (whole_rows db (numbered db.schema n)) told
 
 -- the same of some relations, one after another: those behind one that is refused were not looked at
 pub record AreEvaluated (db : Database) (relations : List ℕ) (told : Result (Unit {0}) Refusal) (views : List RowsOf) : Type 0 where
   pub keeps : AllByRecursion (IsEvaluated db) views
   pub there : CanBeRead (sources db relations) told
-
--- ---- what is read
-
--- the rows that a database has in an interval, or none where a view is refused
-abbrev pub reader : Database → ℕ → Interval → List Row
-reader db n i = unwrap_or (read db n i) []

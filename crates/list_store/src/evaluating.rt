@@ -3,7 +3,7 @@ ghost use Rattle.std.specs.Prelude.{◌≡◌, ℕ, Some, IfOk};
 ghost use Rattle.std.specs.Option.{option_map, option_copied};
 ghost use Rattle.iv_meaning.specs.Schema.{object_of, schema_of, numbered, view_tree};
 ghost use Rattle.iv_meaning.specs.Database.{Database};
-ghost use Rattle.iv_meaning.specs.View.{view_rows};
+ghost use Rattle.iv_meaning.specs.View.{whole_view};
 ghost use Rattle.std.specs.List.{AllByRecursion};
 ghost use Rattle.row_eval.specs.Grouped.{Gives};
 ghost use Rattle.list_store.specs.Held.{Holds, IsEvaluated, has_rows, IsLookedAt, AreEvaluated};
@@ -24,7 +24,7 @@ pub fn view_afresh(
     tables: &TableRows,
     view: &ViewDef,
 ) -> Result<RowList, Refusal>
-    ensures { (db : Database) → Holds catalog.now tables.now db → Gives (view_rows db.schema db.rows (view_tree view.now)) result }
+    ensures { (db : Database) → Holds catalog.now tables.now db → Gives (whole_view db.schema db.rows (view_tree view.now)) result }
 {
     // A view that binding made is readable on rows that fit their tables.
     if view.second.is_some() && !is_readable(catalog, view, tables) {

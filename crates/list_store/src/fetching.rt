@@ -25,7 +25,7 @@ pub fn fetch(
     index: u32,
     interval: &Interval,
 ) -> Result<RowList, NoMemory>
-    ensures { (db : Database) → Holds catalog.now tables.now db → AllByRecursion (IsEvaluated db) views.now → IfOk result (λ found. read db index interval.now ≡ Some found) }
+    ensures { (db : Database) → Holds catalog.now tables.now db → AllByRecursion (IsEvaluated db) views.now → IfOk result (λ found. read db index interval.now ≡ found) }
 {
     let Some(definition) = numbered(catalog, index) else {
         return Err(NoMemory);

@@ -12,7 +12,7 @@ use Rattle.iv_meaning.specs.History.{Entry}
 use Rattle.iv_meaning.specs.Schema as schema
 use Rattle.iv_meaning.specs.Schema.{Schema, Object, view, ViewTree}
 use Rattle.iv_meaning.specs.Statement.{BoundTree, create, create_meaning, Accepted, Refused, defines}
-use Rattle.iv_meaning.specs.View.{view_rows}
+use Rattle.iv_meaning.specs.View.{whole_view}
 use Rattle.lock_manager.specs.Table as table
 use Rattle.row_eval.specs.Grouped.{Gives}
 use Rattle.txn_machine.specs.Acts as act
@@ -42,12 +42,12 @@ use Rattle.iv_types.specs.Printing.{statement_text}
 
 -- ---- whether an object can be made
 
-view_made : (db : Database) (v : ViewTree) (found : List Row) (o : Option (List Row)) → view_rows db.schema db.rows v ≡ o → Gives o (Ok found) → create_meaning (view v) db ≡ Accepted [] 0 (defines (view v) ∷ [])
+view_made : (db : Database) (v : ViewTree) (found : List Row) (o : Option (List Row)) → whole_view db.schema db.rows v ≡ o → Gives o (Ok found) → create_meaning (view v) db ≡ Accepted [] 0 (defines (view v) ∷ [])
 view_made db v found (Some rows) e g = ap (λ (x : Option (List Row)). if is_some x then Accepted [] 0 (defines (view v) ∷ []) else Refused refusal.NumberRange) e
 view_made db v found None e g = absurd g
 
-pub view_accepted : (db : Database) (v : ViewTree) (found : List Row) → Gives (view_rows db.schema db.rows v) (Ok found) → create_meaning (view v) db ≡ Accepted [] 0 (defines (view v) ∷ [])
-view_accepted db v found g = view_made db v found (view_rows db.schema db.rows v) refl g
+pub view_accepted : (db : Database) (v : ViewTree) (found : List Row) → Gives (whole_view db.schema db.rows v) (Ok found) → create_meaning (view v) db ≡ Accepted [] 0 (defines (view v) ∷ [])
+view_accepted db v found g = view_made db v found (whole_view db.schema db.rows v) refl g
 
 -- ---- who has a transaction open
 

@@ -47,7 +47,7 @@ pub object_is : (m : Machine) (s : State) (n : ℕ) (d : Definition) → HasStor
 object_is m s n d has e = ap (λ objects. numbered objects n) (sym has.definitions) ∙ (numbered_alike m.catalog n ∙ ap (option_map object_of) e)
 
 pub found_table : (m : Machine) (n : ℕ) (t : TableDef) (interval : Interval) (r : Result (List Row) NoMemory) → definitions.numbered m.catalog n ≡ Some (Table t)
-    → ((db : Database) → db.schema ≡ schema_of m.catalog → db.rows ≡ m.rows → IsSound db → IfOk r (λ rows. view.read db n interval ≡ Some rows)) → IfOk r (λ rows. (s : State) → HasStored m s → Finds s.store n interval rows)
+    → ((db : Database) → db.schema ≡ schema_of m.catalog → db.rows ≡ m.rows → IsSound db → IfOk r (λ rows. view.read db n interval ≡ rows)) → IfOk r (λ rows. (s : State) → HasStored m s → Finds s.store n interval rows)
 found_table m n t interval (Err e) is read = tt
 found_table m n t interval (Ok rows) is read = λ s has.
     subst (λ o. FindsIn (stored s.store) s.store.view o n interval rows) (sym (object_is m s n (Table t) has is))
@@ -62,7 +62,7 @@ found_view m n v interval (Ok rows) is shown = λ s has.
 
 -- what a snapshot reads
 pub peeked : (m : Machine) (s : Store) (t : Txn) (n : ℕ) (interval : Interval) (r : Result (List Row) NoMemory) → schema_of m.catalog ≡ store.schema_of s → IsAt s t
-    → ((db : Database) → db.schema ≡ schema_of m.catalog → db.rows ≡ t.rows → IsSound db → IfOk r (λ rows. view.read db n interval ≡ Some rows)) → IfOk r (λ rows. view.read (state_at s.origin s.history t.number) n interval ≡ Some rows)
+    → ((db : Database) → db.schema ≡ schema_of m.catalog → db.rows ≡ t.rows → IsSound db → IfOk r (λ rows. view.read db n interval ≡ rows)) → IfOk r (λ rows. view.read (state_at s.origin s.history t.number) n interval ≡ rows)
 peeked m s t n interval (Err e) definitions at read = tt
 peeked m s t n interval (Ok rows) definitions at read =
     ap (λ db. view.read db n interval) at.is ∙ read (record { number = t.number; schema = store.schema_of s; rows = t.rows }) (sym definitions) refl at.sound

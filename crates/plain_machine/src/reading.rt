@@ -4,7 +4,7 @@ ghost use Rattle.std.specs.FinMap.{entries};
 ghost use Rattle.table_laws.specs.Table.{rows_where};
 ghost use Rattle.iv_meaning.specs.Schema.{Schema, ViewTree, schema_of, view_tree, group_kinds};
 ghost use Rattle.iv_meaning.specs.Database.{Database, rows_of};
-ghost use Rattle.iv_meaning.specs.View.{view_rows, read};
+ghost use Rattle.iv_meaning.specs.View.{whole_view, read};
 ghost use Rattle.iv_meaning.specs.Sound.{IsSound};
 ghost use Rattle.row_eval.specs.Fresh.{table_rows};
 ghost use Rattle.row_eval.specs.Grouped.{Gives};
@@ -62,7 +62,7 @@ pub fn read(
     number: u32,
     interval: &Interval,
 ) -> Result<RowList, NoMemory>
-    ensures { (db : Database) → db.schema ≡ schema_of catalog.now → db.rows ≡ rows.now → IsSound db → IfOk result (λ found. read db number interval.now ≡ Some found) }
+    ensures { (db : Database) → db.schema ≡ schema_of catalog.now → db.rows ≡ rows.now → IsSound db → IfOk result (λ found. read db number interval.now ≡ found) }
 {
     let tables = tables_of(alloc, rows)?;
     let mut views = TableRows::new(alloc);
@@ -83,7 +83,7 @@ pub fn view_afresh(
     rows: &PlaceMap<Row>,
     view: &ViewDef,
 ) -> Result<RowList, Refusal>
-    ensures { (db : Database) → db.schema ≡ schema_of catalog.now → db.rows ≡ rows.now → IsSound db → Gives (view_rows db.schema db.rows (view_tree view.now)) result }
+    ensures { (db : Database) → db.schema ≡ schema_of catalog.now → db.rows ≡ rows.now → IsSound db → Gives (whole_view db.schema db.rows (view_tree view.now)) result }
 {
     let tables = tables_of(alloc, rows)?;
     list_store::view_afresh(alloc, catalog, &tables, view)

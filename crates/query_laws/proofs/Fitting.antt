@@ -1,10 +1,8 @@
 -- Values that fit the kinds of columns, and what the test of fitting tells.
-use Rattle.std.specs.Prelude.{◌≡◌, ℕ, zero, suc, ◌-◌, ◌^◌, ◌<◌, ◌≤◌, ◌&&◌, nat_le, not, cond, ℤ, pos, negsuc, Bool, true, false, List, [], ◌∷◌, ◌++◌, length, slice_get, Option, Some}
+use Rattle.std.specs.Prelude.{◌≡◌, ℕ, zero, suc, ◌-◌, ◌^◌, ◌<◌, ◌≤◌, ◌&&◌, nat_le, not, ℤ, pos, negsuc, Bool, true, false, List, [], ◌∷◌, ◌++◌, length, slice_get, Option, Some}
 use Rattle.std.specs.List.{AllByRecursion, cons_option}
-use mathlib.Core.Path.{refl, sym, ap, subst, ◌∙◌}
-use mathlib.Core.Logic.{inl, inr}
-use Rattle.std.proofs.Common.{arith, leb-true, le-leb}
-use Rattle.std.proofs.lemmas.Bool.Decides.{leb_tells}
+use mathlib.Core.Path.{refl, sym, ap, subst}
+use Rattle.std.proofs.Common.{arith, leb-true}
 use Rattle.std.proofs.lemmas.Str.{IsUtf8-from_is_utf8}
 use Rattle.std.proofs.lemmas.List.Elements.{filter_map-append}
 use Rattle.std.specs.Int.{w64}
@@ -16,7 +14,7 @@ use Rattle.iv_types.specs.declared.value.Value.TheVariants.{Number, Word}
 use Rattle.iv_types.specs.Encoding.{IsHuge, Fits, FitAll, longest_text}
 use Rattle.iv_meaning.specs.Schema.{items_at}
 use Rattle.iv_meaning.specs.Statement.{fits}
-use Rattle.iv_meaning.specs.Values.{Outcome, number, word, refused, is_huge, outcome_of, value_of, lies_outside}
+use Rattle.iv_meaning.specs.Values.{is_huge, lies_outside}
 
 pub first : (a b : Bool) → a && b ≡ true → a ≡ true
 first true b h = refl
@@ -52,39 +50,6 @@ fitting Text (Word w) e =
 fitting Int (Word w) e = absurd (cc)
 fitting Huge (Word w) e = absurd (cc)
 fitting Text (Number n) e = absurd (cc)
-
--- ---- the range
-
-pub huge_is : (n : ℤ) → IsHuge n → is_huge n ≡ true
-huge_is (pos n) h = let f = h.0.sfits in le-leb n (2 ^ 127 - 1) (omega (arith, f))
-huge_is (negsuc n) h =
-    let f = h.0.sfits in
-    let le : n ≤ 2 ^ 127 - 2 = elim (leb_tells n (2 ^ 127 - 2)) [ inl t ↦ t.1 | inr g ↦ absurd (h.1 (ap negsuc (let l = g.1 in omega (arith, f, l)))) ] in
-    ap (λ b. b && true) (le-leb n (2 ^ 127 - 2) le)
-
-int_is : (n : ℤ) → FitsSigned w64 n → is_huge n ≡ true
-int_is (pos n) h = let f = h.sfits in le-leb n (2 ^ 127 - 1) (omega (arith, f))
-int_is (negsuc n) h = let f = h.sfits in ap (λ b. b && true) (le-leb n (2 ^ 127 - 2) (omega (arith, f)))
-
--- the value as an expression sees it where it lies in the range
-abbrev pub seen : Value → Outcome
-seen (Number n) = number n
-seen (Word w) = word w
-
-pub seen_is : (k : Kind) (v : Value) → Fits k v → outcome_of (Some v) ≡ seen v
-seen_is Int (Number n) f = ap (λ b. cond b (number n) refused) (int_is n f)
-seen_is Huge (Number n) f = ap (λ b. cond b (number n) refused) (huge_is n f)
-seen_is Text (Word w) f = refl
-seen_is Int (Word w) f = absurd f
-seen_is Huge (Word w) f = absurd f
-seen_is Text (Number n) f = absurd f
-
-pub value_seen : (k : Kind) (v : Value) → Fits k v → value_of (outcome_of (Some v)) ≡ Some v
-value_seen k v f = ap value_of (seen_is k v f) ∙ again v
-  where
-    again : (w : Value) → value_of (seen w) ≡ Some w
-    again (Number n) = refl
-    again (Word b) = refl
 
 -- ---- values of which numbers of a HUGE column may have any size
 

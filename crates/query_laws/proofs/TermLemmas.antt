@@ -27,7 +27,8 @@ use Rattle.iv_meaning.specs.Shape.{same_kind, both_kinds}
 use Rattle.iv_meaning.specs.Statement.{fits}
 use Rattle.iv_meaning.specs.Plan.{Equal as TermEqual, literal, column, Range, Term, equals, ranges, ColumnTerm, turned, literal_of, against, column_of, earlier_of, kind_in, side_terms, term_terms, equal_value, lies_within}
 use Rattle.query_laws.proofs.Each.{each_append}
-use Rattle.query_laws.proofs.Fitting.{first, second, fitting, seen, seen_is, IsOf, AreOf, inside_fits, Column, inside}
+use Rattle.iv_meaning.proofs.RangeLemmas.{seen, seen_is}
+use Rattle.query_laws.proofs.Fitting.{first, second, fitting, IsOf, AreOf, inside_fits, Column, inside}
 
 -- ---- rows that fit the relations' kinds
 

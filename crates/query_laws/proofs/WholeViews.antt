@@ -1,19 +1,20 @@
 -- What the query of a view answers as a SELECT of the whole tables, where it is not refused, is the view's rows.
-use Rattle.std.specs.Prelude.{◌≡◌, ℕ, ℤ, pos, Bool, true, false, cond, List, [], ◌∷◌, ◌++◌, length, map, filter, Option, Some, None}
+use Rattle.std.specs.Prelude.{◌≡◌, ℕ, pos, Bool, true, false, cond, List, [], ◌∷◌, ◌++◌, length, map, filter, Option, Some, None}
 use Rattle.std.specs.List.{AllByRecursion, AllZip, cons_option}
 use Rattle.std.specs.Option.{option_map, option_and_then, option_zip}
 use mathlib.Core.Path.{refl, sym, ap, subst, ◌∙◌}
 use Rattle.iv_types.specs.declared.value.Value.{Value}
-use Rattle.iv_types.specs.declared.value.Value.TheVariants.{Number, Word}
+use Rattle.iv_types.specs.declared.value.Value.TheVariants.{Number}
 use Rattle.iv_types.specs.declared.expression.ColumnAt.{ColumnAt}
 use Rattle.iv_types.specs.Syntax as s
 use Rattle.iv_types.specs.Syntax.{Tree}
 use Rattle.iv_meaning.specs.Schema.{Schema, ViewTree, sources_of}
 use Rattle.iv_meaning.specs.Database.{Row, Rows, rows_of}
-use Rattle.iv_meaning.specs.Values.{Outcome, number, refused, is_huge, ranged, is_true, is_false, value_at, value_of, outcome_of}
+use Rattle.iv_meaning.specs.Values.{Outcome, refused, is_true, is_false, value_at, value_of, outcome_of}
 use Rattle.iv_meaning.specs.Grouping.{all_of, groups_of, members, number_in, sum_by}
 use Rattle.iv_meaning.specs.Query.{Combination, BoundItem, count, sum, plain, BoundQuery, combinations, chosen, conjunction, joined, item_of_group, item_alone, row_by, values_at, listed, ordered, placed}
 use Rattle.iv_meaning.specs.View.{conditions_of, query_of, whole_view, counted_combinations, shares, rows_by_group, view_rows}
+use Rattle.iv_meaning.proofs.RangeLemmas.{ranged_is, value_back}
 use Rattle.query_laws.proofs.GroupRows.{some_same, IsGroupIn, groups_are, first_member}
 
 -- ---- options and lists
@@ -69,18 +70,6 @@ view_items group sums = map (λ column. plain (s.at column)) group ++ count ∷ 
 -- a query with the items of a view
 abbrev pub query_by : List ℕ → List Tree → List ColumnAt → List ColumnAt → BoundQuery
 query_by relations conditions group sums = record { relations = relations; conditions = conditions; items = view_items group sums; group = group; order = [] }
-
-ranged_is : (n : ℤ) (y : Value) → value_of (ranged n) ≡ Some y → y ≡ Number n
-ranged_is n y e = go (is_huge n) e
-  where
-    go : (b : Bool) → value_of (cond b (number n) refused) ≡ Some y → y ≡ Number n
-    go true e = sym (some_same (Number n) y e)
-    go false e = absurd (cc)
-
-value_back : (o : Option Value) (y : Value) → value_of (outcome_of o) ≡ Some y → o ≡ Some y
-value_back None y e = absurd (cc)
-value_back (Some (Number n)) y e = ap Some (sym (ranged_is n y e))
-value_back (Some (Word w)) y e = e
 
 sums_are : (ms : List Combination) (sums : List ColumnAt) (us : List Value) → all_of (map (λ i. value_of (item_of_group ms i)) (map sum sums)) ≡ Some us
     → us ≡ map Number (map (λ column. sum_by (λ c. number_in (value_at c column)) ms) sums)

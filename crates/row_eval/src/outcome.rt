@@ -33,8 +33,8 @@ impl Seen<'_> {
     }
 }
 
-// A number, if it lies in the HUGE range.
-fn ranged<'a>(number: Option<i128>) -> Seen<'a>
+/// A number, if it lies in the HUGE range.
+pub fn ranged<'a>(number: Option<i128>) -> Seen<'a>
     ensures some { (n : ℤ) → number ≡ Some n → outcome_of result ≡ ranged n }
     ensures none { number ≡ None → result ≡ Refused }
 {

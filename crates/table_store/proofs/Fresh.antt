@@ -189,7 +189,7 @@ in_schema ds zero t is = absurd (cc)
 in_schema ds (suc n) t is = table_at ds n t is
 
 pub reads : (db : Database) (ds : Definitions) (index : ℕ) (t : TableDef) (m : Map) (interval : Interval) (list : List Row) → OneSpelling value_bytes → db.schema ≡ schema_of ds
-    → table_of ds index ≡ Some t → HoldsTable db.rows t m → Decode t (between interval (entries m)) list → read db index interval ≡ Some list
+    → table_of ds index ≡ Some t → HoldsTable db.rows t m → Decode t (between interval (entries m)) list → read db index interval ≡ list
 reads db ds index t m interval list one schema_is is holds told =
     ap (λ o. object_rows db o interval) (ap (λ s. schema.numbered s index) schema_is ∙ in_schema ds index t is)
-    ∙ ap Some (sym (rows_are db.rows t m holds one interval list told))
+    ∙ sym (rows_are db.rows t m holds one interval list told)

@@ -136,7 +136,7 @@ impl<M: SortedMaps> Tables<M> {
     ) -> Result<RowList, NoMemory>
         requires { IsTableAnd catalog.now index (λ t. AreRows t (M.maps self.now index)) }
         ensures entries { IfOk result (λ rows. OfTable catalog.now index (λ t. Decode t (between interval.now (map.entries (M.maps self.now index))) rows)) }
-        ensures rows { IfOk result (λ rows. (db : Database) → db.schema ≡ schema_of catalog.now → OfTable catalog.now index (λ t. HoldsTable db.rows t (M.maps self.now index)) → view.read db index interval.now ≡ Some rows) }
+        ensures rows { IfOk result (λ rows. (db : Database) → db.schema ≡ schema_of catalog.now → OfTable catalog.now index (λ t. HoldsTable db.rows t (M.maps self.now index)) → view.read db index interval.now ≡ rows) }
     {
         row_law();
         let table = table_of(catalog, index);

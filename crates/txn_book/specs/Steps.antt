@@ -1,5 +1,5 @@
 -- Which answers a step can have, and what it changes: the step relation of the acts that are built.
-use Rattle.std.specs.Prelude.{◌≡◌, ◌⊎◌, ℕ, ◌+◌, ◌≤◌, ◌<◌, ◌^◌, List, [], ◌∷◌, length, Option, Some, None, IsSome, Result, Ok, Err}
+use Rattle.std.specs.Prelude.{◌≡◌, ◌⊎◌, ℕ, true, false, ◌+◌, ◌≤◌, ◌<◌, ◌^◌, List, [], ◌∷◌, length, Option, Some, None, IsSome, Result, Ok, Err}
 use Rattle.iv_types.specs.declared.statement.Mode.{Mode}
 use Rattle.iv_types.specs.declared.statement.Mode.TheVariants.{Serial, Snapshot}
 use Rattle.iv_types.specs.declared.statement.Statement.{Statement}
@@ -18,6 +18,7 @@ use Rattle.iv_meaning.specs.View.{read}
 use Rattle.iv_meaning.specs.Statement.{BoundTree, defines, Meaning, Refused, Accepted, keep}
 use Rattle.iv_meaning.specs.Binding.{bind}
 use Rattle.iv_meaning.specs.Transaction.{means}
+use Rattle.iv_meaning.specs.Autocommit.{is_refused_whole}
 use Rattle.txn_book.specs.declared.step.Step.{Step}
 use Rattle.txn_book.specs.declared.step.Act.{Act}
 use Rattle.txn_book.specs.declared.step.Act.TheVariants as act
@@ -118,8 +119,8 @@ pub record IsSchemaBusy (s : State) (statement : StatementTree) (busy : ℕ) : T
 abbrev pub Does : State → ℕ → Act → Answer → State → Type 0
 Does s session (act.Begin mode) (answer.Begun number defs) after = Begins s session mode number defs after
 Does s session act.Defs (answer.Defs catalog) after = (schema_of catalog ≡ s.committed.schema) × (after ≡ counted s)
-Does s session (act.Fetch index interval mode) (answer.Rows rows) after = (read s.committed index interval ≡ Some rows) × (after ≡ counted s)
-Does s session (act.Fetch index interval mode) (answer.Denied why) after = (read s.committed index interval ≡ None) × (why ≡ NumberRange) × (after ≡ counted s)
+Does s session (act.Fetch index interval mode) (answer.Rows rows) after = (read s.committed index interval ≡ rows) × (is_refused_whole s.committed (numbered s.committed.schema index) ≡ false) × (after ≡ counted s)
+Does s session (act.Fetch index interval mode) (answer.Denied why) after = (is_refused_whole s.committed (numbered s.committed.schema index) ≡ true) × (why ≡ NumberRange) × (after ≡ counted s)
 Does s session act.Commit (answer.Committed number) after = Commits s session number after
 Does s session act.End answer.Ended after = after ≡ counted (with_open s session None)
 Does s session (act.Schema statement) (answer.Committed number) after = Defines s (statement_tree statement) number after

@@ -35,7 +35,7 @@ use Rattle.iv_meaning.specs.Sound.{AreColumns}
 use Rattle.query_laws.proofs.Each.{each_append, each_to, each_filtered}
 use Rattle.query_laws.proofs.SoundLemmas.{neither}
 use Rattle.query_laws.proofs.GroupRows.{some_same, IsGroupIn, groups_are, first_member}
-use Rattle.query_laws.proofs.Fitting.{seen, seen_is, huge_is, value_seen}
+use Rattle.iv_meaning.proofs.RangeLemmas.{seen, seen_is, huge_is, value_seen}
 use Rattle.query_laws.proofs.WholeViews.{chosen_is, view_items, query_by}
 use Rattle.txn_machine.specs.Deltas.{is_counted}
 use Rattle.txn_machine.specs.Fresh.{fresh}

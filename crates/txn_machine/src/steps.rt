@@ -112,7 +112,7 @@ pub fn rows_at_law()
     ensures { RowsAtLaw }
 {}
 
-/// At each number from the opened database's up to what is committed, and so at an open snapshot's, no view is refused.
+/// At each number from the opened database's up to what is committed, and so at an open snapshot's, the views' numbers are in range.
 pub fn snapshot_readable_law()
     ensures { SnapshotReadableLaw }
 {}

@@ -28,7 +28,7 @@ pub fn range_law()
     ensures { RangeLaw }
 {}
 
-/// No view's meaning is refused where its numbers are in range.
+/// No view's query is refused where its numbers are in range.
 pub fn readable_law()
     ensures { ReadableLaw }
 {}

@@ -5,7 +5,7 @@ use Rattle.txn_book.specs.Steps.{Moves}
 use Rattle.txn_book.specs.declared.step.Turn.TheVariants.{Want}
 use Rattle.txn_book.specs.declared.step.Answer.TheVariants.{Rows}
 use Rattle.query_exec.specs.Tasks.{left, after, IsTurn}
-use Rattle.list_store.specs.Held.{reader}
+use Rattle.iv_meaning.specs.View.{read as reader}
 use Rattle.list_engine.proofs.TurnLemmas.{turn_done, no_turn}
 use Rattle.list_engine.proofs.SteppingLemmas.{IsUnderWay, may_read, goes_on, ends, left_off, told_all}
 use Rattle.list_engine.proofs.selecting.read_by.Goals as goal

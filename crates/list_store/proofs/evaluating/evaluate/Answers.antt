@@ -4,16 +4,15 @@ use Rattle.std.proofs.lemmas.Result.{err_from_is_err_and}
 use Rattle.std.proofs.lemmas.List.{at_drop_more, at_drop_all}
 use Rattle.iv_meaning.specs.Schema.{numbered}
 use Rattle.iv_meaning.specs.Database.{Row}
-use Rattle.iv_meaning.specs.View.{relation_rows}
 use Rattle.row_eval.proofs.Groups.{refused_alike}
-use Rattle.list_store.specs.Held.{AreEvaluated, sources}
+use Rattle.list_store.specs.Held.{AreEvaluated, whole_rows, sources}
 use Rattle.list_store.proofs.Collecting.{behind, goes_on, stops, ends}
 use Rattle.list_store.proofs.evaluating.evaluate.Goals as goal
 
 pub returns-in_err-look_at : goal.returns-in_err-look_at
 returns-in_err-look_at c = λ db h views.
     let p = err_from_is_err_and c.from_residual.result c.from_residual.ensures.1 in
-    let f : ℕ → Option (List Row) = λ n. relation_rows db (numbered db.schema n) in
+    let f : ℕ → Option (List Row) = λ n. whole_rows db (numbered db.schema n) in
     let number : ℕ = get_or c.args.relations.now c.loop-index.index 0 in
     let before = c.loop-index.invariant db h views in
     let looked = c.in_err-look_at.ensures db h before.1 in
@@ -26,7 +25,7 @@ returns-in_err-look_at c = λ db h views.
 
 pub loop-index-preserved : goal.loop-index-preserved
 loop-index-preserved c = λ db h views.
-    let f : ℕ → Option (List Row) = λ n. relation_rows db (numbered db.schema n) in
+    let f : ℕ → Option (List Row) = λ n. whole_rows db (numbered db.schema n) in
     let number : ℕ = get_or c.args.relations.now c.loop-index.index 0 in
     let before = c.loop-index.invariant db h views in
     let looked = c.in_ok-look_at.ensures db h before.1 in (
@@ -40,7 +39,7 @@ loop-index-preserved c = λ db h views.
 
 pub returns : goal.returns
 returns c = λ db h views.
-    let f : ℕ → Option (List Row) = λ n. relation_rows db (numbered db.schema n) in
+    let f : ℕ → Option (List Row) = λ n. whole_rows db (numbered db.schema n) in
     let before = c.loop-index.invariant db h views in
     record {
       keeps = before.1;

@@ -1,24 +1,25 @@
-use mathlib.Core.Path.{refl, sym, subst}
+use mathlib.Core.Path.{refl, sym, ap, subst, ◌∙◌}
+use Rattle.std.specs.Prelude.{not, is_some}
 use Rattle.txn_book.specs.State.{counted, refused_step}
 use Rattle.txn_book.specs.declared.step.Act.TheVariants as act
 use Rattle.iv_types.specs.declared.refusal.EngineRefusal.TheVariants.{NoMemory}
 use Rattle.list_engine.specs.Engine.{Moved}
 use Rattle.std.proofs.Common.{◌≡◌, None, Err}
 use Rattle.iv_meaning.specs.Schema.{numbered}
-use Rattle.iv_meaning.specs.View.{relation_rows}
 use Rattle.row_eval.specs.Grouped.{Gives}
-use Rattle.list_store.proofs.HeldLemmas.{refused_read}
+use Rattle.list_store.specs.Held.{whole_rows}
+use Rattle.list_store.proofs.HeldLemmas.{refused_is}
 use Rattle.list_engine.proofs.SteppingLemmas.{with_views, range_refused}
 use Rattle.list_engine.proofs.engine.ListEngine.fetch.Goals as goal
 
 pub returns-in-Err-NumberRange : goal.returns-in-Err-NumberRange
 returns-in-Err-NumberRange c = λ s st m.
     let looked = c.in-Err-NumberRange.ensures s.committed st.has.holds st.has.evaluated in
-    let none : relation_rows s.committed (numbered s.committed.schema c.args.index) ≡ None =
-    range_refused (relation_rows s.committed (numbered s.committed.schema c.args.index)) (subst (λ r. Gives (relation_rows s.committed (numbered s.committed.schema c.args.index)) (Err r)) c.in-Err-NumberRange.field-0-is looked.there) in
+    let none : whole_rows s.committed (numbered s.committed.schema c.args.index) ≡ None =
+    range_refused (whole_rows s.committed (numbered s.committed.schema c.args.index)) (subst (λ r. Gives (whole_rows s.committed (numbered s.committed.schema c.args.index)) (Err r)) c.in-Err-NumberRange.field-0-is looked.there) in
     record {
       after = counted s;
-      does = (refused_read s.committed (numbered s.committed.schema c.args.index) c.args.interval.now none, refl, refl);
+      does = (refused_is s.committed (numbered s.committed.schema c.args.index) ∙ ap (λ o. not (is_some o)) none, refl, refl);
       stands = with_views c.args.self.now (counted s) c.look_at.new.views st looked.keeps;
     }
 
@@ -32,7 +33,11 @@ returns-in-Ok-fetch c = λ s st m.
     let looked = c.in-Ok.ensures s.committed st.has.holds st.has.evaluated in
     record {
       after = counted s;
-      does = (c.in-Ok-fetch.ensures s.committed st.has.holds looked.keeps, refl);
+      does = (
+        c.in-Ok-fetch.ensures s.committed st.has.holds looked.keeps,
+        refused_is s.committed (numbered s.committed.schema c.args.index) ∙ ap (λ o. not (is_some o)) looked.there.1,
+        refl,
+      );
       stands = with_views c.args.self.now (counted s) c.look_at.new.views st looked.keeps;
     }
 

@@ -1,7 +1,8 @@
 use Rattle.std.proofs.Common.{◌≡◌, refl, Ok, IfOk}
 use mathlib.Core.Path.{sym, ap, subst, ◌∙◌}
 use Rattle.iv_meaning.specs.Query.{BoundQuery}
-use Rattle.iv_meaning.specs.Statement.{select, bound_meaning}
+use Rattle.iv_meaning.specs.Statement.{select}
+use Rattle.iv_meaning.specs.Autocommit.{whole_meaning}
 use Rattle.sql_bind.specs.Bound.{bound_tree}
 use Rattle.query_exec.specs.Tasks.{query_in}
 use Rattle.list_engine.specs.Engine.{EndsAs}
@@ -11,5 +12,5 @@ pub returns-in-Select : goal.returns-in-Select
 returns-in-Select c = λ db s i of_session b.
     let q : BoundQuery = query_in (bound_tree c.args.bound) in
     let is : bound_tree c.args.bound ≡ select q = subst (λ x. bound_tree x ≡ select (query_in (bound_tree x))) (sym c.in-Select.is) refl in
-    subst (λ x. IfOk c.run_select.result (λ replies. EndsAs (bound_meaning x db) db replies c.run_select.new.self)) (sym is)
+    subst (λ x. IfOk c.run_select.result (λ replies. EndsAs (whole_meaning x db) db replies c.run_select.new.self)) (sym is)
     (c.run_select.ensures db s q i of_session (b ∙ ap Ok is) is)

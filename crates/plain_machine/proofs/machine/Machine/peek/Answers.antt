@@ -22,7 +22,7 @@ returns c = λ s st may.
     let now_is : now s.store i ≡ may.0.transaction = same_Some (now s.store i) may.0.transaction (sym own.0 ∙ may.0.is_open) in
     let snap : t.mode ≡ Snapshot = own.1.mode ∙ (ap (λ (o : Open). o.mode) now_is ∙ may.0.mode_is) in
     told_still m s i (act.Peek c.args.index c.args.interval.now) _ refl st (
-      subst (λ k. view.read (state_at s.store.origin s.store.history k) c.args.index c.args.interval.now ≡ Some c.in_ok-rows.rows) own.1.number
+      subst (λ k. view.read (state_at s.store.origin s.store.history k) c.args.index c.args.interval.now ≡ c.in_ok-rows.rows) own.1.number
           (peeked m s.store t c.args.index c.args.interval.now (Ok c.in_ok-rows.rows) st.store.definitions (st.store.snapshots i t may.0.of_session was snap) c.in_ok-rows.ensures),
       refl,
     )
