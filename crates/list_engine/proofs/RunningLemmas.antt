@@ -22,13 +22,13 @@ use Rattle.iv_meaning.specs.Statement.{create, defines, keep}
 use Rattle.iv_meaning.specs.Binding.{faults, unless}
 use Rattle.iv_meaning.specs.Transaction.{means, bound_or_refused}
 use Rattle.iv_meaning.specs.Autocommit.{means_whole, whole_or_refused}
-use Rattle.txn_book.specs.declared.step.Step.{Step}
-use Rattle.txn_book.specs.declared.step.Act.{Act}
-use Rattle.txn_book.specs.declared.step.Act.TheVariants as act
-use Rattle.txn_book.specs.declared.step.Answer.{Answer}
-use Rattle.txn_book.specs.declared.step.Answer.TheVariants as answer
-use Rattle.txn_book.specs.State.{State, Open}
-use Rattle.txn_book.specs.Steps.{IsSession, IsCreate, MayAct, number_at_end, Does, DoesStep, May, Moves}
+use Rattle.list_engine.specs.declared.step.Step.{Step}
+use Rattle.list_engine.specs.declared.step.Act.{Act}
+use Rattle.list_engine.specs.declared.step.Act.TheVariants as act
+use Rattle.list_engine.specs.declared.step.Answer.{Answer}
+use Rattle.list_engine.specs.declared.step.Answer.TheVariants as answer
+use Rattle.list_engine.specs.State.{State, Open}
+use Rattle.list_engine.specs.Steps.{IsSession, IsCreate, MayAct, number_at_end, Does, DoesStep, May, Moves}
 use Rattle.list_engine.specs.declared.engine.ListEngine.{ListEngine}
 use Rattle.list_engine.specs.Told.{number_committed, is_begun, is_ended}
 use Rattle.list_engine.specs.Parts.{part_in, open_of, open_in}

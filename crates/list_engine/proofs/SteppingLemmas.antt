@@ -2,7 +2,6 @@
 use Rattle.std.specs.Prelude.{◌≡◌, ◌≤◌, ◌<◌, ◌==◌, ◌+◌, ◌^◌, ℕ, zero, suc, Bool, true, false, List, [], ◌∷◌, ◌++◌, length, slice_get, Option, Some, None, IsSome, Ok, Err, if◌then◌else◌}
 use Rattle.std.specs.List.{AllByRecursion}
 use Rattle.std.specs.Option.{option_map, unwrap_or}
-use Rattle.iv_types.specs.Definitions as definitions
 use Rattle.std.proofs.Common.{arith}
 use Rattle.std.proofs.lemmas.Option.{slice_get_past}
 use mathlib.Core.Path.{refl, sym, ap, subst, ◌∙◌}
@@ -17,23 +16,24 @@ use Rattle.iv_meaning.specs.Schema.{numbered, schema_of}
 use Rattle.iv_meaning.specs.Database.{Row, Database}
 use Rattle.iv_meaning.specs.View.{read as reader}
 use Rattle.iv_meaning.specs.Reading.{Program, replies_by}
-use Rattle.txn_book.specs.declared.step.Step.{Step}
-use Rattle.txn_book.specs.declared.step.Act.{Act}
-use Rattle.txn_book.specs.declared.step.Act.TheVariants as act
-use Rattle.txn_book.specs.declared.step.Answer.{Answer}
-use Rattle.txn_book.specs.declared.step.Answer.TheVariants as answer
+use Rattle.list_engine.specs.declared.step.Step.{Step}
+use Rattle.list_engine.specs.declared.step.Act.{Act}
+use Rattle.list_engine.specs.declared.step.Act.TheVariants as act
+use Rattle.list_engine.specs.declared.step.Answer.{Answer}
+use Rattle.list_engine.specs.declared.step.Answer.TheVariants as answer
 use Rattle.std.proofs.lemmas.Bool.{cases_lt}
 use Rattle.iv_types.specs.Syntax.{StatementTree}
 use Rattle.iv_meaning.specs.Binding.{bind}
 use Rattle.iv_meaning.specs.Statement.{BoundTree}
 use Rattle.sql_bind.specs.declared.bound.Bound.{Bound}
 use Rattle.sql_bind.specs.Bound.{bound_tree}
-use Rattle.txn_book.specs.State.{State, counted}
+use Rattle.list_engine.specs.State.{State, counted}
 use Rattle.list_engine.specs.declared.parts.Opened.{Opened}
-use Rattle.txn_book.specs.Steps.{IsFree, IsBusy, MayAct, Does, May, Moves}
+use Rattle.list_engine.specs.Steps.{IsFree, IsBusy, MayAct, Does, May, Moves}
 use Rattle.query_laws.specs.Laws.{Asks}
 use Rattle.query_exec.specs.Tasks.{after, IsTurn}
-use Rattle.txn_book.specs.declared.step.Turn.TheVariants.{Want}
+use Rattle.query_exec.specs.declared.turn.Fetch.{Fetch}
+use Rattle.query_exec.specs.declared.turn.Turn.TheVariants.{Want}
 use Rattle.list_engine.specs.declared.parts.Part.{Part}
 use Rattle.iv_types.specs.declared.value.RowsOf.{RowsOf}
 use Rattle.iv_types.specs.declared.refusal.Refusal.{Refusal}
@@ -42,7 +42,7 @@ use Rattle.row_eval.specs.Grouped.{Gives}
 use Rattle.list_engine.specs.declared.engine.ListEngine.{ListEngine}
 use Rattle.list_store.specs.Held.{IsEvaluated}
 use Rattle.list_engine.specs.Parts.{nothing, part_in, open_of, IsLeastOpen}
-use Rattle.list_engine.specs.Engine.{Stands, Moved, IsReading, WasRead}
+use Rattle.list_engine.specs.Engine.{Stands, Moved, IsReading, WasRead, step_for}
 use Rattle.list_store.specs.Made.{is_want}
 use Rattle.list_engine.proofs.TurnLemmas.{IsWanted, turn_want}
 
@@ -191,13 +191,16 @@ pub record IsUnderWay (InState : State → Type 0) (s : State) (whole left : Pro
   pub asks : Asks s.committed.schema left
   pub reads : replies_by (reader s.committed) left ≡ replies_by (reader s.committed) whole
 
-module _ (s : State) (session : ℕ) (reading : IsReading s session) (whole p : Program) (step : Step) where
+module _ (s : State) (session : ℕ) (reading : IsReading s session) (whole p : Program) (wanted : Fetch) where
+  abbrev step : Step
+  step = step_for session wanted
+
   -- the step that it wants may be asked for
-  pub may_read : (t : State) → t.committed ≡ s.committed → t.open_of ≡ s.open_of → Asks s.committed.schema p → IsTurn session p (Want step) → May t step
+  pub may_read : (t : State) → t.committed ≡ s.committed → t.open_of ≡ s.open_of → Asks s.committed.schema p → IsTurn p (Want wanted) → May t step
   may_read t same opened asks turn =
-      let w : IsWanted session p step = turn_want session p step turn in
+      let w : IsWanted p wanted = turn_want p wanted turn in
       let asked : IsSome (numbered s.committed.schema w.i) = (subst (Asks s.committed.schema) w.is asks).0 in
-      subst (May t) (sym w.step_is) (inr (record {
+      subst (λ x. May t (step_for session x)) (sym w.wanted_is) (inr (record {
         of_session = reading.1;
         number = reading.0;
         opened = ap (λ f. f session) opened ∙ reading.2;
@@ -205,11 +208,11 @@ module _ (s : State) (session : ℕ) (reading : IsReading s session) (whole p : 
       }))
 
   -- what is left of it after the step
-  pub goes_on : (old new : State → Type 0) (u : IsUnderWay old s whole p) → IsTurn session p (Want step) → (rows : List Row) → Moves new u.after step (answer.Rows rows)
-      → IsUnderWay new s whole (after (Some (answer.Rows rows)) p)
+  pub goes_on : (old new : State → Type 0) (u : IsUnderWay old s whole p) → IsTurn p (Want wanted) → (rows : List Row) → Moves new u.after step (answer.Rows rows)
+      → IsUnderWay new s whole (after (Some rows) p)
   goes_on old new u turn rows m =
-      let w : IsWanted session p step = turn_want session p step turn in
-      let act_is : step.act ≡ act.Fetch w.i w.interval Share = ap (λ (x : Step). x.act) w.step_is in
+      let w : IsWanted p wanted = turn_want p wanted turn in
+      let act_is : step.act ≡ act.Fetch w.i w.interval Share = ap (λ x. (step_for session x).act) w.wanted_is in
       elim m.does [
         | inl stopped ↦ absurd (cc_rows stopped.1.says)
         | inr moved ↦
@@ -217,7 +220,7 @@ module _ (s : State) (session : ℕ) (reading : IsReading s session) (whole p : 
             let same = fetched u.after step.session w.i w.interval Share (answer.Rows rows) m.after d in
             let told_rows : reader s.committed w.i w.interval ≡ rows = ap (λ db. reader db w.i w.interval) (sym u.committed) ∙ d.0 in
             let more : Program = w.more rows in
-            let left_is : after (Some (answer.Rows rows)) p ≡ w.more rows = ap (after (Some (answer.Rows rows))) w.is in
+            let left_is : after (Some rows) p ≡ w.more rows = ap (after (Some rows)) w.is in
             record {
               after = m.after;
               committed = same.0 ∙ u.committed;
@@ -234,11 +237,11 @@ module _ (s : State) (session : ℕ) (reading : IsReading s session) (whole p : 
       cc_rows e = absurd (cc)
 
   -- and where it is not told rows
-  pub ends : (old new : State → Type 0) (u : IsUnderWay old s whole p) → IsTurn session p (Want step) → (a : Answer) → Moves new u.after step a
+  pub ends : (old new : State → Type 0) (u : IsUnderWay old s whole p) → IsTurn p (Want wanted) → (a : Answer) → Moves new u.after step a
       → WasRead new s whole (Err (record {}))
   ends old new u turn a m =
-      let w : IsWanted session p step = turn_want session p step turn in
-      let act_is : step.act ≡ act.Fetch w.i w.interval Share = ap (λ (x : Step). x.act) w.step_is in
+      let w : IsWanted p wanted = turn_want p wanted turn in
+      let act_is : step.act ≡ act.Fetch w.i w.interval Share = ap (λ x. (step_for session x).act) w.wanted_is in
       elim m.does [
         | inl stopped ↦ record { after = m.after; committed = ap (λ t. t.committed) stopped.1.left ∙ u.committed; opened = ap (λ t. t.open_of) stopped.1.left ∙ u.opened; stands = m.stands; replies = tt }
         | inr moved ↦

@@ -15,10 +15,14 @@ use Rattle.iv_meaning.specs.Binding.{bind}
 use Rattle.iv_meaning.specs.Statement.{Meaning, Refused}
 use Rattle.iv_meaning.specs.Transaction.{means, ended_by}
 use Rattle.iv_meaning.specs.Autocommit.{IsTold, IsPassedOver}
-use Rattle.txn_book.specs.declared.step.Act.{Act}
-use Rattle.txn_book.specs.declared.step.Answer.{Answer}
-use Rattle.txn_book.specs.State.{State}
-use Rattle.txn_book.specs.Steps.{IsFree, IsSession, Does}
+use Rattle.iv_types.specs.declared.lock.LockMode.TheVariants.{Share}
+use Rattle.query_exec.specs.declared.turn.Fetch.{Fetch}
+use Rattle.list_engine.specs.declared.step.Step.{Step}
+use Rattle.list_engine.specs.declared.step.Act.{Act}
+use Rattle.list_engine.specs.declared.step.Act.TheVariants as act
+use Rattle.list_engine.specs.declared.step.Answer.{Answer}
+use Rattle.list_engine.specs.State.{State}
+use Rattle.list_engine.specs.Steps.{IsFree, IsSession, Does}
 use Rattle.list_engine.specs.declared.engine.ListEngine.{ListEngine}
 use Rattle.iv_meaning.specs.View.{read as reader}
 use Rattle.list_store.specs.Held.{Holds, IsEvaluated}
@@ -63,6 +67,10 @@ IsWhy s statement why =
     ⊎ ((means (statement_tree statement) s.committed ≡ Refused why) × ((bind s.committed.schema (statement_tree statement) ≡ Err why) ⊎ IsFree s))
 
 -- ---- SELECTs
+
+-- the step of a session that reads what a task wants
+abbrev pub step_for : ℕ → Fetch → Step
+step_for session wanted = record { session = session; act = act.Fetch wanted.index wanted.interval Share }
 
 -- the session has a transaction open that reads what is committed
 abbrev pub IsReading : State → ℕ → Type 0

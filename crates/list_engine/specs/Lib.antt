@@ -3,4 +3,6 @@ pub mod Engine
 pub mod Inserting
 pub mod Insertion
 pub mod Parts
+pub mod State
+pub mod Steps
 pub mod Told

@@ -1,7 +1,7 @@
 -- The parts of sessions: those from 1 on have one place each.
 use Rattle.std.specs.Prelude.{◌≡◌, ◌≤◌, ◌<◌, ℕ, zero, suc, List, slice_get, Option, None, Some, IsSome}
 use Rattle.std.specs.Option.{option_map, unwrap_or}
-use Rattle.txn_book.specs.State.{Open}
+use Rattle.list_engine.specs.State.{Open}
 use Rattle.list_engine.specs.declared.parts.Part.{Part}
 use Rattle.list_engine.specs.declared.parts.Opened.{Opened}
 

@@ -1,7 +1,7 @@
 -- What an answer says.
 use Rattle.std.specs.Prelude.{ℕ, Bool, true, false, Option, Some, None}
-use Rattle.txn_book.specs.declared.step.Answer.{Answer}
-use Rattle.txn_book.specs.declared.step.Answer.TheVariants.{Begun, Ended, Committed}
+use Rattle.list_engine.specs.declared.step.Answer.{Answer}
+use Rattle.list_engine.specs.declared.step.Answer.TheVariants.{Begun, Ended, Committed}
 
 abbrev pub number_committed : Answer → Option ℕ
 number_committed (Committed number) = Some number

@@ -2,7 +2,7 @@
 ghost use Rattle.std.specs.Prelude.{◌≡◌};
 ghost use Rattle.list_engine.specs.Told.{number_committed, is_begun, is_ended};
 
-use txn_book::Answer;
+use crate::step::Answer;
 
 /// The number of a commit, if it is one.
 pub fn committed(answer: Answer) -> Option<u64>

@@ -6,16 +6,18 @@ ghost use Rattle.iv_meaning.specs.Schema.{object_of};
 ghost use Rattle.iv_meaning.specs.Database.{created};
 ghost use Rattle.iv_meaning.specs.Binding as binding;
 ghost use Rattle.iv_meaning.specs.Statement as meaning;
-ghost use Rattle.txn_book.specs.State.{State, Open, counted, refused_step, with_open};
-ghost use Rattle.txn_book.specs.Steps.{IsFree, IsSession, MayAct, number_at_end};
-ghost use Rattle.txn_book.specs.declared.step.Act.TheVariants as act;
-ghost use Rattle.txn_book.specs.declared.step.Answer.TheVariants as answer;
+ghost use Rattle.list_engine.specs.State.{State, Open, counted, refused_step, with_open};
+ghost use Rattle.list_engine.specs.Steps.{IsFree, IsSession, MayAct, number_at_end};
+ghost use Rattle.list_engine.specs.declared.step.Act.TheVariants as act;
+ghost use Rattle.list_engine.specs.declared.step.Answer.TheVariants as answer;
 ghost use Rattle.list_engine.specs.Engine.{IsIn, Stands, opened, Moved, IsWhy};
 ghost use Rattle.list_store.specs.Made.{is_want};
 ghost use Rattle.list_engine.specs.Parts.{open_of};
 
 use crate::creating::create;
 use crate::parts::{Opened, Part, Parts};
+use crate::step::{Act, Answer, LastRefusal, Step};
+use crate::stepper::Stepper;
 use iv_types::{
     Catalog, Definition, EngineRefusal, Interval, LockMode, Mode, NoMemory, Refusal, Statement,
     TableRows,
@@ -23,7 +25,6 @@ use iv_types::{
 use list_store::{copied_catalog, fetch, look_at};
 use sql_bind::{Bound, bind};
 use std::alloc::Global;
-use txn_book::{Act, Answer, LastRefusal, Step, Stepper};
 
 // So many steps stop an engine.
 const MOST_STEPS: u64 = 1 << 62;

@@ -11,6 +11,8 @@ mod replying;
 mod row_insert;
 mod running;
 mod selecting;
+mod step;
+mod stepper;
 mod table_insert;
 mod table_lists;
 mod tuples;

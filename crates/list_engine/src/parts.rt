@@ -2,9 +2,9 @@
 ghost use Rattle.std.specs.Prelude.{◌≡◌, ◌≤◌, ◌==◌, ℕ, length, IfOk, if◌then◌else◌};
 ghost use Rattle.list_engine.specs.Parts.{nothing, part_in, IsLeastOpen};
 
+use crate::step::LastRefusal;
 use iv_types::{Mode, NoMemory};
 use std::alloc::Global;
-use txn_book::LastRefusal;
 
 /// An open transaction, and the greatest commit number as it began.
 #[derive(Clone, Copy)]

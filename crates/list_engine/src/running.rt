@@ -9,10 +9,10 @@ ghost use Rattle.iv_meaning.specs.Statement.{bound_meaning, Kept};
 ghost use Rattle.iv_meaning.specs.Reading.{replies_by};
 ghost use Rattle.iv_meaning.specs.Transaction.{next_number};
 ghost use Rattle.iv_meaning.specs.Autocommit.{is_built, IsPassedOver, whole_meaning, means_whole};
-ghost use Rattle.txn_book.specs.State.{State};
+ghost use Rattle.list_engine.specs.State.{State};
 ghost use Rattle.sql_bind.specs.Bound.{bound_tree};
-ghost use Rattle.txn_book.specs.declared.step.Act.TheVariants as act;
-ghost use Rattle.txn_book.specs.Steps.{IsSession, IsCreate};
+ghost use Rattle.list_engine.specs.declared.step.Act.TheVariants as act;
+ghost use Rattle.list_engine.specs.Steps.{IsSession, IsCreate};
 ghost use Rattle.query_exec.specs.Tasks.{left};
 ghost use Rattle.query_laws.specs.Laws.{Asks};
 ghost use Rattle.iv_meaning.specs.View.{read as reader};
@@ -22,12 +22,13 @@ use crate::answers::{committed, is_begun, is_ended};
 use crate::engine::ListEngine;
 use crate::replying::{commit, done, refused};
 use crate::selecting::{read_by, relations};
+use crate::step::{Act, Answer, Step};
+use crate::stepper::{Stepper, do_step};
 use crate::table_insert::insert;
 use iv_types::{Mode, NoMemory, Refusal, ReplyList, Statement, TableRows, TupleList};
 use list_store::evaluate;
 use query_exec::Task;
 use sql_bind::{Bound, bind, plan};
-use txn_book::{Act, Answer, Step, Stepper, do_step};
 
 // The greatest commit number after a transaction that kept so many changes.
 fn next_number(number: u64, count: u64) -> u64
@@ -98,12 +99,12 @@ impl ListEngine {
 
     // Carries a task from the Begin of its transaction to the Commit.
     fn run_task(&mut self, session: u32, task: &mut Task) -> Result<ReplyList, NoMemory>
-        ensures { (db : Database) → IsIn self.old db → IsSession session → task.old.session ≡ session → Asks db.schema (left task.old) → IfOk result (λ replies. IsSelected db (replies_by (reader db) (left task.old)) replies self.new) }
+        ensures { (db : Database) → IsIn self.old db → IsSession session → Asks db.schema (left task.old) → IfOk result (λ replies. IsSelected db (replies_by (reader db) (left task.old)) replies self.new) }
     {
         if self.begin_read(session).is_err() {
             return refused(self.alloc, Refusal::NoMemory);
         }
-        match read_by(self, task) {
+        match read_by(self, session, task) {
             Ok(replies) => self.close_read(session, replies),
             Err(NoMemory) => self.leave_read(session),
         }
@@ -164,7 +165,7 @@ impl ListEngine {
         ) {
             return refused(self.alloc, refusal);
         }
-        let Ok(mut task) = Task::new(self.alloc, session, &self.catalog, bound, plan) else {
+        let Ok(mut task) = Task::new(self.alloc, &self.catalog, bound, plan) else {
             return refused(self.alloc, Refusal::NoMemory);
         };
         self.run_task(session, &mut task)

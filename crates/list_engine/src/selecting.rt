@@ -1,32 +1,52 @@
 //! A SELECT's task, carried over an engine that does steps.
 ghost use Rattle.std.specs.Prelude.{◌≡◌};
-ghost use Rattle.txn_book.specs.State.{State};
+ghost use Rattle.list_engine.specs.State.{State};
 ghost use Rattle.query_laws.specs.Laws.{Asks};
 ghost use Rattle.sql_bind.specs.Bound.{bound_tree};
 ghost use Rattle.query_exec.specs.Tasks.{query_in, left};
-ghost use Rattle.list_engine.specs.Engine.{IsReading, WasRead};
+ghost use Rattle.list_engine.specs.Engine.{IsReading, WasRead, step_for};
 
-use iv_types::{NoMemory, ReplyList};
-use query_exec::Task;
+use crate::step::{Act, Answer, Step};
+use crate::stepper::{Stepper, do_step};
+use iv_types::{LockMode, NoMemory, ReplyList};
+use query_exec::{Fetch, Task, Turn};
 use sql_bind::Bound;
-use txn_book::{Answer, Stepper, Turn, do_step};
 
 // No statement asks for more intervals.
 const MOST_TURNS: u64 = 1 << 62;
 
-/// Carries a task to its end, in the transaction that its session has open.
+// The step that reads what a task wants.
+fn fetch_step(session: u32, fetch: Fetch) -> Step
+    ensures { result ≡ step_for session fetch }
+{
+    let Fetch { index, interval } = fetch;
+    Step {
+        session,
+        act: Act::Fetch {
+            index,
+            interval,
+            mode: LockMode::Share,
+        },
+    }
+}
+
+/// Carries a task to its end, in the transaction that a session has open.
 ///
 /// # Errors
 ///
 /// Where there is no memory for a step or for the replies.
-pub fn read_by<S: Stepper>(engine: &mut S, task: &mut Task) -> Result<ReplyList, NoMemory>
-    ensures { (s : State) → S.stands engine.old s → IsReading s task.old.session → Asks s.committed.schema (left task.old) → WasRead (S.stands engine.new) s (left task.old) result }
+pub fn read_by<S: Stepper>(
+    engine: &mut S,
+    session: u32,
+    task: &mut Task,
+) -> Result<ReplyList, NoMemory>
+    ensures { (s : State) → S.stands engine.old s → IsReading s session → Asks s.committed.schema (left task.old) → WasRead (S.stands engine.new) s (left task.old) result }
 {
     let mut last = None;
     for _ in 0..MOST_TURNS {
         match task.next(last) {
-            Turn::Want(step) => match do_step(engine, step) {
-                Answer::Rows(rows) => last = Some(Answer::Rows(rows)),
+            Turn::Want(fetch) => match do_step(engine, fetch_step(session, fetch)) {
+                Answer::Rows(rows) => last = Some(rows),
                 other => {
                     other.let_go();
                     return Err(NoMemory);

@@ -1,49 +1,24 @@
 //! SELECTs that are read step by step.
 //!
-//! A row begins a SELECT of session 5, or hands rows, or `ended`, over to the one that was begun last; then comes its turn.
-//! Where it wants an interval, that is the session, how it locks, the index, and the ends of the interval in hexadecimal
-//! digits, `-` where one has no digits and `none` where there is none behind. Else it is the rows that are replied and
-//! `done` with their count, or `range`, with slashes between them.
+//! A row begins a SELECT, or hands rows over to the one that was begun last, or by `again` nothing; then comes its turn.
+//! Where it wants an interval, that is the index, and the ends of the interval in hexadecimal digits, `-` where one has no
+//! digits and `none` where there is none behind. Else it is the rows that are replied and `done` with their count, or
+//! `range`, with slashes between them.
 use crate::writing::write_refusal;
 use anyhow::bail;
 use case_text::{read_rows, write_interval, write_row};
 use catalog_text::bound;
-use iv_types::{Catalog, LockMode, Mode, Reply};
-use query_exec::Task;
+use iv_types::{Catalog, Mode, Reply, RowList};
+use query_exec::{Fetch, Task, Turn};
 use sql_bind::{Bound, plan};
 use std::alloc::Global;
 use std::fmt::Write;
 use std::mem::{forget, replace};
-use txn_book::{Act, Answer, Step, Turn};
 
-const SESSION: u32 = 5;
-
-fn lock_name(mode: LockMode) -> &'static str {
-    match mode {
-        LockMode::Share => "shares",
-        LockMode::Exclusive => "excludes",
-        LockMode::Increment => "increments",
-    }
-}
-
-fn write_step(out: &mut String, step: &Step) -> anyhow::Result<()> {
-    let session = step.session;
-    write!(out, "{session} ")?;
-    match &step.act {
-        Act::Fetch {
-            index,
-            interval,
-            mode,
-        } => {
-            let name = lock_name(*mode);
-            write!(out, "{name} {index} ")?;
-            write_interval(out, interval)
-        }
-        _ => {
-            out.push_str("another step")?;
-            Ok(())
-        }
-    }
+fn write_fetch(out: &mut String, fetch: &Fetch) -> anyhow::Result<()> {
+    let index = fetch.index;
+    write!(out, "reads {index} ")?;
+    write_interval(out, &fetch.interval)
 }
 
 fn write_reply(out: &mut String, reply: &Reply) -> anyhow::Result<()> {
@@ -73,7 +48,7 @@ fn write_replies(out: &mut String, replies: &[Reply]) -> anyhow::Result<()> {
 
 fn write_turn(out: &mut String, turn: &Turn) -> anyhow::Result<()> {
     match turn {
-        Turn::Want(step) => write_step(out, step),
+        Turn::Want(fetch) => write_fetch(out, fetch),
         Turn::Done(replies) => write_replies(out, replies.as_slice()),
         Turn::NoMemory => {
             out.push_str("no memory")?;
@@ -93,7 +68,7 @@ fn turn_text(alloc: Global, turn: Turn) -> anyhow::Result<String> {
 // A SELECT that is read by its plan.
 fn task_of(alloc: Global, catalog: &Catalog, bound: Bound) -> anyhow::Result<Task> {
     match plan(alloc, catalog, &bound, Mode::Serial) {
-        Ok(plan) => Ok(Task::new(alloc, SESSION, catalog, bound, plan)?),
+        Ok(plan) => Ok(Task::new(alloc, catalog, bound, plan)?),
         Err(_) => {
             forget(bound);
             bail!("no memory")
@@ -105,7 +80,7 @@ fn task_of(alloc: Global, catalog: &Catalog, bound: Bound) -> anyhow::Result<Tas
 fn next_turn(
     alloc: Global,
     task: &mut Option<Task>,
-    last: Option<Answer>,
+    last: Option<RowList>,
 ) -> anyhow::Result<String> {
     match task {
         Some(task) => turn_text(alloc, task.next(last)),
@@ -117,10 +92,10 @@ fn next_turn(
 }
 
 // What a row hands over.
-fn answer(alloc: Global, told: &str) -> anyhow::Result<Answer> {
+fn handed(alloc: Global, told: &str) -> anyhow::Result<Option<RowList>> {
     match told {
-        "ended" => Ok(Answer::Ended),
-        _ => Ok(Answer::Rows(read_rows(alloc, told)?)),
+        "again" => Ok(None),
+        _ => Ok(Some(read_rows(alloc, told)?)),
     }
 }
 
@@ -147,6 +122,6 @@ pub fn turn_of(
         begin(alloc, catalog, task, asked)?;
         return next_turn(alloc, task, None);
     }
-    let told = answer(alloc, asked)?;
-    next_turn(alloc, task, Some(told))
+    let told = handed(alloc, asked)?;
+    next_turn(alloc, task, told)
 }

@@ -1,4 +1,4 @@
-//! SELECT, step by step over any engine that does steps.
+//! SELECT, interval by interval: it wants rows, whoever reads them.
 #![tactic(auto)]
 
 mod answering;
@@ -10,5 +10,7 @@ mod listing;
 mod ordering;
 mod source;
 mod task;
+mod turn;
 
 pub use task::Task;
+pub use turn::{Fetch, Turn};

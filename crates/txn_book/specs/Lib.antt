@@ -1,2 +1,3 @@
-pub mod State
-pub mod Steps
+pub mod Acts
+pub mod Moves
+pub mod Crashes

@@ -4,5 +4,5 @@
 mod step;
 mod stepper;
 
-pub use step::{Act, Answer, LastRefusal, Step, Turn};
+pub use step::{Act, Answer, LastRefusal, Step};
 pub use stepper::{Stepper, do_step};

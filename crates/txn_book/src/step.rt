@@ -1,7 +1,7 @@
-//! Steps, answers and turns.
+//! Steps and answers.
 use iv_types::{
-    Catalog, EngineRefusal, Interval, LockMode, Mode, Refusal, ReplyList, RowList, Sessions,
-    Statement,
+    Bytes, Catalog, DeltaList, EngineRefusal, Interval, LockMode, Mode, Refusal, Row, RowList,
+    Sessions, Statement,
 };
 
 /// What a session asks of an engine: the atomic step.
@@ -15,12 +15,7 @@ pub struct Step {
 impl Step {
     /// Lets a step go. Its drop is proved here, so that no crate above proves it again.
     pub fn let_go(self) {
-        match self.act {
-            Act::Schema(statement) => statement.let_go(),
-            other => {
-                let _ = other;
-            }
-        }
+        self.act.let_go();
     }
 }
 
@@ -37,26 +32,88 @@ pub enum Act {
         interval: Interval,
         mode: LockMode,
     },
+    /// Reads an interval as of a snapshot's number.
+    Peek {
+        index: u32,
+        interval: Interval,
+    },
+    /// Sets the row, or none, under a key of a table.
+    Put {
+        table: u32,
+        key: Bytes,
+        new: Option<Row>,
+    },
+    /// Adds the first owed delta to its view row.
+    Pay,
+    /// Makes that row, if it is absent.
+    Ghost,
+    /// Takes the latest kept Put or Pay back.
+    UndoOne,
+    /// Ends the session's transaction, which keeps no change, without a commit.
+    End,
     /// Commits the session's transaction.
     Commit,
-    /// Ends the session's transaction, which kept no change, without a commit.
-    End,
     /// Runs one CREATE statement as a transaction of its own.
     Schema(Statement),
+    /// Removes a ghost.
+    Clean,
+    /// Drops the versions that no open snapshot can need.
+    Prune,
+    /// Writes what is stored to the disk's pages, with the records of open transactions.
+    Checkpoint,
+    /// Forgets what the session waits for.
+    Cancel,
+}
+
+impl Act {
+    /// Lets an act go, as a step.
+    pub fn let_go(self) {
+        match self {
+            Act::Schema(statement) => statement.let_go(),
+            other => {
+                let _ = other;
+            }
+        }
+    }
 }
 
 /// What a step is answered.
 #[derive(Drop)]
 pub enum Answer {
     /// A transaction is open, with the greatest commit number and the number of definitions.
-    Begun { number: u64, defs: u32 },
+    Begun {
+        number: u64,
+        defs: u32,
+    },
     Defs(Catalog),
     Rows(RowList),
+    /// The row that was there, and the deltas that the change owes.
+    Changed {
+        before: Option<Row>,
+        owed: DeltaList,
+    },
+    /// So many deltas are still owed.
+    Paid {
+        left: u32,
+    },
+    /// The row of the first owed delta is absent.
+    NeedsGhost,
+    Ghosted,
+    /// So many kept steps are left.
+    Undone {
+        left: u32,
+    },
     /// The transaction has ended without a commit.
     Ended,
     /// The transaction is committed, and this is its number; where it kept no change, the greatest number, or of a
     /// snapshot its own.
     Committed(u64),
+    /// So many ghosts were removed.
+    Cleaned(u32),
+    Pruned,
+    /// With the greatest commit number.
+    Saved(u64),
+    Cancelled,
     /// The step waits for these sessions, and did nothing.
     Blocked(Sessions),
     /// The engine refuses the step.
@@ -83,15 +140,4 @@ impl Answer {
 pub struct LastRefusal {
     pub step: u64,
     pub refusal: EngineRefusal,
-}
-
-/// What a statement that runs step by step does next.
-#[derive(Drop)]
-pub enum Turn {
-    /// It wants this step, and its answer.
-    Want(Step),
-    /// It has ended, with these replies.
-    Done(ReplyList),
-    /// There is no memory for its next step. It stands as before.
-    NoMemory,
 }

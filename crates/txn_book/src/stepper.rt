@@ -1,20 +1,44 @@
 //! Engines that do steps.
-ghost use Rattle.std.specs.Prelude.{◌≡◌, ℕ, Option};
+ghost use Rattle.std.specs.Prelude.{◌≡◌, ◌⊎◌, ◌≤◌, ◌<◌, ◌^◌, ℕ, None};
 ghost use Rattle.std.specs.Option.{option_map};
-ghost use Rattle.txn_book.specs.State.{State};
-ghost use Rattle.txn_book.specs.Steps.{May, Moves};
+ghost use Rattle.iv_meaning.specs.Database.{Database};
+ghost use Rattle.txn_machine.specs.Store.{committed};
+ghost use Rattle.txn_machine.specs.State.{State};
+ghost use Rattle.txn_machine.specs.Laws.{IsReached};
+ghost use Rattle.txn_book.specs.Acts.{last_refusal};
+ghost use Rattle.txn_book.specs.Moves.{IsAsked, IsAskable, Moves, CountsFault};
+ghost use Rattle.txn_book.specs.Crashes.{MayCommit, Elapses};
 
-use crate::{Answer, LastRefusal, Step};
+use crate::step::{Answer, LastRefusal, Step};
 
-/// An engine that does steps, one at a time.
+/// An engine that does steps, one at a time. What a crash may leave is told or untold, by the engine's type.
 pub trait Stepper {
-    /// Which state the engine is in.
+    /// Which states the engine is in, by the step relation of many open transactions.
     ghost stands: { Self → State → Type 0 };
 
-    /// Does a step. Steps are counted from 1; a step that is answered `Stopped` is not counted. Of a step that may not be
-    /// asked for in the engine's state nothing is told.
+    /// Holds where the engine has given up, for want of memory. Nothing is told of it any more. An engine that never gives
+    /// up has `⊥` here.
+    ghost gave_up: { Self → Type 0 };
+
+    /// How often the engine's disk has failed. The count stands still at the end of a `u64`.
+    ghost faults: { Self → ℕ };
+
+    /// The databases that a crash at this moment may recover. An engine that does not tell them has none here.
+    ghost may_recover: { Self → Database → Type 0 };
+
+    /// The moment, as a number that does not fall.
+    ghost moment: { Self → ℕ };
+
+    /// What a crash at some moment from that one on might have recovered, during a step or between two.
+    ghost recovered_since: { Self → ℕ → Database → Type 0 };
+
+    /// Does a step that may be asked for. Steps are counted from 1; a step that is answered `Stopped` is not counted.
     fn step(&mut self, step: &Step) -> Answer
-        ensures { (s : State) → stands self.old s → May s step.now → Moves (stands self.new) s step.now result };
+        requires { gave_up self.old ⊎ IsAskable (stands self.old) step.now }
+        ensures moves { (s : State) → stands self.old s → IsAsked s step.now → gave_up self.new ⊎ Moves (stands self.new) (may_recover self.new) s step.now result }
+        ensures ended { gave_up self.old → gave_up self.new }
+        ensures cause { CountsFault result (faults self.old) (faults self.new) }
+        ensures time { (s : State) → stands self.old s → IsAsked s step.now → gave_up self.new ⊎ Elapses (MayCommit s step.now) (moment self.old) (moment self.new) (recovered_since self.old) (recovered_since self.new) };
 
     /// How many steps were done.
     fn steps_done(&self) -> u64
@@ -22,12 +46,34 @@ pub trait Stepper {
 
     /// The session's last step that the engine refused, if there is one.
     fn refused(&self, session: u32) -> Option<LastRefusal>
-        ensures { (s : State) → stands self.now s → result ≡ s.refused session };
+        ensures { (s : State) → stands self.now s → option_map last_refusal result ≡ (s.seat_of session).refused };
+
+    /// Steps lead to each state in which it stands.
+    ghost is_reached: { (engine : Self) (s : State) → stands engine s → IsReached s };
+
+    /// While it is not stopped, its disk has failed no more than when it was opened.
+    ghost runs_well: { (engine : Self) (s : State) → stands engine s → s.stop ≡ None → faults engine ≡ s.opening.faults };
+
+    /// While it is not stopped, a crash recovers just what is committed.
+    ghost keeps_all: { (engine : Self) (s : State) (db : Database) → stands engine s → s.stop ≡ None → may_recover engine db → db ≡ committed s.store };
+
+    /// This moment is one of those since an earlier one.
+    ghost counts_now: { (engine : Self) (t : ℕ) (db : Database) → t ≤ moment engine → may_recover engine db → recovered_since engine t db };
+
+    /// Since this moment there is no other.
+    ghost only_now: { (engine : Self) (db : Database) → recovered_since engine (moment engine) db → may_recover engine db };
+
+    /// The count of faults is a `u64`, so it never falls.
+    ghost counts_in: { (engine : Self) → faults engine < 2 ^ 64 };
 }
 
 /// Does a step that is asked for once, and lets it go.
 pub fn do_step<S: Stepper>(engine: &mut S, step: Step) -> Answer
-    ensures { (s : State) → S.stands engine.old s → May s step → Moves (S.stands engine.new) s step result }
+    requires { S.gave_up engine.old ⊎ IsAskable (S.stands engine.old) step }
+    ensures moves { (s : State) → S.stands engine.old s → IsAsked s step → S.gave_up engine.new ⊎ Moves (S.stands engine.new) (S.may_recover engine.new) s step result }
+    ensures ended { S.gave_up engine.old → S.gave_up engine.new }
+    ensures cause { CountsFault result (S.faults engine.old) (S.faults engine.new) }
+    ensures time { (s : State) → S.stands engine.old s → IsAsked s step → S.gave_up engine.new ⊎ Elapses (MayCommit s step) (S.moment engine.old) (S.moment engine.new) (S.recovered_since engine.old) (S.recovered_since engine.new) }
 {
     let answer = engine.step(&step);
     step.let_go();

@@ -1,6 +1,6 @@
 use mathlib.Core.Path.{refl, sym, ap, subst, ◌∙◌}
-use Rattle.txn_book.specs.State.{counted, refused_step, with_open}
-use Rattle.txn_book.specs.declared.step.Act.TheVariants as act
+use Rattle.list_engine.specs.State.{counted, refused_step, with_open}
+use Rattle.list_engine.specs.declared.step.Act.TheVariants as act
 use Rattle.iv_types.specs.declared.refusal.EngineRefusal.TheVariants.{NoMemory}
 use Rattle.list_engine.specs.Engine.{Moved}
 use Rattle.std.proofs.Common.{Some, length}

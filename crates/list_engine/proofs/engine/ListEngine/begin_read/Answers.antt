@@ -1,8 +1,8 @@
 use mathlib.Core.Path.{sym, subst, ◌∙◌}
-use Rattle.txn_book.specs.Steps.{Moves}
+use Rattle.list_engine.specs.Steps.{Moves}
 use Rattle.list_engine.specs.Engine.{Stands}
 use Rattle.iv_types.specs.declared.statement.Mode.TheVariants.{Serial}
-use Rattle.txn_book.specs.declared.step.Act.TheVariants.{Begin}
+use Rattle.list_engine.specs.declared.step.Act.TheVariants.{Begin}
 use Rattle.list_engine.proofs.RunningLemmas.{state_of, stands_in, may_begin, begin_passed, begun}
 use Rattle.list_engine.proofs.RunningLemmas.{begun_is, no_begin}
 use Rattle.list_engine.proofs.engine.ListEngine.begin_read.Goals as goal

@@ -1,7 +1,7 @@
 use mathlib.Core.Path.{sym, subst, ◌∙◌}
-use Rattle.txn_book.specs.Steps.{Moves}
+use Rattle.list_engine.specs.Steps.{Moves}
 use Rattle.list_engine.specs.Engine.{Stands}
-use Rattle.txn_book.specs.declared.step.Act.TheVariants.{Commit}
+use Rattle.list_engine.specs.declared.step.Act.TheVariants.{Commit}
 use Rattle.list_engine.proofs.RunningLemmas.{may_commit, commit_done}
 use Rattle.list_engine.proofs.RunningLemmas.{committed_is}
 use Rattle.list_engine.proofs.engine.ListEngine.commit_read.Goals as goal

@@ -1,6 +1,6 @@
 use mathlib.Core.Path.{refl, sym, ap, subst, ◌∙◌}
 use mathlib.Core.Logic.{inl, inr}
-use Rattle.txn_book.specs.State.{counted}
+use Rattle.list_engine.specs.State.{counted}
 use Rattle.std.proofs.Common.{◌+◌}
 use Rattle.std.specs.List.{AllByRecursion}
 use Rattle.iv_types.specs.Syntax.{statement_tree}

@@ -1,6 +1,6 @@
 use mathlib.Core.Path.{refl, sym, subst, ◌∙◌}
-use Rattle.txn_book.specs.State.{counted, refused_step}
-use Rattle.txn_book.specs.declared.step.Act.TheVariants as act
+use Rattle.list_engine.specs.State.{counted, refused_step}
+use Rattle.list_engine.specs.declared.step.Act.TheVariants as act
 use Rattle.iv_types.specs.declared.refusal.EngineRefusal.TheVariants.{NoMemory}
 use Rattle.list_engine.specs.Engine.{Moved}
 use Rattle.list_engine.proofs.engine.ListEngine.defs.Goals as goal

@@ -1,5 +1,5 @@
 use mathlib.Core.Path.{refl}
-use Rattle.txn_book.specs.State.{counted, with_open}
+use Rattle.list_engine.specs.State.{counted, with_open}
 use Rattle.std.proofs.Common.{None}
 use Rattle.list_engine.proofs.engine.ListEngine.end.Goals as goal
 

@@ -2,11 +2,11 @@ use Rattle.std.proofs.Common.{◌≡◌, [], ◌∷◌}
 use mathlib.Core.Path.{refl, sym, subst, ◌∙◌}
 use Rattle.iv_types.specs.declared.refusal.Refusal.TheVariants.{NoMemory}
 use Rattle.iv_types.specs.declared.reply.Reply.TheVariants as reply
-use Rattle.txn_book.specs.Steps.{Moves}
+use Rattle.list_engine.specs.Steps.{Moves}
 use Rattle.list_engine.specs.Engine.{Stands, IsIn}
 use Rattle.list_store.proofs.HeldLemmas.{if_ok}
 use Rattle.iv_meaning.specs.Autocommit.{IsPassedOver}
-use Rattle.txn_book.specs.declared.step.Act.TheVariants.{End}
+use Rattle.list_engine.specs.declared.step.Act.TheVariants.{End}
 use Rattle.list_engine.proofs.RunningLemmas.{may_end, end_done}
 use Rattle.list_engine.proofs.RunningLemmas.{ended_is}
 use Rattle.list_engine.proofs.engine.ListEngine.leave_read.Goals as goal

@@ -4,7 +4,7 @@ use Rattle.iv_types.specs.declared.refusal.Refusal.TheVariants.{NoMemory}
 use Rattle.iv_types.specs.declared.reply.Reply.TheVariants as reply
 use Rattle.iv_types.specs.Syntax.{statement_tree}
 use Rattle.iv_meaning.specs.Autocommit.{means_whole}
-use Rattle.txn_book.specs.Steps.{Moves}
+use Rattle.list_engine.specs.Steps.{Moves}
 use Rattle.list_engine.specs.Engine.{Stands, EndsAs}
 use Rattle.list_store.proofs.HeldLemmas.{if_ok}
 use Rattle.list_engine.proofs.RunningLemmas.{state_of, stands_in, may_create, create_done, create_denied, create_passed, created_whole}

@@ -54,7 +54,7 @@ returns c = λ db s q i of_session b is.
     let planned : parts_of c.in-Ok.plan ≡ plan db.schema (select q) Serial =
     c.in-Ok.ensures ∙ (ap (λ (x : Schema). plan x (bound_tree c.args.bound) Serial) i.has.holds.schema ∙ ap (λ (x : BoundTree). plan db.schema x Serial) is) in
     let p : Program = program q (sources_for db.schema q Serial) in
-    let left_is : left c.in-Ok-new.task ≡ p = c.in-Ok-new.ensures.left
+    let left_is : left c.in-Ok-new.task ≡ p = c.in-Ok-new.ensures
     ∙ (ap (λ x. program x (map (source_of (schema_of c.args.self.now.catalog)) (parts_of c.in-Ok.plan))) same_query
     ∙ (ap (λ (x : Schema). program q (map (source_of x) (parts_of c.in-Ok.plan))) i.has.holds.schema
     ∙ ap (λ (parts : List Part). program q (map (source_of db.schema) parts)) planned)) in
@@ -64,4 +64,4 @@ returns c = λ db s q i of_session b is.
     let accepted : whole_meaning (select q) db ≡ bound_meaning (select q) db = select_accepted db q there.0 there.1 in
     if_ok c.run_task.result (λ replies. IsSelected db (replies_by (reader db) (left c.in-Ok-new.task)) replies c.run_task.new.self) (λ replies. EndsAs (whole_meaning (select q) db) db replies c.run_task.new.self)
     (λ replies e. subst (λ x. EndsAs x db replies c.run_task.new.self) (sym accepted) (selected_ends db (select_answer q db) (replies_by (reader db) (left c.in-Ok-new.task)) replies c.run_task.new.self read e))
-    (c.run_task.ensures db here of_session c.in-Ok-new.ensures.session (subst (Asks db.schema) (sym left_is) (asking_law db i.has.holds.sound q Serial)))
+    (c.run_task.ensures db here of_session (subst (Asks db.schema) (sym left_is) (asking_law db i.has.holds.sound q Serial)))

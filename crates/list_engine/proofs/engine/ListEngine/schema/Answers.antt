@@ -1,7 +1,7 @@
 use mathlib.Core.Path.{refl, sym, ap, subst, ◌∙◌}
 use mathlib.Core.Logic.{inl, inr}
-use Rattle.txn_book.specs.State.{refused_step}
-use Rattle.txn_book.specs.declared.step.Act.TheVariants as act
+use Rattle.list_engine.specs.State.{refused_step}
+use Rattle.list_engine.specs.declared.step.Act.TheVariants as act
 use Rattle.iv_types.specs.declared.refusal.EngineRefusal.TheVariants.{NoMemory}
 use Rattle.list_engine.specs.Engine.{Moved}
 use Rattle.std.proofs.Common.{arith, ◌≡◌, Err}

@@ -1,5 +1,5 @@
 use Rattle.std.proofs.Common.{arith, ◌<◌, ◌^◌}
-use Rattle.txn_book.specs.declared.step.Act.TheVariants as act
+use Rattle.list_engine.specs.declared.step.Act.TheVariants as act
 use Rattle.list_engine.proofs.SteppingLemmas.{counted_in, asked_for, stepped, stopped_in}
 use Rattle.list_engine.proofs.engine.ListEngineStepper.step.Goals as goal
 

@@ -3,7 +3,7 @@ use Rattle.std.specs.Prelude.{ℕ, ◌+◌, ◌==◌, Option, Some, if◌then◌
 use Rattle.iv_types.specs.declared.statement.Mode.{Mode}
 use Rattle.iv_types.specs.declared.refusal.EngineRefusal.{EngineRefusal}
 use Rattle.iv_meaning.specs.Database.{Database}
-use Rattle.txn_book.specs.declared.step.LastRefusal.{LastRefusal}
+use Rattle.list_engine.specs.declared.step.LastRefusal.{LastRefusal}
 
 -- an open transaction
 pub record Open : Type 0 where

@@ -1,30 +1,26 @@
 -- Which answers a step can have, and what it changes: the step relation of the acts that are built.
-use Rattle.std.specs.Prelude.{◌≡◌, ◌⊎◌, ℕ, true, false, ◌+◌, ◌≤◌, ◌<◌, ◌^◌, List, [], ◌∷◌, length, Option, Some, None, IsSome, Result, Ok, Err}
+use Rattle.std.specs.Prelude.{◌≡◌, ◌⊎◌, ℕ, true, false, ◌+◌, ◌≤◌, ◌<◌, ◌^◌, [], ◌∷◌, length, Option, Some, None, IsSome, Ok, Err}
 use Rattle.iv_types.specs.declared.statement.Mode.{Mode}
 use Rattle.iv_types.specs.declared.statement.Mode.TheVariants.{Serial, Snapshot}
-use Rattle.iv_types.specs.declared.statement.Statement.{Statement}
 use Rattle.iv_types.specs.declared.lock.LockMode.{LockMode}
 use Rattle.iv_types.specs.declared.lock.LockMode.TheVariants.{Share, Exclusive, Increment}
 use Rattle.iv_types.specs.declared.refusal.Refusal.{Refusal}
 use Rattle.iv_types.specs.declared.refusal.Refusal.TheVariants.{NumberRange}
-use Rattle.iv_types.specs.declared.refusal.EngineRefusal.{EngineRefusal}
 use Rattle.iv_types.specs.declared.refusal.EngineRefusal.TheVariants as refusal
 use Rattle.iv_types.specs.declared.catalog.TableDef.{TableDef}
-use Rattle.iv_types.specs.declared.value.Interval.{Interval}
 use Rattle.iv_types.specs.Syntax.{StatementTree, create_table, create_index, create_view, statement_tree}
 use Rattle.iv_meaning.specs.Schema.{Object, table, numbered, schema_of}
-use Rattle.iv_meaning.specs.Database.{Database}
 use Rattle.iv_meaning.specs.View.{read}
-use Rattle.iv_meaning.specs.Statement.{BoundTree, defines, Meaning, Refused, Accepted, keep}
+use Rattle.iv_meaning.specs.Statement.{BoundTree, defines, Refused, Accepted, keep}
 use Rattle.iv_meaning.specs.Binding.{bind}
 use Rattle.iv_meaning.specs.Transaction.{means}
 use Rattle.iv_meaning.specs.Autocommit.{is_refused_whole}
-use Rattle.txn_book.specs.declared.step.Step.{Step}
-use Rattle.txn_book.specs.declared.step.Act.{Act}
-use Rattle.txn_book.specs.declared.step.Act.TheVariants as act
-use Rattle.txn_book.specs.declared.step.Answer.{Answer}
-use Rattle.txn_book.specs.declared.step.Answer.TheVariants as answer
-use Rattle.txn_book.specs.State.{State, Open, with_open, counted, refused_step}
+use Rattle.list_engine.specs.declared.step.Step.{Step}
+use Rattle.list_engine.specs.declared.step.Act.{Act}
+use Rattle.list_engine.specs.declared.step.Act.TheVariants as act
+use Rattle.list_engine.specs.declared.step.Answer.{Answer}
+use Rattle.list_engine.specs.declared.step.Answer.TheVariants as answer
+use Rattle.list_engine.specs.State.{State, Open, with_open, counted, refused_step}
 
 -- ---- stopped engines
 

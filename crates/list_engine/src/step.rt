@@ -1,0 +1,85 @@
+//! Steps and answers.
+use iv_types::{
+    Catalog, EngineRefusal, Interval, LockMode, Mode, Refusal, RowList, Sessions, Statement,
+};
+
+/// What a session asks of an engine: the atomic step.
+#[derive(Drop)]
+pub struct Step {
+    /// From 1 to 64, or 0 for the engine's own steps.
+    pub session: u32,
+    pub act: Act,
+}
+
+impl Step {
+    /// Lets a step go. Its drop is proved here, so that no crate above proves it again.
+    pub fn let_go(self) {
+        match self.act {
+            Act::Schema(statement) => statement.let_go(),
+            other => {
+                let _ = other;
+            }
+        }
+    }
+}
+
+/// What a step is to do.
+#[derive(Drop)]
+pub enum Act {
+    /// Opens a transaction.
+    Begin(Mode),
+    /// Gives a copy of the catalog.
+    Defs,
+    /// Locks an interval of an index and gives its rows, in the order of the index's keys.
+    Fetch {
+        index: u32,
+        interval: Interval,
+        mode: LockMode,
+    },
+    /// Commits the session's transaction.
+    Commit,
+    /// Ends the session's transaction, which kept no change, without a commit.
+    End,
+    /// Runs one CREATE statement as a transaction of its own.
+    Schema(Statement),
+}
+
+/// What a step is answered.
+#[derive(Drop)]
+pub enum Answer {
+    /// A transaction is open, with the greatest commit number and the number of definitions.
+    Begun { number: u64, defs: u32 },
+    Defs(Catalog),
+    Rows(RowList),
+    /// The transaction has ended without a commit.
+    Ended,
+    /// The transaction is committed, and this is its number; where it kept no change, the greatest number, or of a
+    /// snapshot its own.
+    Committed(u64),
+    /// The step waits for these sessions, and did nothing.
+    Blocked(Sessions),
+    /// The engine refuses the step.
+    Refused(EngineRefusal),
+    /// The statement's meaning is a refusal.
+    Denied(Refusal),
+}
+
+impl Answer {
+    /// Lets an answer go. Its drop is proved here, so that no crate above proves it again.
+    pub fn let_go(self) {
+        match self {
+            Answer::Defs(catalog) => catalog.let_go(),
+            Answer::Denied(refusal) => refusal.let_go(),
+            other => {
+                let _ = other;
+            }
+        }
+    }
+}
+
+/// The last refusal of a session's steps, and the number of that step, counted from 1.
+#[derive(Clone, Copy)]
+pub struct LastRefusal {
+    pub step: u64,
+    pub refusal: EngineRefusal,
+}

@@ -1,0 +1,25 @@
+-- What a crash during a step may recover.
+use Rattle.std.specs.Prelude.{◌≡◌, ◌⊎◌, ℕ, ◌≤◌, List, None}
+use Rattle.iv_meaning.specs.Database.{Database}
+use Rattle.txn_machine.specs.Answers.{Answer}
+use Rattle.txn_machine.specs.Store.{Effect, committed, run}
+use Rattle.txn_machine.specs.Ghosts.{the_views}
+use Rattle.txn_machine.specs.State.{State}
+use Rattle.txn_machine.specs.Steps.{Says}
+use Rattle.txn_book.specs.declared.step.Step.{Step}
+use Rattle.txn_book.specs.Acts.{act_of}
+
+-- What a step of an engine that is not stopped may leave committed, by any answer that it can have: a Commit or a CREATE that
+-- the disk fails may be recovered with its entry or without it.
+pub record MayCommit (s : State) (step : Step) (db : Database) : Type 0 where
+  pub runs : s.stop ≡ None
+  pub said : Answer
+  pub effects : List Effect
+  pub says : Says s step.session (act_of step.act) said effects
+  pub is : db ≡ committed (run the_views s.store step.session effects)
+
+-- Time goes on: a crash since t might have recovered what it might have recovered before, or a database of which this holds.
+pub record Elapses (May : Database → Type 0) (before now : ℕ) (past since : ℕ → Database → Type 0) : Type 0 where
+  pub later : before ≤ now
+  pub nothing_else : (t : ℕ) (db : Database) → t ≤ before → since t db → past t db ⊎ May db
+  pub keeps : (t : ℕ) (db : Database) → t ≤ before → past t db → since t db
