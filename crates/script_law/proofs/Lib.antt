@@ -11,3 +11,4 @@ pub mod OverMachine
 pub mod Changing
 pub mod Working
 pub mod Lone
+pub mod Inside
