@@ -12,3 +12,5 @@ pub mod Changing
 pub mod Working
 pub mod Lone
 pub mod Inside
+pub mod Outside
+pub mod Right
