@@ -18,7 +18,7 @@ use Rattle.txn_machine.specs.Acts.{Act}
 use Rattle.txn_machine.specs.Answers as answer
 use Rattle.txn_machine.specs.Answers.{Answer}
 use Rattle.script_law.specs.Seen.{Event, Waits, LacksRow, Fails, Begins, Learns, Idles, Commits, Creates, Denies, event, is_stop, CanCome, Txn, Visible, visible_after, open_after, history_after, committed, base, kept_of, new_txn, StepLaws}
-use Rattle.script_law.specs.Programs.{Standing, Todo, says, asks, ghosts, Job, Grows, objects_of, Serves, Starts, BeginsSo, MayCome, IsKnown, Proceeds, Closes, IsClosed, IsCreated, creates, denies, Programs, next_txn, outside_with}
+use Rattle.script_law.specs.Programs.{Standing, Todo, says, asks, ghosts, Job, Grows, objects_of, Serves, OpensFirst, Starts, BeginsSo, MayCome, IsKnown, Proceeds, Closes, IsClosed, IsCreated, creates, denies, Programs, next_txn, outside_with}
 use Rattle.script_law.specs.RunLines.{Outcome, ended, stuck, stepped, act_of, asked_next, ghost_next, next_of, outcome_at, outcome_of, IsFree, RunsOn, has_ended, is_blocked, goes_on, StepsOnce, had_ended, steps_once, Table}
 use Rattle.script_law.proofs.Basics.{IsQuiet, quiet_history, quiet_open, same_open, Came, blocked, lacks, closed, on, came, either_true, outcome_free}
 use Rattle.script_law.proofs.Growing.{same_grows, grows_by, step_grows}
@@ -56,10 +56,9 @@ some_inj e = cc
 abbrev FirstStep : Bool → Job → Option Txn → Act → (Answer → Todo) → Type 0
 FirstStep stopped j t a f = (said : Answer) → MayCome stopped t a said → BeginsSo j (event a said) stopped t (λ stopped' t'. Serves stopped' j t' (f said))
 
-starts_asks : (stopped : Bool) (j : Job) (t : Option Txn) (a : Act) (f : Answer → Todo) → Starts stopped j t (asks a f)
-    → Serves stopped j t (asks a f) ⊎ ((mode : Mode) × (a ≡ act.Begin mode) × FirstStep stopped j t (act.Begin mode) f)
-starts_asks stopped j t (act.Begin mode) f h = inr (mode, refl, h)
-starts_asks stopped j t _ f h = inl h
+opens_asks : (stopped : Bool) (j : Job) (t : Option Txn) (a : Act) (f : Answer → Todo) → OpensFirst stopped j t (asks a f) → (mode : Mode) × (a ≡ act.Begin mode) × FirstStep stopped j t (act.Begin mode) f
+opens_asks stopped j t (act.Begin mode) f h = (mode, refl, h)
+opens_asks stopped j t _ f h = absurd h
 
 -- how a Begin can come
 data Began (mode : Mode) (e : Event) : Type 1 where
@@ -328,9 +327,9 @@ module _ {S : Type 0} (view : S → Visible) (Does : S → ℕ → Act → Answe
 
   first_result : (todo : Todo) (a : Act) (s mid : S) (said : Answer) → act_of todo ≡ Some a → Does s i a said mid → Fresh s todo → StepResult todo (next_of todo said) (event a said) mid
   first_result (says replies standing) a s mid said is does h = absurd (none-some a is)
-  first_result (asks b f) a s mid said is does h = elim (starts_asks h.stage.stopped the_job ((view s).open_of i) b f h.starts) [
+  first_result (asks b f) a s mid said is does h = elim h.starts [
     | inl serves ↦ step_result (asks b f) a s mid said is does (record { stage = h.stage; serves = serves })
-    | inr x ↦ by x.0 x.1 x.2
+    | inr first ↦ let x = opens_asks h.stage.stopped the_job ((view s).open_of i) b f first in by x.0 x.1 x.2
   ]
     where
       by : (mode : Mode) → b ≡ act.Begin mode → FirstStep h.stage.stopped the_job ((view s).open_of i) (act.Begin mode) f → StepResult (asks b f) (next_of (asks b f) said) (event a said) mid
@@ -338,10 +337,16 @@ module _ {S : Type 0} (view : S → Visible) (Does : S → ℕ → Act → Answe
           subst (λ x. StepResult (asks x f) (next_of (asks x f) said) (event a said) mid) (sym eb)
           (subst (λ x. StepResult (asks (act.Begin mode) f) (next_of (asks (act.Begin mode) f) said) (event x said) mid) (sym eb ∙ some_inj is)
           (begins s mid mode said f (subst (λ x. Does s i x said mid) (sym (sym eb ∙ some_inj is)) does) h.stage h.number_is first))
-  first_result (ghosts f) a s mid said is does h = step_result (ghosts f) a s mid said is does (record { stage = h.stage; serves = h.starts })
+  first_result (ghosts f) a s mid said is does h = elim h.starts [
+    | inl serves ↦ step_result (ghosts f) a s mid said is does (record { stage = h.stage; serves = serves })
+    | inr first ↦ absurd first
+  ]
 
   fresh_says : (s : S) (replies : List Reply) (standing : Standing) → Fresh s (says replies standing) → Stays s (says replies standing)
-  fresh_says s replies standing h = record { stage = h.stage; serves = h.starts }
+  fresh_says s replies standing h = elim h.starts [
+    | inl serves ↦ record { stage = h.stage; serves = serves }
+    | inr first ↦ absurd first
+  ]
 
   pub first_runs : (todo : Todo) (s : S) (moved : ℕ) (o : Outcome) (after : S) → Fresh s todo → RunsOn Does programs tell i todo s moved o after → OnOutcome o after
   first_runs _ _ _ _ _ h (has_ended replies standing s) = stays_outcome s (says replies standing) (fresh_says s replies standing h)

@@ -11,3 +11,6 @@ pub mod OverMachine
 pub mod Changing
 pub mod Working
 pub mod Lone
+pub mod Inside
+pub mod Outside
+pub mod Right

@@ -59,18 +59,21 @@ same_length [] (p ∷ ps) e = absurd (cc)
 same_length (s ∷ ss) [] e = absurd (cc)
 same_length (s ∷ ss) (p ∷ ps) e = λ k. ℕ.suc (same_length ss ps (cc) k)
 
+pub marked_from : (name : List ℕ) (marks : List (List ℕ × ℕ)) (kept : List (Option RowChange)) → AreMarks kept marks → AreMarks kept (from_marked name marks)
+marked_from name [] kept h = h
+marked_from name (p ∷ ps) kept h = by (marked_from name ps h.1 h.4) (bytes_eq name p.0)
+  where
+    by : AreMarks h.1 (from_marked name ps) → (b : Bool) → AreMarks kept (cond b (p ∷ ps) (from_marked name ps))
+    by rest true = h
+    by rest false = subst (λ l. AreMarks l (from_marked name ps)) (sym h.2) (marks_more h.0 h.1 (from_marked name ps) rest)
+
 -- the savepoints from a name on, in both
 pub record From (name : List ℕ) (saved : List Saved) (marks : List (List ℕ × ℕ)) : Type 0 where
   pub names : names_of (from_named name saved) ≡ marked_names (from_marked name marks)
-  pub marked : (kept : List (Option RowChange)) → AreMarks kept marks → AreMarks kept (from_marked name marks)
   pub stand : (db : Database) (kept : List (Option RowChange)) → AreMarks kept marks → AreSaved db kept saved marks → AreSaved db kept (from_named name saved) (from_marked name marks)
 
--- what is marked earlier stands in what is kept too
-lower_marks : (later earlier : List (Option RowChange)) (kept : List (Option RowChange)) (marks : List (List ℕ × ℕ)) → kept ≡ later ++ earlier → AreMarks earlier marks → AreMarks kept marks
-lower_marks later earlier kept marks e h = subst (λ l. AreMarks l marks) (sym e) (marks_more later earlier marks h)
-
 pub from_both : (name : List ℕ) (saved : List Saved) (marks : List (List ℕ × ℕ)) → names_of saved ≡ marked_names marks → From name saved marks
-from_both name [] [] e = record { names = refl; marked = λ kept h. h; stand = λ db kept m h. h }
+from_both name [] [] e = record { names = refl; stand = λ db kept m h. h }
 from_both name [] (p ∷ ps) e = absurd (cc)
 from_both name (s ∷ ss) [] e = absurd (cc)
 from_both name (s ∷ ss) (p ∷ ps) e = by (from_both name ss ps (cc)) (bytes_eq name s.name) refl
@@ -84,12 +87,10 @@ from_both name (s ∷ ss) (p ∷ ps) e = by (from_both name ss ps (cc)) (bytes_e
     by : From name ss ps → (b : Bool) → bytes_eq name s.name ≡ b → From name (s ∷ ss) (p ∷ ps)
     by rest true is = record {
       names = (λ k. names_of (cond (is k) (s ∷ ss) (from_named name ss))) ∙ e ∙ sym (λ k. marked_names (cond ((here ∙ is) k) (p ∷ ps) (from_marked name ps)));
-      marked = λ kept h. subst (λ b. AreMarks kept (cond b (p ∷ ps) (from_marked name ps))) (sym (here ∙ is)) h;
       stand = λ db kept m h. subst (λ x. x) (λ k. AreSaved db kept (cond (sym is k) (s ∷ ss) (from_named name ss)) (cond (sym (here ∙ is) k) (p ∷ ps) (from_marked name ps))) h;
     }
     by rest false is = record {
       names = (λ k. names_of (cond (is k) (s ∷ ss) (from_named name ss))) ∙ rest.names ∙ sym (λ k. marked_names (cond ((here ∙ is) k) (p ∷ ps) (from_marked name ps)));
-      marked = λ kept h. subst (λ b. AreMarks kept (cond b (p ∷ ps) (from_marked name ps))) (sym (here ∙ is)) (lower_marks h.0 h.1 kept (from_marked name ps) h.2 (rest.marked h.1 h.4));
       stand = λ db kept m h. subst (λ x. x) (λ k. AreSaved db kept (cond (sym is k) (s ∷ ss) (from_named name ss)) (cond (sym (here ∙ is) k) (p ∷ ps) (from_marked name ps)))
           (lower db kept m h);
     }
@@ -98,7 +99,7 @@ from_both name (s ∷ ss) (p ∷ ps) e = by (from_both name ss ps (cc)) (bytes_e
         lower db kept m h =
             let older : oldest p.1 kept ≡ m.1 = oldest_more [] kept m.0 m.1 p.1 m.2 m.3 in
             subst (λ l. AreSaved db l (from_named name ss) (from_marked name ps)) (sym m.2)
-            (saved_more db m.0 m.1 (from_named name ss) (from_marked name ps) (rest.marked m.1 m.4) (rest.stand db m.1 m.4 (subst (λ l. AreSaved db l ss ps) older h.2)))
+            (saved_more db m.0 m.1 (from_named name ss) (from_marked name ps) (marked_from name ps m.1 m.4) (rest.stand db m.1 m.4 (subst (λ l. AreSaved db l ss ps) older h.2)))
 
 -- a session refuses by its marks what a lone transaction refuses by its savepoints
 pub refused_same : (mode : Mode) (saved : List Saved) (marks : List (List ℕ × ℕ)) (statement : StatementTree) → names_of saved ≡ marked_names marks

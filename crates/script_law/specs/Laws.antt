@@ -10,6 +10,8 @@ use Rattle.txn_machine.specs.Answers.{Answer}
 use Rattle.script_law.specs.Seen.{Visible, StepLaws}
 use Rattle.script_law.specs.Programs.{Programs, ProgramLaws}
 use Rattle.script_law.specs.RunLines.{RunsScript}
+use Rattle.script_law.specs.Works.{Works, WorkLaws}
+use Rattle.script_law.specs.Sessions.{programs_of}
 
 -- nothing was committed since this database was opened, and no transaction is open
 pub record IsNew (db : Database) (v : Visible) : Type 0 where
@@ -26,3 +28,7 @@ abbrev pub TranscriptLaw : {S : Type 0} → (S → Visible) → (S → ℕ → A
 TranscriptLaw {S} view Does Stands Halts programs tell =
     StepLaws view Does Stands Halts → ProgramLaws programs → AreEngines tell → (db : Database) (all : List ℕ) (lines : List Said) (s after : S) (out : List ℕ)
     → Stands s → IsNew db (view s) → RunsScript Does programs tell view all lines s out after → IsSerialFrom (opened_with db) lines out
+
+-- the programs of all statements are right, whatever works of single statements keep their laws
+abbrev pub ProgramsLaw : Type 0
+ProgramsLaw = (works : Works) → WorkLaws works → ProgramLaws (programs_of works)

@@ -230,11 +230,15 @@ BeginsSo j (Begins mode number defs) stopped None More =
     number ≡ j.number → (objects : Schema) → Grows j.copy objects → defs ≡ length objects → More stopped (Some (new_txn mode number objects))
 BeginsSo j e stopped t More = More (stopped || is_stop e) t
 
--- the program of a statement: only its first step may open a transaction
-abbrev pub Starts : Bool → Job → Option Txn → Todo → Type 0
-Starts stopped j t (asks (act.Begin mode) f) =
+-- its first step opens a transaction
+abbrev pub OpensFirst : Bool → Job → Option Txn → Todo → Type 0
+OpensFirst stopped j t (asks (act.Begin mode) f) =
     (said : Answer) → MayCome stopped t (act.Begin mode) said → BeginsSo j (event (act.Begin mode) said) stopped t (λ stopped' t'. Serves stopped' j t' (f said))
-Starts stopped j t todo = Serves stopped j t todo
+OpensFirst stopped j t todo = ⊥
+
+-- the program of a statement that has not begun
+abbrev pub Starts : Bool → Job → Option Txn → Todo → Type 0
+Starts stopped j t todo = Serves stopped j t todo ⊎ OpensFirst stopped j t todo
 
 -- ---- the programs of all statements
 

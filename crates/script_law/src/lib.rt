@@ -4,7 +4,7 @@
 ghost use Rattle.std.specs.Prelude.{ℕ};
 ghost use Rattle.iv_types.specs.declared.refusal.Refusal.{Refusal};
 ghost use Rattle.iv_types.specs.declared.refusal.EngineRefusal.{EngineRefusal};
-ghost use Rattle.script_law.specs.Laws.{TranscriptLaw};
+ghost use Rattle.script_law.specs.Laws.{ProgramsLaw, TranscriptLaw};
 ghost use Rattle.script_law.specs.Machine.{MachineLaw};
 ghost use Rattle.script_law.specs.Programs.{Programs};
 
@@ -39,4 +39,9 @@ pub fn transcript_law<E: Engine>()
 /// What a script prints that is run over the machine of transactions is a serial transcript.
 pub fn machine_law()
     ensures { MachineLaw }
+{}
+
+/// The programs of all statements are right: what they tell is what a lone transaction is told.
+pub fn programs_law()
+    ensures { ProgramsLaw }
 {}
