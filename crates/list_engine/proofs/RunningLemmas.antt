@@ -18,10 +18,12 @@ use Rattle.iv_types.specs.declared.reply.Reply.TheVariants as reply
 use Rattle.iv_types.specs.Syntax.{StatementTree, statement_tree, create_table, create_index, create_view, insert, update, delete, select, begin, commit, rollback, savepoint}
 use Rattle.iv_meaning.specs.Database.{Database}
 use Rattle.iv_meaning.specs.Schema.{Object}
-use Rattle.iv_meaning.specs.Statement.{create, defines, keep}
-use Rattle.iv_meaning.specs.Binding.{faults, unless}
+use Rattle.iv_types.specs.declared.catalog.TableDef.{TableDef}
+use Rattle.iv_meaning.specs.Names.{scope_of}
+use Rattle.iv_meaning.specs.Statement.{BoundTree, create, control, defines, keep, bound_meaning}
+use Rattle.iv_meaning.specs.Binding.{first_of, made_view, bound_to, faults, unless}
 use Rattle.iv_meaning.specs.Transaction.{means, bound_or_refused}
-use Rattle.iv_meaning.specs.Autocommit.{means_whole, whole_or_refused}
+use Rattle.iv_meaning.specs.Autocommit.{whole_meaning, means_whole, whole_or_refused}
 use Rattle.list_engine.specs.declared.step.Step.{Step}
 use Rattle.list_engine.specs.declared.step.Act.{Act}
 use Rattle.list_engine.specs.declared.step.Act.TheVariants as act
@@ -113,14 +115,20 @@ left_in engine s after st l h = subst (IsIn engine) l.committed (is_in engine af
 -- ---- CREATE
 
 -- a CREATE statement means the same where views are evaluated whole
-of_created : (found : List Refusal) (o : Object) (db : Database) → whole_or_refused (unless found (create o)) db ≡ bound_or_refused (unless found (create o)) db
-of_created [] o db = refl
-of_created (fault ∷ more) o db = refl
+of_bound : (found : List Refusal) (to : BoundTree) (db : Database) → whole_meaning to db ≡ bound_meaning to db → whole_or_refused (unless found to) db ≡ bound_or_refused (unless found to) db
+of_bound [] to db e = e
+of_bound (fault ∷ more) to db e = refl
+
+of_view : (first : Option TableDef) (made : TableDef → Object) (db : Database) → whole_meaning (elim first [ None ↦ control | Some t ↦ create (made t) ]) db ≡ bound_meaning (elim first [ None ↦ control | Some t ↦ create (made t) ]) db
+of_view None made db = refl
+of_view (Some t) made db = refl
 
 means_created : (s : StatementTree) (db : Database) → IsCreate s → means_whole s db ≡ means s db
-means_created (create_table name columns primary) db is = of_created (faults db.schema (create_table name columns primary)) _ db
-means_created (create_index name of columns) db is = of_created (faults db.schema (create_index name of columns)) _ db
-means_created (create_view name query) db is = of_created (faults db.schema (create_view name query)) _ db
+means_created (create_table name columns primary) db is = of_bound (faults db.schema (create_table name columns primary)) (bound_to db.schema (create_table name columns primary)) db refl
+means_created (create_index name of columns) db is = of_bound (faults db.schema (create_index name of columns)) (bound_to db.schema (create_index name of columns)) db refl
+means_created (create_view name query) db is =
+    of_bound (faults db.schema (create_view name query)) (bound_to db.schema (create_view name query)) db
+    (of_view (first_of (scope_of db.schema query)) (λ first. made_view db.schema name query (scope_of db.schema query) first) db)
 means_created (insert into tuples) db is = absurd is
 means_created (update in_ ss condition) db is = absurd is
 means_created (delete in_ condition) db is = absurd is
