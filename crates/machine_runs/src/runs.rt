@@ -5,11 +5,12 @@ use iv_types::{
     Kind, LockMode, Mode, NameList, NoMemory, Query, Ref, RefList, Refusal, Relation, Row, RowList,
     Statement, Value,
 };
-use plain_machine::{Act, Answer, Machine};
+use plain_machine::Machine;
 use row_codec::{encode_key, point};
 use std::alloc::Global;
 use std::process::Abort;
 use std::test::Fail;
+use txn_book::{Act, Answer};
 
 const MOST: i128 = 170_141_183_460_469_231_731_687_303_715_884_105_727;
 
@@ -239,8 +240,8 @@ fn told_of(answer: &Answer) -> Seen {
         Answer::Rows(rows) => rows_seen(rows),
         Answer::Changed { .. } => Seen::Changed,
         Answer::NeedsGhost => Seen::NeedsGhost,
-        Answer::Paid(left) => Seen::Left(*left),
-        Answer::Undone(left) => Seen::Left(*left),
+        Answer::Paid { left } => Seen::Left(*left),
+        Answer::Undone { left } => Seen::Left(*left),
         Answer::Ended => Seen::Done,
         Answer::Pruned => Seen::Done,
         Answer::Cleaned(count) => Seen::Cleaned(*count),

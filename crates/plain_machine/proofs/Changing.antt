@@ -27,15 +27,15 @@ use Rattle.txn_machine.specs.May.{GoesOn}
 use Rattle.txn_machine.specs.Steps.{asked, put_wants}
 use Rattle.txn_machine.proofs.Basics.{one_same, one_other}
 use Rattle.view_delta.specs.Owing.{row_change}
-use Rattle.plain_machine.specs.Acts.{answer_of}
+use Rattle.txn_book.specs.Acts.{answer_of}
 use Rattle.plain_machine.specs.Weights.{store_weight, put_weight, most_weight}
 use Rattle.plain_machine.specs.Locking.{HasLocks, IsGranted}
 use Rattle.plain_machine.specs.Stands.{IsTxn, HasRows, HasStored, Stands, Told}
 use Rattle.plain_machine.proofs.Finding.{object_is}
 use Rattle.plain_machine.specs.Moves.{IsChanged}
 use Rattle.plain_machine.specs.declared.txn.Kept.TheVariants as kept
-use Rattle.plain_machine.specs.declared.act.Answer.{Answer}
-use Rattle.plain_machine.specs.declared.act.Answer.TheVariants as answer
+use Rattle.txn_book.specs.declared.step.Answer.{Answer}
+use Rattle.txn_book.specs.declared.step.Answer.TheVariants as answer
 use Rattle.plain_machine.specs.declared.machine.Machine.{Machine}
 use Rattle.plain_machine.proofs.Standing.{moved_parts, own_txn, rows_like, kept_txn}
 use Rattle.plain_machine.proofs.Weighing.{put_at_most, kept_at_most, takes_adds, writes_adds}

@@ -31,7 +31,7 @@ use Rattle.txn_machine.proofs.Looking.{view_laws}
 use Rattle.txn_machine.proofs.Reached.{reached}
 use Rattle.txn_machine.proofs.Runs.{committed_after}
 use Rattle.txn_machine.proofs.Telling.{state_at_push}
-use Rattle.plain_machine.specs.Acts.{kept_steps}
+use Rattle.plain_machine.specs.Kept.{kept_steps}
 use Rattle.plain_machine.specs.Committing.{keeps_change, deltas_of, IsEntered}
 use Rattle.plain_machine.specs.Weights.{store_weight, most_weight}
 use Rattle.plain_machine.specs.Locking.{HasLocks}

@@ -30,9 +30,9 @@ use Rattle.plain_machine.specs.Weights.{store_weight, note_weight, fetch_weight,
 use Rattle.plain_machine.specs.Locking.{HasLocks, IsGranted}
 use Rattle.plain_machine.specs.Txns.{txn_at}
 use Rattle.plain_machine.specs.Stands.{IsTxn, HasRows, Stands, Told}
-use Rattle.plain_machine.specs.Acts.{answer_of}
+use Rattle.txn_book.specs.Acts.{answer_of}
 use Rattle.plain_machine.specs.Moves.{IsLost}
-use Rattle.plain_machine.specs.declared.act.Answer.{Answer}
+use Rattle.txn_book.specs.declared.step.Answer.{Answer}
 use Rattle.plain_machine.specs.declared.txn.Txn.{Txn}
 use Rattle.plain_machine.specs.declared.machine.Machine.{Machine}
 use Rattle.plain_machine.proofs.Standing.{moved_parts, own_txn, open_txn, rows_like}

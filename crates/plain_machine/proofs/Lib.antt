@@ -22,3 +22,4 @@ pub mod Commits
 pub mod Least
 pub mod Removing
 pub mod Creating
+pub mod Steps

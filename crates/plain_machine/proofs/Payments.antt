@@ -26,7 +26,8 @@ use Rattle.txn_machine.specs.Steps as steps
 use Rattle.txn_machine.specs.Steps.{asked, Says, group_want, first_want}
 use Rattle.txn_machine.proofs.Basics.{one_same, one_other}
 use Rattle.txn_machine.proofs.Reached.{stored_law}
-use Rattle.plain_machine.specs.Acts.{answer_of, kept_steps}
+use Rattle.txn_book.specs.Acts.{answer_of}
+use Rattle.plain_machine.specs.Kept.{kept_steps}
 use Rattle.plain_machine.specs.Bounds.{kept_in, IsAccount}
 use Rattle.plain_machine.specs.Weights.{store_weight, most_weight}
 use Rattle.plain_machine.specs.Locking.{HasLocks, IsGranted}
@@ -34,7 +35,7 @@ use Rattle.plain_machine.specs.Txns.{txn_at}
 use Rattle.plain_machine.specs.Stands.{IsTxn, IsSame, HasRows, HoldsStore, Stands, Told}
 use Rattle.plain_machine.specs.Moves.{Owes, PaysFirst, lacks, refuses, pays}
 use Rattle.plain_machine.specs.declared.txn.Txn.{Txn}
-use Rattle.plain_machine.specs.declared.act.Answer.{Answer}
+use Rattle.txn_book.specs.declared.step.Answer.{Answer}
 use Rattle.plain_machine.specs.declared.machine.Machine.{Machine}
 use Rattle.plain_machine.proofs.Standing.{moved_parts, own_txn, open_txn, rows_like}
 use Rattle.plain_machine.proofs.Weighing.{takes_adds, pays_adds, ghosts_adds}

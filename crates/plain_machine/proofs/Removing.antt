@@ -40,7 +40,7 @@ use Rattle.plain_machine.specs.declared.machine.Version.{Version}
 use Rattle.plain_machine.proofs.Least.{least_above}
 use Rattle.plain_machine.proofs.Payments.{kept_now, account_is}
 use Rattle.plain_machine.proofs.Standing.{stored_parts}
-use Rattle.plain_machine.proofs.Telling.{told_by, fits_log}
+use Rattle.plain_machine.proofs.Telling.{told_by, fits_log, told_still}
 use Rattle.plain_machine.proofs.Weighing.{cleans_adds, prunes_adds}
 use Rattle.txn_machine.specs.Counts.{definition_sizes}
 
@@ -195,3 +195,7 @@ pruned_told m n s least h is rest =
     let same : n.weight ≡ m.weight = ap (λ (x : Machine). x.weight) rest in
     omega (arith, less, weight, same))
     (subst (λ w. w ≤ most_weight) (ap (λ (x : Machine). x.weight) (sym rest)) h.small) (ap (λ (x : Machine). x.steps) rest)
+
+-- the machine has no disk, so that a checkpoint changes nothing that it has
+pub saved_told : (m : Machine) (s : State) → Stands m s → Told s 0 act.Checkpoint (answer.Saved m.number) m
+saved_told m s h = told_still m s 0 act.Checkpoint (answer.Saved m.number) refl h (refl, h.store.number) (λ sessions e. cc) refl

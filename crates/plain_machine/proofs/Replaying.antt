@@ -15,7 +15,7 @@ use Rattle.iv_meaning.specs.Escrow.{Account, IsSession, IsAllowed, inf, sup, lo,
 use Rattle.escrow_bounds.specs.Column.{Column, Stands}
 use Rattle.txn_machine.specs.Keeping.{KeptStep, increments}
 use Rattle.txn_machine.proofs.Bounds.{over_same}
-use Rattle.plain_machine.specs.Acts.{kept_of, kept_steps}
+use Rattle.plain_machine.specs.Kept.{kept_of, kept_steps}
 use Rattle.plain_machine.specs.Bounds.{kept_in, IsAccount, replayed}
 use Rattle.plain_machine.specs.declared.txn.Kept.{Kept}
 use Rattle.plain_machine.specs.declared.txn.Txn.{Txn}

@@ -17,7 +17,8 @@ use Rattle.txn_machine.specs.Ghosts.{the_views}
 use Rattle.txn_machine.specs.State.{State}
 use Rattle.txn_machine.proofs.Basics.{one_same, one_other}
 use Rattle.view_delta.specs.Owing.{row_change}
-use Rattle.plain_machine.specs.Acts.{answer_of, kept_steps, kept_of}
+use Rattle.txn_book.specs.Acts.{answer_of}
+use Rattle.plain_machine.specs.Kept.{kept_steps, kept_of}
 use Rattle.plain_machine.specs.Weights.{store_weight, most_weight}
 use Rattle.plain_machine.specs.Locking.{HasLocks}
 use Rattle.plain_machine.specs.Txns.{txn_at, KeepsOthers}
@@ -26,8 +27,8 @@ use Rattle.plain_machine.specs.Moves.{UndoesPut, UndoesPay}
 use Rattle.plain_machine.specs.declared.txn.Txn.{Txn}
 use Rattle.plain_machine.specs.declared.txn.Kept.{Kept}
 use Rattle.plain_machine.specs.declared.txn.Kept.TheVariants as kept
-use Rattle.plain_machine.specs.declared.act.Answer.{Answer}
-use Rattle.plain_machine.specs.declared.act.Answer.TheVariants as answer
+use Rattle.txn_book.specs.declared.step.Answer.{Answer}
+use Rattle.txn_book.specs.declared.step.Answer.TheVariants as answer
 use Rattle.plain_machine.specs.declared.machine.Machine.{Machine}
 use Rattle.plain_machine.proofs.Standing.{moved_parts, own_txn, rows_like}
 use Rattle.plain_machine.proofs.Weighing.{undoes_adds}

@@ -18,7 +18,7 @@ use Rattle.txn_machine.specs.Stored.{ViewRows}
 use Rattle.plain_machine.specs.Locking.{HasLocks}
 use Rattle.plain_machine.specs.Txns.{txn_at, Sets}
 use Rattle.plain_machine.specs.Stands.{IsTxn, IsSame, HasRows, HoldsStore, version_deltas}
-use Rattle.plain_machine.specs.Acts.{kept_steps}
+use Rattle.plain_machine.specs.Kept.{kept_steps}
 use Rattle.plain_machine.specs.Moves.{Keeps}
 use Rattle.plain_machine.specs.declared.txn.Txn.{Txn}
 use Rattle.plain_machine.specs.declared.txn.Kept.{Kept}

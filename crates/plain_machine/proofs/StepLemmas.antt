@@ -16,13 +16,13 @@ use Rattle.txn_machine.specs.May.{May}
 use Rattle.txn_machine.specs.Steps.{asked, waits_after, definitions_after, Step, Did, Run, log_after}
 use Rattle.txn_machine.specs.Laws.{IsReached}
 use Rattle.txn_machine.proofs.Basics.{one_same, one_other}
-use Rattle.plain_machine.specs.Acts.{answer_of}
+use Rattle.txn_book.specs.Acts.{answer_of}
 use Rattle.plain_machine.specs.Weights.{store_weight, most_weight}
 use Rattle.plain_machine.specs.Locking.{HasLocks}
 use Rattle.plain_machine.specs.Stands.{HoldsStore, Told, Moved}
 use Rattle.plain_machine.specs.Stepping.{is_blocked}
-use Rattle.plain_machine.specs.declared.act.Answer.{Answer}
-use Rattle.plain_machine.specs.declared.act.Answer.TheVariants as answer
+use Rattle.txn_book.specs.declared.step.Answer.{Answer}
+use Rattle.txn_book.specs.declared.step.Answer.TheVariants as answer
 use Rattle.plain_machine.specs.declared.machine.Machine.{Machine}
 use Rattle.txn_machine.specs.Counts.{definition_sizes}
 
@@ -59,6 +59,7 @@ waits_for s i a answer.Ended t own e = absurd (cc)
 waits_for s i a (answer.Committed n) t own e = absurd (cc)
 waits_for s i a (answer.Cleaned n) t own e = absurd (cc)
 waits_for s i a answer.Pruned t own e = absurd (cc)
+waits_for s i a (answer.Saved n) t own e = absurd (cc)
 waits_for s i a answer.Cancelled t own e = absurd (cc)
 waits_for s i a (answer.Refused w) t own e = absurd (cc)
 waits_for s i a (answer.Denied w) t own e = absurd (cc)
@@ -77,6 +78,7 @@ waits_no_more s i a answer.Ended e = refl
 waits_no_more s i a (answer.Committed n) e = refl
 waits_no_more s i a (answer.Cleaned n) e = refl
 waits_no_more s i a answer.Pruned e = refl
+waits_no_more s i a (answer.Saved n) e = refl
 waits_no_more s i a answer.Cancelled e = refl
 waits_no_more s i a (answer.Refused w) e = refl
 waits_no_more s i a (answer.Denied w) e = refl

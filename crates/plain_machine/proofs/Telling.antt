@@ -28,7 +28,7 @@ use Rattle.txn_machine.specs.Steps.{Says, asked, MayWait, MayBegin, FitsHistory,
 use Rattle.txn_machine.proofs.Basics.{one_same, one_other}
 use Rattle.txn_machine.proofs.Moving.{state_now}
 use Rattle.txn_machine.proofs.Reached.{reached}
-use Rattle.plain_machine.specs.Acts.{kept_steps}
+use Rattle.plain_machine.specs.Kept.{kept_steps}
 use Rattle.plain_machine.specs.Weights.{store_weight, most_weight}
 use Rattle.plain_machine.specs.Locking.{HasLocks, Agrees, IsWaiting}
 use Rattle.plain_machine.specs.Txns.{txn_at, Sets}

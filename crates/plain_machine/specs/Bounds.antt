@@ -7,7 +7,7 @@ use Rattle.iv_meaning.specs.Escrow.{Account, IsSession, IsAllowed, inf, sup, val
 use Rattle.escrow_bounds.specs.declared.escrow.Range.{Range}
 use Rattle.txn_machine.specs.Deltas.{columns_of, worth, place_of}
 use Rattle.txn_machine.specs.Keeping.{KeptStep, increments}
-use Rattle.plain_machine.specs.Acts.{kept_steps}
+use Rattle.plain_machine.specs.Kept.{kept_steps}
 use Rattle.plain_machine.specs.Txns.{txn_at}
 use Rattle.plain_machine.specs.declared.txn.Txn.{Txn}
 

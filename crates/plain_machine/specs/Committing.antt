@@ -3,7 +3,7 @@ use Rattle.std.specs.Prelude.{◌≡◌, ℕ, ◌+◌, Bool, true, false, List, 
 use Rattle.iv_types.specs.declared.lock.GroupDelta.{GroupDelta}
 use Rattle.table_laws.specs.Kept.{redo}
 use Rattle.txn_machine.specs.Keeping.{KeptStep, Put, Pay, changes_of}
-use Rattle.plain_machine.specs.Acts.{kept_steps}
+use Rattle.plain_machine.specs.Kept.{kept_steps}
 use Rattle.plain_machine.specs.declared.txn.Txn.{Txn}
 use Rattle.plain_machine.specs.declared.machine.Machine.{Machine}
 

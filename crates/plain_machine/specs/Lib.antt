@@ -1,4 +1,4 @@
-pub mod Acts
+pub mod Kept
 pub mod Weights
 pub mod Txns
 pub mod Asking
@@ -11,3 +11,4 @@ pub mod Stepping
 pub mod Committing
 pub mod Defining
 pub mod Cleaning
+pub mod Engine

@@ -16,8 +16,8 @@ use Rattle.txn_machine.specs.Stored as stored
 use Rattle.view_delta.specs.Owing.{row_change}
 use Rattle.plain_machine.specs.Txns.{txn_at, Sets}
 use Rattle.plain_machine.specs.Bounds.{AreAccounts, IsRefused, IsAnswered}
-use Rattle.plain_machine.specs.declared.act.Answer.{Answer}
-use Rattle.plain_machine.specs.declared.act.Answer.TheVariants as answer
+use Rattle.txn_book.specs.declared.step.Answer.{Answer}
+use Rattle.txn_book.specs.declared.step.Answer.TheVariants as answer
 use Rattle.plain_machine.specs.Weights.{put_weight, most_weight}
 use Rattle.plain_machine.specs.declared.txn.Txn.{Txn}
 use Rattle.plain_machine.specs.declared.txn.Kept.{Kept}

@@ -18,7 +18,7 @@ use Rattle.txn_machine.specs.Ghosts.{the_views}
 use Rattle.txn_machine.specs.State.{State, is_fault}
 use Rattle.txn_machine.specs.Steps.{Says, asked, definitions_after, Step}
 use Rattle.txn_machine.specs.Laws.{IsReached}
-use Rattle.plain_machine.specs.Acts.{kept_steps}
+use Rattle.plain_machine.specs.Kept.{kept_steps}
 use Rattle.plain_machine.specs.Locking.{HasLocks}
 use Rattle.plain_machine.specs.Txns.{txn_at}
 use Rattle.plain_machine.specs.Weights.{store_weight, most_weight}

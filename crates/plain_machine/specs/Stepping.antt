@@ -1,7 +1,7 @@
 -- After which answers a session waits.
 use Rattle.std.specs.Prelude.{Bool, true, false}
-use Rattle.plain_machine.specs.declared.act.Answer.{Answer}
-use Rattle.plain_machine.specs.declared.act.Answer.TheVariants as answer
+use Rattle.txn_book.specs.declared.step.Answer.{Answer}
+use Rattle.txn_book.specs.declared.step.Answer.TheVariants as answer
 
 abbrev pub is_blocked : Answer → Bool
 is_blocked (answer.Blocked sessions) = true

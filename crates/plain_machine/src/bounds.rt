@@ -7,7 +7,7 @@ ghost use Rattle.escrow_bounds.specs.Column.{Stands, IsReserved};
 ghost use Rattle.txn_machine.specs.Deltas as machine;
 ghost use Rattle.txn_machine.specs.Deltas.{place_of};
 ghost use Rattle.txn_machine.specs.Keeping.{KeptStep, increments};
-ghost use Rattle.plain_machine.specs.Acts.{kept_of, kept_steps};
+ghost use Rattle.plain_machine.specs.Kept.{kept_of, kept_steps};
 ghost use Rattle.plain_machine.specs.Bounds as bounds;
 ghost use Rattle.plain_machine.specs.Bounds.{kept_in, IsAccount, AreAccounts, IsAnswered, Refuses};
 

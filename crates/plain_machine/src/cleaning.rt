@@ -1,4 +1,4 @@
-//! Removing ghosts and dropping versions.
+//! Removing ghosts, dropping versions, and checkpoints.
 ghost use Rattle.std.specs.Prelude.{◌≡◌, ◌↔◌, ℤ, pos, List, get_or, Some, IfOk, IsTrue};
 ghost use Rattle.std.specs.List.{list_any};
 ghost use Rattle.std.specs.FinMap.{get};
@@ -6,11 +6,10 @@ ghost use Rattle.txn_machine.specs.Acts as act;
 ghost use Rattle.txn_machine.specs.Deltas as machine;
 ghost use Rattle.txn_machine.specs.Ghosts.{IsCleanable};
 ghost use Rattle.txn_machine.specs.State.{State};
-ghost use Rattle.plain_machine.specs.Acts.{answer_of};
+ghost use Rattle.txn_book.specs.Acts.{answer_of};
 ghost use Rattle.plain_machine.specs.Stands.{Stands, Told, version_deltas};
 ghost use Rattle.plain_machine.specs.Cleaning.{IsFirst, IsUnlocked};
 
-use crate::act::Answer;
 use crate::appending::number_at;
 use crate::bounds::{committed_count, is_for, is_unpaid};
 use crate::copies::copied_bytes;
@@ -18,6 +17,7 @@ use crate::machine::{Machine, Version};
 use crate::txns::least_snapshot;
 use iv_types::{Bytes, GroupDelta, LockMode, NoMemory};
 use lock_manager::LockTable;
+use txn_book::Answer;
 
 // Whether one of these deltas is for a group of a view.
 fn has_delta(deltas: &[GroupDelta], view: u32, group: &[u8]) -> bool
@@ -105,5 +105,12 @@ impl Machine {
     {
         self.mark = least_snapshot(&self.txns, self.number);
         Answer::Pruned
+    }
+
+    // Saves what is stored. The machine keeps nothing on a disk, so there is nothing to write.
+    pub(crate) fn save(&self) -> Answer
+        ensures { (s : State) → Stands self.now s → Told s 0 act.Checkpoint (answer_of result) self.now }
+    {
+        Answer::Saved(self.number)
     }
 }

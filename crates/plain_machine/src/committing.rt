@@ -4,16 +4,15 @@ ghost use Rattle.iv_types.specs.declared.lock.GroupDelta.{GroupDelta};
 ghost use Rattle.table_laws.specs.Kept.{redo};
 ghost use Rattle.iv_meaning.specs.Database.{Rows};
 ghost use Rattle.txn_machine.specs.Keeping.{KeptStep, changes_of};
-ghost use Rattle.plain_machine.specs.Acts.{kept_of, kept_steps};
+ghost use Rattle.plain_machine.specs.Kept.{kept_of, kept_steps};
 ghost use Rattle.txn_machine.specs.Acts as act;
 ghost use Rattle.txn_machine.specs.May.{MayAct};
 ghost use Rattle.txn_machine.specs.State.{State};
-ghost use Rattle.plain_machine.specs.Acts.{answer_of};
+ghost use Rattle.txn_book.specs.Acts.{answer_of};
 ghost use Rattle.plain_machine.specs.Committing.{deltas_of, keeps_change, IsEntered};
 ghost use Rattle.plain_machine.specs.Stands.{Stands, Told};
-ghost use Rattle.plain_machine.specs.declared.act.Answer.TheVariants as answer;
+ghost use Rattle.txn_book.specs.declared.step.Answer.TheVariants as answer;
 
-use crate::act::Answer;
 use crate::appending::append;
 use crate::copies::{copied_bytes, copied_deltas, copied_perhaps};
 use crate::machine::{Machine, Version};
@@ -22,6 +21,7 @@ use crate::txn::{Kept, Txn};
 use crate::txns::{set, take};
 use iv_types::{DeltaList, Mode, NoMemory, Row};
 use std::alloc::Global;
+use txn_book::Answer;
 
 /// Whether one of these kept steps, of which the latest stands first, is a change.
 pub fn keeps_change(kept: &[Kept]) -> bool

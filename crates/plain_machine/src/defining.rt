@@ -14,12 +14,11 @@ ghost use Rattle.txn_machine.specs.Fresh.{made_of};
 ghost use Rattle.txn_machine.specs.State.{State};
 ghost use Rattle.txn_machine.specs.Steps.{Makes, NoneIsOpen};
 ghost use Rattle.txn_machine.specs.Store.{committed};
-ghost use Rattle.plain_machine.specs.Acts.{answer_of};
+ghost use Rattle.txn_book.specs.Acts.{answer_of};
 ghost use Rattle.plain_machine.specs.Defining.{IsDefined};
 ghost use Rattle.plain_machine.specs.Stands.{Stands, Told};
-ghost use Rattle.plain_machine.specs.declared.act.Answer.TheVariants as answer;
+ghost use Rattle.txn_book.specs.declared.step.Answer.TheVariants as answer;
 
-use crate::act::Answer;
 use crate::machine::{Machine, grow};
 use crate::owing::{add_all, all_contributions};
 use crate::place_map::PlaceMap;
@@ -30,6 +29,7 @@ use list_store::add;
 use sql_bind::{Bound, bind};
 use sql_pieces::statement_bytes;
 use std::alloc::Global;
+use txn_book::Answer;
 
 // What a definition and its entry weigh, if its text is as short as that of one that is made.
 fn definition_weight(statement: &Statement) -> Option<u64>

@@ -4,10 +4,9 @@ ghost use Rattle.txn_machine.specs.Acts as act;
 ghost use Rattle.txn_machine.specs.May.{MayAct};
 ghost use Rattle.txn_machine.specs.State.{State};
 ghost use Rattle.txn_machine.specs.Steps.{Finds};
-ghost use Rattle.plain_machine.specs.Acts.{answer_of};
+ghost use Rattle.txn_book.specs.Acts.{answer_of};
 ghost use Rattle.plain_machine.specs.Stands.{Stands, HasStored, Told};
 
-use crate::act::Answer;
 use crate::copies::copied_interval;
 use crate::locking::{Asked, request};
 use crate::machine::{Machine, grow};
@@ -15,6 +14,7 @@ use crate::reading::{read, shown};
 use crate::txns::open_of;
 use crate::weights::fetch_weight;
 use iv_types::{Definition, Interval, LockMode, NoMemory, RowList, Want, WantList};
+use txn_book::Answer;
 
 impl Machine {
     // The rows of an interval of an index, as they are stored.

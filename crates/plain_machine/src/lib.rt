@@ -6,7 +6,6 @@
 //! of transactions within a weight.
 #![tactic(auto)]
 
-mod act;
 mod appending;
 mod asking;
 mod bounds;
@@ -14,6 +13,7 @@ mod cleaning;
 mod committing;
 mod copies;
 mod defining;
+mod engine;
 mod fetching;
 mod locking;
 mod machine;
@@ -28,5 +28,5 @@ mod txns;
 mod undoing;
 mod weights;
 
-pub use act::{Act, Answer};
+pub use engine::PlainEngine;
 pub use machine::Machine;

@@ -10,11 +10,10 @@ ghost use Rattle.txn_machine.specs.Store.{opened};
 ghost use Rattle.txn_machine.specs.Log.{unlimited};
 ghost use Rattle.txn_machine.specs.State.{State, opened_state};
 ghost use Rattle.txn_machine.specs.Stored as stored;
-ghost use Rattle.plain_machine.specs.Acts.{answer_of};
+ghost use Rattle.txn_book.specs.Acts.{answer_of};
 ghost use Rattle.plain_machine.specs.Stands.{Stands, Told, IsGrown};
 ghost use Rattle.plain_machine.specs.Moves.{IsLost};
 
-use crate::act::Answer;
 use crate::place_map::{PlaceMap, copied_rows};
 use crate::txn::Txn;
 use crate::txns::{set, take};
@@ -22,6 +21,7 @@ use iv_types::{Catalog, Cycle, DeltaList, EngineRefusal, Mode, NoMemory, NumberL
 use list_store::copied_catalog;
 use lock_manager::LockTable;
 use std::alloc::Global;
+use txn_book::Answer;
 
 /// What is kept stays below this weight.
 const MOST_WEIGHT: u64 = 67_108_864;

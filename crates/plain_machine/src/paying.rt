@@ -5,12 +5,11 @@ ghost use Rattle.iv_meaning.specs.Escrow.{IsSession};
 ghost use Rattle.txn_machine.specs.Acts as act;
 ghost use Rattle.txn_machine.specs.May.{MayAct};
 ghost use Rattle.txn_machine.specs.State.{State};
-ghost use Rattle.plain_machine.specs.Acts.{answer_of};
+ghost use Rattle.txn_book.specs.Acts.{answer_of};
 ghost use Rattle.plain_machine.specs.Stands.{Stands, Told};
 ghost use Rattle.plain_machine.specs.Moves.{IsPaid, PaysFirst, Owes};
-ghost use Rattle.plain_machine.specs.declared.act.Answer.TheVariants as answer;
+ghost use Rattle.txn_book.specs.declared.step.Answer.TheVariants as answer;
 
-use crate::act::Answer;
 use crate::bounds::refusal;
 use crate::copies::copied_delta;
 use crate::locking::{Asked, request};
@@ -20,6 +19,7 @@ use crate::txn::Kept;
 use crate::txns::{open_of, set, take};
 use iv_types::{EngineRefusal, GroupDelta, LockMode, NoMemory, Want, WantList};
 use row_codec::point;
+use txn_book::Answer;
 
 impl Machine {
     // Adds the first owed delta, which every column allows, to its view row.
@@ -39,7 +39,7 @@ impl Machine {
             return Err(NoMemory);
         };
         set(&mut self.txns, session, Some(txn));
-        Ok(Answer::Paid(left))
+        Ok(Answer::Paid { left })
     }
 
     // Pays the first owed delta, for which the lock is held.

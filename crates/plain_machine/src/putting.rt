@@ -5,12 +5,11 @@ ghost use Rattle.iv_meaning.specs.Database.{Row as MeaningRow};
 ghost use Rattle.txn_machine.specs.Acts as act;
 ghost use Rattle.txn_machine.specs.May.{MayAct};
 ghost use Rattle.txn_machine.specs.State.{State};
-ghost use Rattle.plain_machine.specs.Acts.{answer_of};
+ghost use Rattle.txn_book.specs.Acts.{answer_of};
 ghost use Rattle.plain_machine.specs.Stands.{Stands, Told};
 ghost use Rattle.plain_machine.specs.Moves.{IsChanged};
-ghost use Rattle.plain_machine.specs.declared.act.Answer.TheVariants as answer;
+ghost use Rattle.txn_book.specs.declared.step.Answer.TheVariants as answer;
 
-use crate::act::Answer;
 use crate::asking::wants_of;
 use crate::copies::{copied_bytes, copied_deltas, copied_perhaps};
 use crate::locking::{Asked, request};
@@ -20,6 +19,7 @@ use crate::txn::Kept;
 use crate::txns::{set, take};
 use crate::weights::put_weight;
 use iv_types::{Bytes, Change, Definition, NoMemory, Row};
+use txn_book::Answer;
 
 impl Machine {
     // Makes a change for which the locks are held.

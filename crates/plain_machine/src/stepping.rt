@@ -2,13 +2,13 @@
 ghost use Rattle.std.specs.Prelude.{◌≡◌, IfOk};
 ghost use Rattle.txn_machine.specs.May.{May, MayAct};
 ghost use Rattle.txn_machine.specs.State.{State};
-ghost use Rattle.plain_machine.specs.Acts.{act_of, answer_of};
+ghost use Rattle.txn_book.specs.Acts.{act_of, answer_of};
 ghost use Rattle.plain_machine.specs.Stands.{Stands, Told, Moved};
 ghost use Rattle.plain_machine.specs.Stepping.{is_blocked};
 
-use crate::act::{Act, Answer};
 use crate::machine::Machine;
 use iv_types::NoMemory;
+use txn_book::{Act, Answer};
 
 // So many steps stop a machine.
 const MOST_STEPS: u64 = 1 << 62;
@@ -47,6 +47,7 @@ impl Machine {
             Act::Cancel => Ok(Answer::Cancelled),
             Act::Clean => self.clean(),
             Act::Prune => Ok(self.prune()),
+            Act::Checkpoint => Ok(self.save()),
         }
     }
 

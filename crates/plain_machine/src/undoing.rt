@@ -3,16 +3,16 @@ ghost use Rattle.std.specs.Prelude.{IfOk};
 ghost use Rattle.txn_machine.specs.Acts as act;
 ghost use Rattle.txn_machine.specs.May.{MayAct};
 ghost use Rattle.txn_machine.specs.State.{State};
-ghost use Rattle.plain_machine.specs.Acts.{answer_of};
+ghost use Rattle.txn_book.specs.Acts.{answer_of};
 ghost use Rattle.plain_machine.specs.Stands.{Stands, Told};
 ghost use Rattle.plain_machine.specs.Moves.{IsPutBack, UndoesPut, UndoesPay};
 
-use crate::act::Answer;
 use crate::machine::Machine;
 use crate::owing::take_from;
 use crate::txn::{Kept, Txn};
 use crate::txns::{set, take};
 use iv_types::{Change, GroupDelta, NoMemory};
+use txn_book::Answer;
 
 impl Machine {
     // Puts a transaction of which a step was taken back into its place.
@@ -23,7 +23,7 @@ impl Machine {
             return Err(NoMemory);
         };
         set(&mut self.txns, session, Some(txn));
-        Ok(Answer::Undone(left))
+        Ok(Answer::Undone { left })
     }
 
     // Takes a change back.

@@ -1,6 +1,6 @@
 use Rattle.std.proofs.Common.{◌≡◌, drop}
 use Rattle.txn_machine.specs.Keeping.{increments}
-use Rattle.plain_machine.specs.Acts.{kept_steps}
+use Rattle.plain_machine.specs.Kept.{kept_steps}
 use Rattle.plain_machine.proofs.bounds.is_unpaid_by.Given as goal
 
 abbrev pub invariant-loop-index : goal.invariant-loop-index

@@ -3,7 +3,7 @@ use Rattle.iv_types.proofs.Walks.{back_end}
 use Rattle.iv_meaning.specs.Escrow.{with_kept}
 use Rattle.escrow_bounds.specs.Column.{Stands}
 use Rattle.txn_machine.specs.Keeping.{increments}
-use Rattle.plain_machine.specs.Acts.{kept_steps}
+use Rattle.plain_machine.specs.Kept.{kept_steps}
 use Rattle.plain_machine.proofs.Replaying.{increments_none, increments_back}
 use Rattle.plain_machine.proofs.bounds.replay.Goals as goal
 

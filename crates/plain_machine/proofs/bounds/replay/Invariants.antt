@@ -2,7 +2,7 @@ use Rattle.std.proofs.Common.{◌-◌, [], drop, length}
 use Rattle.iv_meaning.specs.Escrow.{Account, with_kept}
 use Rattle.escrow_bounds.specs.Column.{Stands, IsReserved}
 use Rattle.txn_machine.specs.Keeping.{increments}
-use Rattle.plain_machine.specs.Acts.{kept_steps}
+use Rattle.plain_machine.specs.Kept.{kept_steps}
 use Rattle.plain_machine.proofs.bounds.replay.Given as goal
 
 abbrev pub invariant-loop-done : goal.invariant-loop-done

@@ -1,7 +1,7 @@
 use Rattle.std.proofs.Common.{◌≡◌, drop, ◌-ℤ◌}
 use Rattle.iv_meaning.specs.Escrow.{paid}
 use Rattle.txn_machine.specs.Keeping.{increments}
-use Rattle.plain_machine.specs.Acts.{kept_steps}
+use Rattle.plain_machine.specs.Kept.{kept_steps}
 use Rattle.plain_machine.proofs.bounds.without.Given as goal
 
 abbrev pub invariant-loop-index : goal.invariant-loop-index

@@ -1,7 +1,7 @@
 use Rattle.std.proofs.Common.{◌≡◌, ◌++◌, ◌-◌, drop, length}
 use Rattle.table_laws.specs.Kept.{redo}
 use Rattle.txn_machine.specs.Keeping.{changes_of}
-use Rattle.plain_machine.specs.Acts.{kept_steps}
+use Rattle.plain_machine.specs.Kept.{kept_steps}
 use Rattle.plain_machine.specs.Committing.{deltas_of}
 use Rattle.plain_machine.proofs.committing.apply.Given as goal
 

@@ -3,7 +3,7 @@ use Rattle.std.specs.FinMap.{get}
 use Rattle.table_laws.specs.Table.{write}
 use Rattle.view_delta.specs.Owing.{row_change}
 use Rattle.plain_machine.specs.Weights.{put_weight}
-use Rattle.plain_machine.specs.declared.act.Answer.TheVariants as answer
+use Rattle.txn_book.specs.declared.step.Answer.TheVariants as answer
 use Rattle.plain_machine.proofs.Replacing.{taken_set}
 use Rattle.plain_machine.proofs.machine.Machine.change.Goals as goal
 

@@ -4,10 +4,11 @@ use Rattle.txn_machine.specs.Acts as act
 use Rattle.txn_machine.specs.Store.{now}
 use Rattle.txn_machine.specs.Steps.{number_unchanged}
 use Rattle.list_store.proofs.HeldLemmas.{if_ok}
-use Rattle.plain_machine.specs.Acts.{answer_of, kept_steps}
+use Rattle.txn_book.specs.Acts.{answer_of}
+use Rattle.plain_machine.specs.Kept.{kept_steps}
 use Rattle.plain_machine.specs.Committing.{keeps_change}
 use Rattle.plain_machine.specs.Stands.{Told}
-use Rattle.plain_machine.specs.declared.act.Answer.{Answer}
+use Rattle.txn_book.specs.declared.step.Answer.{Answer}
 use Rattle.plain_machine.specs.Txns.{Sets}
 use Rattle.plain_machine.proofs.Replacing.{taken_set}
 use Rattle.plain_machine.proofs.Standing.{own_txn}

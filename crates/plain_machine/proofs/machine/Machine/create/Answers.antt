@@ -4,10 +4,10 @@ use Rattle.iv_meaning.specs.Schema.{object_of}
 use Rattle.sql_bind.specs.Bound.{bound_tree}
 use Rattle.list_store.proofs.HeldLemmas.{if_ok}
 use Rattle.txn_machine.specs.Acts as act
-use Rattle.plain_machine.specs.Acts.{answer_of}
+use Rattle.txn_book.specs.Acts.{answer_of}
 use Rattle.plain_machine.specs.Stands.{Told}
 use Rattle.plain_machine.specs.Txns.{IsLeastOpen}
-use Rattle.plain_machine.specs.declared.act.Answer.{Answer}
+use Rattle.txn_book.specs.declared.step.Answer.{Answer}
 use Rattle.plain_machine.proofs.Creating.{unbound_told, makes_here, busy_told}
 use Rattle.plain_machine.proofs.machine.Machine.create.Goals as goal
 

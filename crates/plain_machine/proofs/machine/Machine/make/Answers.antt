@@ -4,9 +4,9 @@ use Rattle.iv_meaning.specs.Schema.{object_of}
 use Rattle.list_store.proofs.HeldLemmas.{if_ok}
 use Rattle.txn_machine.specs.Acts as act
 use Rattle.txn_machine.specs.Counts.{entry_size, definition_size}
-use Rattle.plain_machine.specs.Acts.{answer_of}
+use Rattle.txn_book.specs.Acts.{answer_of}
 use Rattle.plain_machine.specs.Stands.{Told}
-use Rattle.plain_machine.specs.declared.act.Answer.{Answer}
+use Rattle.txn_book.specs.declared.step.Answer.{Answer}
 use Rattle.plain_machine.proofs.Creating.{refused_told, defined_told}
 use Rattle.plain_machine.proofs.machine.Machine.make.Goals as goal
 

@@ -8,8 +8,8 @@ use Rattle.txn_machine.specs.Deltas.{place_of}
 use Rattle.list_store.proofs.HeldLemmas.{if_ok}
 use Rattle.plain_machine.specs.Bounds.{AreAccounts, IsAnswered}
 use Rattle.plain_machine.specs.Moves.{refuses, pays}
-use Rattle.plain_machine.specs.declared.act.Answer.{Answer}
-use Rattle.plain_machine.specs.declared.act.Answer.TheVariants as answer
+use Rattle.txn_book.specs.declared.step.Answer.{Answer}
+use Rattle.txn_book.specs.declared.step.Answer.TheVariants as answer
 use Rattle.plain_machine.proofs.machine.Machine.pay_first.Goals as goal
 
 abbrev out_of_range : ℕ → ℤ → ℤ → Answer

@@ -1,7 +1,7 @@
 use Rattle.std.proofs.Common.{◌≡◌, ◌+◌, ◌<◌, refl, sym, arith}
 use Rattle.txn_machine.specs.State.{most_steps}
 use Rattle.txn_machine.proofs.Moving.{may_of}
-use Rattle.plain_machine.specs.Acts.{act_of}
+use Rattle.txn_book.specs.Acts.{act_of}
 use Rattle.plain_machine.proofs.StepLemmas.{stepped_on, stepped_wait, stepped_self}
 use Rattle.plain_machine.proofs.machine.Machine.step.Goals as goal
 use Rattle.plain_machine.proofs.machine.Machine.step.Goals.{then-not-is_blocked, else-not-is_blocked}
