@@ -1,0 +1,6 @@
+pub mod Replay
+pub mod Meaning
+pub mod Appended
+pub mod Moments
+pub mod Groups
+pub mod Laws
