@@ -20,7 +20,9 @@ use Rattle.txn_machine.specs.Stored.{ViewRows, plus, add_to, stored_number}
 use Rattle.txn_machine.proofs.Agreeing.{by_place, written_at, written_other}
 use Rattle.txn_machine.proofs.Bounds.{over_same, over_at_most, signs, lo_more, hi_more, huge_inside}
 use Rattle.txn_machine.proofs.Columns.{adds, adds-negated, stored_add}
-use Rattle.txn_log.specs.Replay.{row_after, row_carried, What, Wrote, Added, Deed, own, amount_of, amounts, rows_without, view_without, BackFits, AllBack}
+use Rattle.txn_log.specs.Replay.{What, Wrote, Added, Deed, own, amount_of, amounts, rows_without, view_without}
+use Rattle.txn_log.specs.Fitting.{BackFits, AllBack}
+use Rattle.txn_log.specs.Meaning.{row_after, row_carried}
 use Rattle.txn_log.proofs.Finding.{by_number}
 use Rattle.txn_log.proofs.Owning.{own_this, own_other}
 use Rattle.txn_log.proofs.Reversing.{change_in, changes_of, own_tail, sums_of_own}

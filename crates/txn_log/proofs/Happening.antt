@@ -23,7 +23,8 @@ use Rattle.txn_machine.proofs.Looking.{view_laws}
 use Rattle.txn_machine.proofs.Reached.{may_define}
 use Rattle.txn_machine.proofs.Runs.{Can, CanAll}
 use Rattle.txn_machine.proofs.Stepping.{some_not_none, can_says, ready_owes}
-use Rattle.txn_log.specs.Replay.{Deed, Event, Pages, DoNumbersFall}
+use Rattle.txn_log.specs.Replay.{Deed, Event, Pages}
+use Rattle.txn_log.specs.Fitting.{DoNumbersFall}
 use Rattle.txn_log.specs.Appended.{Numbered, written, AllSay}
 use Rattle.txn_log.specs.Moments.{Txn, txn_in, txn_at, AreCarried, Disk, image_of, with_record, flushed_all, pages_now, published, World, At, Amid, Halted, store_of, disk_of, with_disk, Keeps, Moves, begins, acts, ends, flushes, acknowledges, publishes, fails_commit, fails_define, fails_before, fails_after, told, told_halted, Run, here, then_move, opened_world, left_by, IsRight}
 use Rattle.txn_log.proofs.Memory.{Memory, reading_of, remembers, Recovers}

@@ -34,8 +34,10 @@ use Rattle.std.specs.List.{AllByRecursion}
 use Rattle.txn_machine.specs.Steps.{stored}
 use Rattle.txn_machine.proofs.Shapes.{Stored'}
 use Rattle.txn_machine.proofs.Looking.{view_laws}
-use Rattle.txn_log.specs.Replay.{What, Wrote, Added, Deed, Event, Kept, Ghost, Clean, Undo, Commit, Abort, spares, find, Stored, undo_found, rows_with, view_with, rows_without, view_without, WhatFits, BackFits, InRange, CarriedBelow, AreBelow}
-use Rattle.txn_log.specs.Replay.{own, IsKnown, IsGroup, IsAccepted}
+use Rattle.txn_log.specs.Replay.{What, Wrote, Added, Deed, Event, Kept, Ghost, Clean, Undo, Commit, Abort, spares, find, Stored, undo_found, rows_with, view_with, rows_without, view_without}
+use Rattle.txn_log.specs.Fitting.{WhatFits, BackFits, InRange, CarriedBelow, AreBelow}
+use Rattle.txn_log.specs.Replay.{own}
+use Rattle.txn_log.specs.Fitting.{IsKnown, IsGroup, IsAccepted}
 use Rattle.txn_log.specs.Moments.{Txn}
 use Rattle.txn_log.proofs.Memory.{no_txn, Memory, with_event, set_txn, deed_now, keeps, pays, undoes, aborts, begins, remembers, HasNumber}
 use Rattle.txn_log.proofs.Finding.{by_number}

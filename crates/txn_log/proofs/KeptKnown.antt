@@ -16,7 +16,8 @@ use Rattle.txn_machine.proofs.Good.{the_open}
 use Rattle.txn_machine.proofs.Looking.{view_laws}
 use Rattle.txn_machine.proofs.Reached.{Holds'}
 use Rattle.txn_machine.proofs.Runs.{Can, committed_after}
-use Rattle.txn_log.specs.Replay.{Added, IsKnown}
+use Rattle.txn_log.specs.Replay.{Added}
+use Rattle.txn_log.specs.Fitting.{IsKnown}
 use Rattle.txn_log.proofs.Finding.{by_number}
 use Rattle.txn_log.proofs.Knowing.{all_owed}
 use Rattle.txn_log.proofs.Tying.{whats_in, AllWhats}

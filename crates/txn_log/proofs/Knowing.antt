@@ -24,7 +24,8 @@ use Rattle.txn_machine.proofs.Looking.{view_laws}
 use Rattle.txn_machine.proofs.Reached.{Holds'}
 use Rattle.txn_machine.proofs.Runs.{CanDefine, rows_are}
 use Rattle.txn_machine.proofs.Shapes.{all_are, owes_deltas}
-use Rattle.txn_log.specs.Replay.{Added, IsChange, IsGroup, IsKnown, IsAccepted}
+use Rattle.txn_log.specs.Replay.{Added}
+use Rattle.txn_log.specs.Fitting.{IsChange, IsGroup, IsKnown, IsAccepted}
 
 -- ---- deltas
 

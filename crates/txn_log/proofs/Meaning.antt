@@ -15,7 +15,9 @@ use Rattle.txn_machine.specs.Stored.{ViewRows, stored_number, zeros}
 use Rattle.txn_machine.specs.Fresh.{made_of}
 use Rattle.txn_machine.proofs.Agreeing.{by_place, written_at, written_other}
 use Rattle.txn_machine.proofs.Columns.{stored_add, stored_add_all, number_in_row, get_or-zeros}
-use Rattle.txn_log.specs.Replay.{row_after, row_carried, carried_rows, What, Wrote, Added, Deed, Event, Kept, Ghost, Clean, Undo, Commit, Abort, Defined, Pages, Reading, spares, survives, keep_where, deeds, losers_kept, find, Stored, undo_found, apply, replay, on_pages, replayed, recovered, rows_with, view_with, rows_without, all_rows_back, amount_of, amounts, own, UndoFits, RecordFits, AllFit, IsFit}
+use Rattle.txn_log.specs.Replay.{carried_rows, What, Wrote, Added, Deed, Event, Kept, Ghost, Clean, Undo, Commit, Abort, Defined, Pages, Reading, spares, survives, keep_where, deeds, losers_kept, find, Stored, undo_found, apply, replay, on_pages, replayed, recovered, rows_with, view_with, rows_without, all_rows_back, amount_of, amounts, own}
+use Rattle.txn_log.specs.Fitting.{UndoFits, RecordFits, AllFit, IsFit}
+use Rattle.txn_log.specs.Meaning.{row_after, row_carried}
 use Rattle.txn_log.specs.Meaning.{amount_found, added, named, made, view_number, row_before, row_without, row_left, row_back, base_row, greatest, definitions}
 use Rattle.txn_log.proofs.Finding.{by_number, keep_all, keep_both, keep_true, find_same}
 use Rattle.txn_log.proofs.Owning.{own_this, own_other, find_latest}

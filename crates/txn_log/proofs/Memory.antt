@@ -7,7 +7,8 @@ use Rattle.iv_meaning.specs.History.{state_at}
 use Rattle.txn_machine.specs.Locks.{with_one}
 use Rattle.txn_machine.specs.Store.{Store, committed, now, change_at, Effect, Opens, Writes, Pays, Ghosts, Undoes, Ends, Commits, Defines, Cleans}
 use Rattle.txn_machine.specs.Laws.{IsOpened}
-use Rattle.txn_log.specs.Replay.{What, Wrote, Added, Deed, Event, Kept, Ghost, Clean, Undo, Commit, Abort, Defined, Pages, Reading, recovered, IsFit}
+use Rattle.txn_log.specs.Replay.{What, Wrote, Added, Deed, Event, Kept, Ghost, Clean, Undo, Commit, Abort, Defined, Pages, Reading, recovered}
+use Rattle.txn_log.specs.Fitting.{IsFit}
 use Rattle.txn_log.specs.Moments.{Txn}
 
 abbrev pub no_txn : Txn

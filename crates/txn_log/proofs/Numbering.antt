@@ -33,7 +33,8 @@ use Rattle.txn_machine.proofs.Stepping.{now_is, now_locked}
 use Rattle.txn_machine.proofs.Looking.{view_laws}
 use Rattle.txn_machine.proofs.Runs.{Can}
 use Rattle.txn_machine.specs.Fresh.{fresh}
-use Rattle.txn_log.specs.Replay.{Deed, Wrote, Added, IsAccepted}
+use Rattle.txn_log.specs.Replay.{Deed, Wrote, Added}
+use Rattle.txn_log.specs.Fitting.{IsAccepted}
 use Rattle.txn_log.specs.Moments.{Txn}
 use Rattle.txn_log.proofs.Memory.{no_txn, Memory, deed_now, pays, undoes, aborts, begins, remembers, HasNumber}
 use Rattle.txn_log.proofs.Finding.{by_number}

@@ -27,7 +27,8 @@ use Rattle.txn_machine.proofs.Runs.{Can, keeps, committed_after, defined, opened
 use Rattle.txn_machine.proofs.Telling.{state_at_push}
 use Rattle.txn_machine.proofs.Reached.{Holds'}
 use Rattle.txn_machine.proofs.Shapes.{Stored', each_stored}
-use Rattle.txn_log.specs.Replay.{DoNumbersFall, Reading, Deed, Event, Pages, own, CarriedBelow, IsKnown, carried_rows}
+use Rattle.txn_log.specs.Replay.{Reading, Deed, Event, Pages, own, carried_rows}
+use Rattle.txn_log.specs.Fitting.{DoNumbersFall, CarriedBelow, IsKnown}
 use Rattle.txn_log.specs.Moments.{Txn, AreCarried, pages_now}
 use Rattle.txn_log.proofs.Memory.{no_txn, Memory, reading_of, set_txn, pays, undoes, aborts, begins, remembers, HasNumber, Recovers}
 use Rattle.txn_log.proofs.Finding.{by_number}

@@ -37,7 +37,8 @@ use Rattle.txn_machine.specs.KeptLaws.{IsDelta}
 use Rattle.txn_machine.proofs.Holding.{contains_here}
 use Rattle.std.proofs.lemmas.List.Elements.{Contains-append_right}
 use Rattle.txn_machine.proofs.Shapes.{Stored', add_stored, negated_is, all_are}
-use Rattle.txn_log.specs.Replay.{DoNumbersFall, What, Wrote, Added, Deed, Event, Pages, survives, Stored, on_pages, replayed, recovered, all_rows_back, all_view_back, view_without, amount_of, amounts, AllFit, AllBack, AllDeeds, IsKnown, AreBelow}
+use Rattle.txn_log.specs.Replay.{What, Wrote, Added, Deed, Event, Pages, survives, Stored, on_pages, replayed, recovered, all_rows_back, all_view_back, view_without, amount_of, amounts}
+use Rattle.txn_log.specs.Fitting.{DoNumbersFall, AllFit, AllBack, AllDeeds, IsKnown, AreBelow}
 use Rattle.txn_log.specs.Replay.{own}
 use Rattle.txn_log.specs.Moments.{Txn, AreCarried}
 use Rattle.txn_log.proofs.Memory.{Memory, reading_of, Recovers}

@@ -9,7 +9,8 @@ use Rattle.txn_machine.specs.Store.{Store}
 use Rattle.txn_machine.specs.Log.{Opening}
 use Rattle.txn_machine.specs.State.{State}
 use Rattle.txn_machine.specs.Laws.{IsOpened}
-use Rattle.txn_log.specs.Replay.{Pages, Reading, recovered, closed, IsFit}
+use Rattle.txn_log.specs.Replay.{Pages, Reading, recovered, closed}
+use Rattle.txn_log.specs.Fitting.{IsFit}
 use Rattle.txn_log.specs.Meaning.{base_row, view_number, greatest, definitions}
 use Rattle.txn_log.specs.Appended.{Image, IsRead}
 use Rattle.txn_log.specs.Moments.{Disk, World, Halted, store_of, disk_of, left_by, Run, opened_world, IsRight, Life}

@@ -1,4 +1,5 @@
 pub mod Replay
+pub mod Fitting
 pub mod Meaning
 pub mod Appended
 pub mod Moments

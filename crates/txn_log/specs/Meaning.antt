@@ -8,7 +8,7 @@ use Rattle.iv_meaning.specs.Database.{Row}
 use Rattle.txn_machine.specs.Deltas.{due}
 use Rattle.txn_machine.specs.Stored.{stored_number}
 use Rattle.txn_machine.specs.Fresh.{made_of}
-use Rattle.txn_log.specs.Replay.{What, Wrote, Added, Deed, Event, Kept, Ghost, Clean, Undo, Commit, Abort, Defined, Reading, losers_kept, deeds, find, Stored, replay, on_pages, amount_of, amounts, row_after, row_carried}
+use Rattle.txn_log.specs.Replay.{What, Wrote, Added, Deed, Event, Kept, Ghost, Clean, Undo, Commit, Abort, Defined, Reading, losers_kept, deeds, find, Stored, replay, on_pages, amount_of, amounts}
 
 -- ---- view rows
 
@@ -59,6 +59,15 @@ abbrev pub view_number : Reading → Place → ℕ → ℤ
 view_number i p column = ((first_number i p column +ℤ added p column i.after) -ℤ named p column i.carried i.after) -ℤ amounts p column (losers_kept i)
 
 -- ---- base rows
+
+abbrev pub row_after : Place → What → Option Row → Option Row
+row_after q (Wrote c) row = if eq_by_cmp place_cmp q c.key then c.after else row
+row_after q (Added d) row = row
+
+-- what the last carried record about a key leaves, or the page's row where there is none
+abbrev pub row_carried : Place → Option Row → List Deed → Option Row
+row_carried q row [] = row
+row_carried q row (x ∷ xs) = row_after q x.what (row_carried q row xs)
 
 abbrev pub row_before : Place → What → Option Row → Option Row
 row_before q (Wrote c) row = if eq_by_cmp place_cmp q c.key then c.before else row

@@ -17,7 +17,8 @@ use Rattle.txn_machine.specs.State.{State, opened_state, is_fault}
 use Rattle.txn_machine.specs.May.{May}
 use Rattle.txn_machine.specs.Steps.{stored, Does, IsTold}
 use Rattle.txn_machine.specs.Laws.{IsOpened}
-use Rattle.txn_log.specs.Replay.{What, Wrote, Added, Deed, Pages, Reading, own, recovered, DoNumbersFall, IsFit}
+use Rattle.txn_log.specs.Replay.{What, Wrote, Added, Deed, Pages, Reading, own, recovered}
+use Rattle.txn_log.specs.Fitting.{DoNumbersFall, IsFit}
 use Rattle.txn_log.specs.Appended.{Numbered, written, Image, IsRead}
 
 -- ---- what open transactions keep, in memory

@@ -2,7 +2,8 @@ use mathlib.Core.Path.{sym, ap, subst, ◌∙◌}
 use Rattle.std.specs.Prelude.{◌≡◌}
 use Rattle.txn_machine.specs.Fresh.{fresh}
 use Rattle.txn_machine.specs.Laws.{IsOpened}
-use Rattle.txn_log.specs.Replay.{Reading, recovered, IsFit}
+use Rattle.txn_log.specs.Replay.{Reading, recovered}
+use Rattle.txn_log.specs.Fitting.{IsFit}
 use Rattle.txn_log.specs.Moments.{store_of, disk_of, left_by, IsRight}
 use Rattle.txn_log.proofs.Meaning.{meaning}
 use Rattle.txn_log.proofs.Happening.{crash}
