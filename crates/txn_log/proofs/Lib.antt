@@ -16,4 +16,5 @@ pub mod Happening
 pub mod Once
 pub mod Printed
 pub mod Living
+pub mod Refusing
 pub mod Groups

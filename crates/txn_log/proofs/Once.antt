@@ -163,7 +163,7 @@ module _ (alone : OneStatement) where
   one_text objects (Some text) (Some o) None h k = absurd k
   one_text objects (Some text) (Some o) (Some p) h k = ap (λ (x : Object). Some x) (created objects text o p h k)
 
-  says_once : (objects : Schema) (r : Numbered) (d e : Event) → Says objects r d → Says objects r e → d ≡ e
+  pub says_once : (objects : Schema) (r : Numbered) (d e : Event) → Says objects r d → Says objects r e → d ≡ e
   says_once objects r d e h k = same_event d e (sym (told_by objects r d h)
       ∙ ((λ x. told_with (one_ghost objects (ghost_in r.of) (columns_in d) (columns_in e) (ghost_by objects r d h) (ghost_by objects r e k) x)
       (one_text objects (text_in r.of) (object_in d) (object_in e) (text_by objects r d h) (text_by objects r e k) x) r) ∙ told_by objects r e k))

@@ -4,4 +4,5 @@ pub mod Meaning
 pub mod Appended
 pub mod Moments
 pub mod Groups
+pub mod Refused
 pub mod Laws
