@@ -189,11 +189,11 @@ module _ (printed : PrintsAgain) where
   good_move v w (told s disk i said after t) is = subst (λ (x : State). IsFollowed x.store x.log disk) (sym t.left) is
   good_move v w (told_halted s next disk i said after t) is = is
 
-  good_run : (u w : World) → Run u w → IsGoodWorld u → IsGoodWorld w
+  pub good_run : (u w : World) → Run u w → IsGoodWorld u → IsGoodWorld w
   good_run u w (here x) is = is
   good_run u w (then_move a v b r move) is = good_move v w move (good_run u v r is)
 
-  good_opened : (opening : Opening) (p : Pages) → IsOpened p.db p.view → IsGoodWorld (opened_world opening p)
+  pub good_opened : (opening : Opening) (p : Pages) → IsOpened p.db p.view → IsGoodWorld (opened_world opening p)
   good_opened opening p was = record {
     memory = opened_memory opening.next p;
     sound = sound_opened opening.next p was;
@@ -202,12 +202,12 @@ module _ (printed : PrintsAgain) where
 
 -- ---- crashes
 
-followed_world : (w : World) → IsGoodWorld w → (l : Log) × IsFollowed (store_of w) l (disk_of w)
+pub followed_world : (w : World) → IsGoodWorld w → (l : Log) × IsFollowed (store_of w) l (disk_of w)
 followed_world (At s d) is = (s.log, is)
 followed_world (Amid after i a s l es d) is = (l, is.0)
 followed_world (Halted s next d) is = is
 
-cut_right : (s : Store) (l : Log) (d : Disk) → IsFollowed s l d → (k : ℕ) → IsRight s (image_of d (drop k d.waiting)) d.acknowledged
+pub cut_right : (s : Store) (l : Log) (d : Disk) → IsFollowed s l d → (k : ℕ) → IsRight s (image_of d (drop k d.waiting)) d.acknowledged
 cut_right s l d is k =
     let m : Memory = is.memory in
     let right : Recovers s (reading_of m (drop k m.waiting)) m.acknowledged = cut_at (λ rs. Recovers s (reading_of m rs) m.acknowledged) m.waiting is.sound.cuts k in

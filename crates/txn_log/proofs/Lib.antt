@@ -17,4 +17,8 @@ pub mod Once
 pub mod Printed
 pub mod Living
 pub mod Refusing
+pub mod Lifting
+pub mod Shopping
+pub mod Saving
+pub mod Trading
 pub mod Groups

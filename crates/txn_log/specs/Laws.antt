@@ -9,16 +9,21 @@ use Rattle.txn_machine.specs.Store.{Store}
 use Rattle.txn_machine.specs.Log.{Opening}
 use Rattle.txn_machine.specs.State.{State}
 use Rattle.txn_machine.specs.Laws.{IsOpened}
-use Rattle.txn_log.specs.Replay.{Pages, Reading, recovered, closed}
-use Rattle.txn_log.specs.Fitting.{IsFit}
+use Rattle.txn_log.specs.Replay.{Deed, Pages, Reading, recovered, closed}
+use Rattle.txn_log.specs.Fitting.{DoNumbersFall, IsFit}
 use Rattle.txn_log.specs.Meaning.{base_row, view_number, greatest, definitions}
 use Rattle.txn_log.specs.Appended.{Image, IsRead}
-use Rattle.txn_log.specs.Moments.{Disk, World, Halted, store_of, disk_of, left_by, Run, opened_world, IsRight, Life}
+use Rattle.txn_log.specs.Moments.{Disk, Keeps, Writes, World, Halted, store_of, disk_of, left_by, Run, opened_world, IsRight, Life}
 
 -- whatever a crash may leave at any moment is right
 abbrev pub CrashLaw : Type 0
 CrashLaw = (p : Pages) → IsOpened p.db p.view → (opening : Opening) (w : World) → Run (opened_world opening p) w → (k : ℕ)
     → IsRight (store_of w) (left_by w k) (disk_of w).acknowledged
+
+-- whatever its moment, a machine that has not stopped finds what a checkpoint carries
+abbrev pub CheckpointLaw : Type 0
+CheckpointLaw = (p : Pages) → IsOpened p.db p.view → (opening : Opening) (w : World) → Run (opened_world opening p) w → Writes w
+    → (carried : List Deed) × Keeps w carried × DoNumbersFall carried
 
 -- an image is read in one way
 abbrev pub ReadingLaw : Type 0

@@ -5,4 +5,6 @@ pub mod Appended
 pub mod Moments
 pub mod Groups
 pub mod Refused
+pub mod Worked
+pub mod Day
 pub mod Laws
