@@ -33,6 +33,9 @@ use Rattle.txn_log.proofs.Numbering.{OpenFor, AllOpen, open_says}
 use Rattle.txn_log.proofs.Running.{cut_at, IsSound, sound_effect, sound_flush, sound_acknowledge, sound_checkpoint, opened_memory, sound_opened}
 use Rattle.txn_log.proofs.Following.{AreAsMany, Follows, PrintsAgain, follows_does}
 use Rattle.txn_log.proofs.Cutting.{cut_says}
+use Rattle.txn_log.specs.Stored.{AreProper}
+use Rattle.txn_log.proofs.Keeping.{stored_huge}
+use Rattle.txn_machine.proofs.Good.{stored_sound}
 
 -- what is remembered is sound and follows the log
 pub record IsFollowed (s : Store) (l : Log) (d : Disk) : Type 0 where
@@ -231,3 +234,14 @@ pub crash : PrintsAgain → (p : Pages) → IsOpened p.db p.view → (opening : 
 crash printed p was opening w r k =
     let is = followed_world w (good_run printed (opened_world opening p) w r (good_opened printed opening p was)) in
     cut_right (store_of w) is.0 (disk_of w) is.1 k
+
+-- ---- what a checkpoint publishes
+
+pub proper : PrintsAgain → (p : Pages) → IsOpened p.db p.view → (opening : Opening) (w : World) → Run (opened_world opening p) w → AreProper (pages_now (store_of w))
+proper printed p was opening w r =
+    let is = followed_world w (good_run printed (opened_world opening p) w r (good_opened printed opening p was)) in
+    let s : Store = store_of w in record {
+      sound = stored_sound the_views fresh view_laws (committed s) s is.1.sound.good;
+      stored = is.1.sound.shape;
+      in_range = stored_huge s is.1.sound.good;
+    }

@@ -102,7 +102,7 @@ some_of None h = absurd (h refl)
 some_of (Some x) h = refl
 
 -- a stored number lies between its bounds
-stored_huge : (s : Store) → Holds' s → (p : Place) (column : ℕ) → IsHuge (stored_number s.view p column)
+pub stored_huge : (s : Store) → Holds' s → (p : Place) (column : ℕ) → IsHuge (stored_number s.view p column)
 stored_huge s g p column =
     let kept : ℕ → List ℤ = λ j. increments p column (now s j).kept in
     let base : ℤ = fresh (schema_of s) (committed s).rows p column in

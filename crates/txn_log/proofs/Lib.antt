@@ -21,4 +21,5 @@ pub mod Lifting
 pub mod Shopping
 pub mod Saving
 pub mod Trading
+pub mod Standing
 pub mod Groups

@@ -154,7 +154,7 @@ same_event : (d e : Event) → Some d ≡ Some e → d ≡ e
 same_event d e h = cc
 
 module _ (alone : OneStatement) where
-  created : (objects : Schema) (text : List ℕ) (o p : Object) → Creates objects text o → Creates objects text p → o ≡ p
+  pub created : (objects : Schema) (text : List ℕ) (o p : Object) → Creates objects text o → Creates objects text p → o ≡ p
   created objects text o p h k = same_object o p (sym h.2 ∙ (ap (bind objects) (alone text h.0 k.0 h.1 k.1) ∙ k.2))
 
   one_text : (objects : Schema) (t : Option (List ℕ)) (o p : Option Object) → TextIs objects t o → TextIs objects t p → o ≡ p

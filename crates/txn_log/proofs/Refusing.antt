@@ -19,7 +19,7 @@ use Rattle.txn_log.specs.Replay.{What, Wrote, Added, Deed, Event, Kept, Ghost, C
 use Rattle.txn_log.specs.Fitting.{InRange, WhatStands, BackStands, BackFits, Stands, IsKnown, AllDeeds, DoNumbersFall, number_of, AllFit, AllBack}
 use Rattle.txn_log.specs.Meaning.{definitions}
 use Rattle.txn_log.specs.Appended.{Numbered, written, Image, Says, AllSay, IsRead}
-use Rattle.txn_log.specs.Refused.{Placed, PlacedImage, most_number, Anyhow, entries_of, place_by, CarriedStands, CarriedAs, CarriedBreaks, Passes, SaidAs, BreaksBy, RecordBreaks, BackBreaks, PassesAs, ReversesAs, IsFreshAt, IsFirstWrong, Refusal, BadImage, BadView, IsRefused, carried, further, reversal, sums, entries, view, IsFine, EitherLaw, AreSmall, unplaced}
+use Rattle.txn_log.specs.Refused.{Placed, PlacedImage, data_left, most_number, Anyhow, entries_of, place_by, CarriedStands, CarriedAs, CarriedBreaks, Passes, SaidAs, BreaksBy, RecordBreaks, BackBreaks, PassesAs, ReversesAs, IsFreshAt, IsFirstWrong, Refusal, BadImage, BadView, IsRefused, carried, further, reversal, sums, entries, view, IsFine, EitherLaw, AreSmall, unplaced}
 use Rattle.txn_machine.specs.Store.{Store}
 use Rattle.txn_log.specs.Moments.{IsRight}
 use Rattle.txn_log.proofs.Once.{same_deed, says_once}
@@ -247,13 +247,13 @@ module _ (alone : OneStatement) (i : PlacedImage) where
   ordered one other (entries r p g h) (sums q o k) = absurd (k (same_range r q p.passes o.passes g))
   ordered one other (entries r p g h) (entries q o f k) = refl
   ordered one other (entries r p g h) (view q o f w place k) =
-      absurd (not_both i.data_limit (i.data_bytes (recovered q)) w (subst (λ (x : Reading). Above i.data_limit (i.data_bytes (recovered x))) (passes_once r q p.passes o.passes) h))
+      absurd (not_both i.data_limit (data_left i (recovered q)) w (subst (λ (x : Reading). Above i.data_limit (data_left i (recovered x))) (passes_once r q p.passes o.passes) h))
   ordered one other (view r p g v place h) (carried b k) = absurd (no_carried r p.passes b k)
   ordered one other (view r p g v place h) (further ds said n b k) = absurd (no_record r p.passes ds said n b k)
   ordered one other (view r p g v place h) (reversal q o n b k) = absurd (no_back r p q o n b k)
   ordered one other (view r p g v place h) (sums q o k) = absurd (k (same_range r q p.passes o.passes g))
   ordered one other (view r p g v place h) (entries q o f k) =
-      absurd (not_both i.data_limit (i.data_bytes (recovered q)) (subst (λ (x : Reading). Within i.data_limit (i.data_bytes (recovered x))) (passes_once r q p.passes o.passes) v) k)
+      absurd (not_both i.data_limit (data_left i (recovered q)) (subst (λ (x : Reading). Within i.data_limit (data_left i (recovered x))) (passes_once r q p.passes o.passes) v) k)
   ordered one other (view r p g v a h) (view q o f w b k) =
       ap BadView (one_view (recovered q) a b (subst (λ (x : Reading). IsFirstWrong (recovered x) a) (passes_once r q p.passes o.passes) h) k)
 
@@ -263,7 +263,7 @@ module _ (alone : OneStatement) (i : PlacedImage) where
   fine_never why f (reversal r p m a h) = no_back f.reading f.sound.reverses r p m a h
   fine_never why f (sums r p h) = h (same_range f.reading r f.sound.reverses.passes p.passes f.sound.in_range)
   fine_never why f (entries r p g h) =
-      not_both i.data_limit (i.data_bytes (recovered r)) (subst (λ (x : Reading). Within i.data_limit (i.data_bytes (recovered x))) (passes_once f.reading r f.sound.reverses.passes p.passes) f.sound.within) h
+      not_both i.data_limit (data_left i (recovered r)) (subst (λ (x : Reading). Within i.data_limit (data_left i (recovered x))) (passes_once f.reading r f.sound.reverses.passes p.passes) f.sound.within) h
   fine_never why f (view r p g w a h) =
       h.wrong (subst (λ (x : Reading). IsFreshAt (recovered x) a) (passes_once f.reading r f.sound.reverses.passes p.passes) (f.fresh_at a) h.column)
 
@@ -276,7 +276,7 @@ either i clear none =
     back_total (λ n. place_by n (i.after ++ i.carried)) (replayed r).live (replayed r).db.rows (replayed r).view (λ rule place b. clear rule place (reversal r passes rule place b)) (λ back.
     let reverses : ReversesAs i r = record { passes = passes; back = back } in
     clear 14 0 (sums r reverses (λ in_range.
-    by_limit i.data_limit (i.data_bytes (recovered r))
+    by_limit i.data_limit (data_left i (recovered r))
     (λ within. none r (record { reverses = reverses; in_range = in_range; within = within }))
     (λ above. clear 15 0 (entries r reverses in_range above)))))))
   where
@@ -329,7 +329,7 @@ right_fine s left acknowledged right i same free few many =
           back = right.fits.back;
         };
         in_range = right.opens.in_range;
-        within = subst (λ o. Within o (i.data_bytes (recovered r))) (sym free) tt;
+        within = subst (λ o. Within o (data_left i (recovered r))) (sym free) tt;
       };
       fresh_at = λ place column. right.opens.rows place column;
     }

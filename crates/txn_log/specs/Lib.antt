@@ -7,4 +7,5 @@ pub mod Groups
 pub mod Refused
 pub mod Worked
 pub mod Day
+pub mod Stored
 pub mod Laws

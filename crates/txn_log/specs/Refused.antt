@@ -1,14 +1,17 @@
 -- Which images are refused for their records and what they leave, and at which place. The rules are tried in order: each carried record
 -- by rule 13; each further record, and then each last reversal, by rules 13 and 14; the sums of views evaluated afresh by rule 14;
 -- the bytes of all entries by rule 15; and then each view against what it is, evaluated afresh.
-use Rattle.std.specs.Prelude.{◌≡◌, ◌≢◌, ◌⊎◌, ℕ, ◌==◌, ◌≤◌, ◌^◌, List, [], ◌∷◌, ◌++◌, map, Option, None, if◌then◌else◌}
+use Rattle.std.specs.Prelude.{◌≡◌, ◌≢◌, ◌⊎◌, ℕ, ◌+◌, ◌==◌, ◌≤◌, ◌^◌, List, [], ◌∷◌, ◌++◌, map, Option, None, if◌then◌else◌}
+use Rattle.std.specs.List.{sum}
+use Rattle.std.specs.FinMap as maps
 use Rattle.std.specs.declared.cmp.Ordering.TheVariants.{Less}
 use Rattle.table_laws.specs.Place.{Place, place_cmp}
 use Rattle.iv_meaning.specs.Schema.{Schema}
 use Rattle.iv_meaning.specs.Database.{Rows}
 use Rattle.txn_machine.specs.Stored.{ViewRows, stored_number}
 use Rattle.txn_machine.specs.Fresh.{fresh}
-use Rattle.txn_machine.specs.Log.{Within, Above}
+use Rattle.txn_machine.specs.Records.{Record, Definition}
+use Rattle.txn_machine.specs.Log.{Within, Above, row_entries, view_entries, definition_entries}
 use Rattle.txn_machine.specs.Laws.{AreInRange, IsOpened}
 use Rattle.txn_machine.specs.Log.{Opening}
 use Rattle.txn_log.specs.Replay.{Deed, Event, Pages, Reading, replay, on_pages, replayed, recovered, rows_without, view_without}
@@ -27,9 +30,10 @@ pub record PlacedImage : Type 0 where
   pub pages : Pages
   pub carried : List Placed
   pub after : List Placed
-  -- the most bytes that entries may take, and what those take that the image leaves
+  -- the texts of the pages' definitions, in order
+  pub texts : List (List ℕ)
+  -- the most bytes that entries may take
   pub data_limit : Option ℕ
-  pub data_bytes : Pages → ℕ
 
 -- the greatest number of a record
 abbrev pub most_number : ℕ
@@ -41,6 +45,20 @@ Anyhow stored place = Unit {0}
 
 abbrev pub entries_of : List Placed → List Numbered
 entries_of rs = map (λ r. r.entry) rs
+
+-- the texts of the definitions among records, in order
+abbrev pub text_in : Record → List (List ℕ)
+text_in (Definition number session text) = text ∷ []
+text_in _ = []
+
+abbrev pub texts_in : List Placed → List (List ℕ)
+texts_in [] = []
+texts_in (r ∷ rs) = texts_in rs ++ text_in r.entry.of
+
+-- the bytes of all entries that the image leaves: of rows with their indexes, of view rows, ghosts too, and of definitions
+abbrev pub data_left : PlacedImage → Pages → ℕ
+data_left i p =
+    sum (map (λ e. row_entries p.db.schema e.0 e.1) (maps.entries p.db.rows)) + view_entries p.view + sum (map definition_entries (i.texts ++ texts_in i.after))
 
 -- where the record of this number stands
 abbrev pub place_by : ℕ → List Placed → ℕ
@@ -132,15 +150,15 @@ pub data IsRefused (i : PlacedImage) : Refusal → Type 0 where
   reversal : (r : Reading) → PassesAs i r → (rule place : ℕ)
       → BackBreaks (λ n. place_by n (i.after ++ i.carried)) (replayed r).live (replayed r).db.rows (replayed r).view rule place → IsRefused i (BadImage rule place)
   sums : (r : Reading) → ReversesAs i r → (AreInRange (recovered r).db.schema (recovered r).db.rows → ⊥) → IsRefused i (BadImage 14 0)
-  entries : (r : Reading) → ReversesAs i r → AreInRange (recovered r).db.schema (recovered r).db.rows → Above i.data_limit (i.data_bytes (recovered r)) → IsRefused i (BadImage 15 0)
-  view : (r : Reading) → ReversesAs i r → AreInRange (recovered r).db.schema (recovered r).db.rows → Within i.data_limit (i.data_bytes (recovered r))
+  entries : (r : Reading) → ReversesAs i r → AreInRange (recovered r).db.schema (recovered r).db.rows → Above i.data_limit (data_left i (recovered r)) → IsRefused i (BadImage 15 0)
+  view : (r : Reading) → ReversesAs i r → AreInRange (recovered r).db.schema (recovered r).db.rows → Within i.data_limit (data_left i (recovered r))
       → (place : Place) → IsFirstWrong (recovered r) place → IsRefused i (BadView place)
 
 -- no rule fails for what it says
 pub record IsSoundAs (i : PlacedImage) (r : Reading) : Type 0 where
   pub reverses : ReversesAs i r
   pub in_range : AreInRange (recovered r).db.schema (recovered r).db.rows
-  pub within : Within i.data_limit (i.data_bytes (recovered r))
+  pub within : Within i.data_limit (data_left i (recovered r))
 
 -- and each view is what it is, evaluated afresh
 pub record IsFine (i : PlacedImage) : Type 0 where
