@@ -23,7 +23,11 @@ use Rattle.iv_types.specs.declared.value.Kind.TheVariants.{Int, Huge, Text}
 use Rattle.iv_types.specs.declared.value.Value.{Value}
 use Rattle.iv_types.specs.declared.value.Value.TheVariants.{Number, Word}
 use Rattle.iv_types.specs.declared.value.Interval.{Interval}
-use Rattle.iv_types.specs.Encoding.{Fits, FitAll, key_bytes}
+use Rattle.iv_types.specs.Encoding.{Fits, FitAll, key_bytes, row_cmp}
+use Rattle.iv_types.proofs.Orders.{row_cmp_total}
+use Rattle.std.specs.declared.cmp.Ordering.{Ordering}
+use Rattle.std.specs.declared.cmp.Ordering.TheVariants.{Less, Equal, Greater}
+use Rattle.std.specs.Ordering.{ordering_reverse, is_eq}
 use Rattle.iv_types.specs.Definitions.{kinds_of}
 use Rattle.iv_types.specs.Intervals.{point}
 use Rattle.table_laws.specs.Place.{Place, place_cmp}
@@ -119,11 +123,26 @@ under_is key (Some row) h =
     let fits : Bool = fit_all (kinds_of sale) row in
     (bytes_same key (key_of sale row) (left_one same fits h), fit_all_is (kinds_of sale) row (right_one same fits h))
 
+-- a row is equal to itself
+self_equal : (o : Ordering) → o ≡ ordering_reverse o → is_eq o ≡ true
+self_equal Less e = absurd (cc)
+self_equal Equal e = refl
+self_equal Greater e = absurd (cc)
+
+row_out : Row → Option Row → Row
+row_out row None = row
+row_out row (Some r) = r
+
+same_row : (old new : Row) → Some old ≡ Some new → old ≡ new
+unfolding row_out
+same_row old new e = ap (row_out old) e
+
 differ_is : (old new : Option Row) → T (differ old new) → old ≢ new
 differ_is None None h e = h
 differ_is None (Some new) h e = none-some new e
 differ_is (Some old) None h e = none-some old (sym e)
-differ_is (Some old) (Some new) h e = h
+differ_is (Some old) (Some new) h e =
+    subst T (ap not (ap (λ r. is_eq (row_cmp old r)) (sym (same_row old new e)) ∙ self_equal (row_cmp old old) (row_cmp_total.antisymm old old))) h
 
 -- the rows of stored groups
 shown_lists : (es : List (Place × List ℤ)) (shops : List ℤ) → T (are_shown es shops) → AllZip (IsShown shop_schema by_shop) es (shown_in es shops)

@@ -4,7 +4,7 @@ use Rattle.std.specs.List.{flat_map}
 use Rattle.std.specs.Option.{unwrap_or}
 use Rattle.std.specs.FinMap.{FinMap, empty, find, put as put_entry, is_sorted, from_sorted}
 use Rattle.std.specs.FinMap.Entries.{where_key}
-use Rattle.std.specs.Ordering.{nat_cmp, eq_by_cmp, is_lt}
+use Rattle.std.specs.Ordering.{nat_cmp, eq_by_cmp, is_lt, is_eq}
 use Rattle.std.specs.Cmp.Lexicographic.{slice_cmp}
 use Rattle.std.specs.Str.{bytes_eq}
 use Rattle.iv_types.specs.declared.statement.Mode.{Mode}
@@ -21,7 +21,7 @@ use Rattle.iv_types.specs.declared.value.Value.{Value}
 use Rattle.iv_types.specs.declared.value.Value.TheVariants.{Number}
 use Rattle.iv_types.specs.declared.value.Interval.{Interval}
 use Rattle.iv_types.specs.declared.refusal.EngineRefusal.TheVariants as refusal
-use Rattle.iv_types.specs.Encoding.{key_bytes}
+use Rattle.iv_types.specs.Encoding.{key_bytes, row_cmp}
 use Rattle.iv_types.specs.Definitions.{kinds_of}
 use Rattle.iv_types.specs.Replies.{members}
 use Rattle.iv_types.specs.Intervals.{point}
@@ -269,12 +269,12 @@ abbrev pub fits_under : List ℕ → Option Row → Bool
 fits_under key None = true
 fits_under key (Some row) = bytes_eq key (key_of sale row) && fit_all (kinds_of sale) row
 
--- the row is there and goes, or is not there and comes
+-- the row is there and goes, or is not there and comes, or changes
 abbrev pub differ : Option Row → Option Row → Bool
 differ None None = false
 differ None (Some new) = true
 differ (Some old) None = true
-differ (Some old) (Some new) = false
+differ (Some old) (Some new) = not (is_eq (row_cmp old new))
 
 -- ---- escrow
 

@@ -122,7 +122,7 @@ row_fits objects rows sound p m at row there =
     let r : IsRow objects p row = sound.rows p row there in
     subst (λ ks. FitAll ks row) (sym (ap (λ k. kinds_of_table (numbered objects k)) (sym at) ∙ ap kinds_of_table r.table_is)) r.fits
 
-negated_is : (objects : Schema) (d : GroupDelta) → IsDelta objects d → IsDelta objects (negated d)
+pub negated_is : (objects : Schema) (d : GroupDelta) → IsDelta objects d → IsDelta objects (negated d)
 negated_is objects d h = record {
   of = h.of;
   view_is = h.view_is;
@@ -206,12 +206,12 @@ settled_are objects (Pay x ∷ ks) ds e h =
     same x d e = cc
 
 module _ (s : Store) (g : Good' s) (i : ℕ) (is : IsSession i) where
-  all_are : AllByRecursion (IsDelta (schema_of s)) (now s i).owed × ((d : GroupDelta) → Contains (now s i).kept (Pay d) → IsDelta (schema_of s) d)
+  pub all_are : AllByRecursion (IsDelta (schema_of s)) (now s i).owed × ((d : GroupDelta) → Contains (now s i).kept (Pay d) → IsDelta (schema_of s) d)
   all_are =
       let t = g.each i is in
       settled_are (schema_of s) (now s i).kept (now s i).owed t.settled (puts_are (schema_of s) (committed s).rows (now s i).kept g.sound t.proper (g.stored.told i is) t.told)
 
-  owes_deltas : (d : GroupDelta) → Contains (now s i).owed d → IsDelta (schema_of s) d
+  pub owes_deltas : (d : GroupDelta) → Contains (now s i).owed d → IsDelta (schema_of s) d
   owes_deltas d there = all_contains (IsDelta (schema_of s)) (now s i).owed d all_are.0 there
 
 pub delta_law : DeltaLaw
@@ -232,7 +232,7 @@ plus_length k (m ∷ ms) (n ∷ ns) (inr x) e = absurd (cc)
 plus_length zero (m ∷ ms) (n ∷ ns) (inl l) e = absurd (cc)
 plus_length (suc k) (m ∷ ms) (n ∷ ns) (inl l) e = ap suc (plus_length k ms ns (inl (ap pred l)) (ap pred e))
 
-add_stored : (objects : Schema) (stored : ViewRows) (d : GroupDelta) → AreStored objects stored → IsDelta objects d → AreStored objects (add_to stored d)
+pub add_stored : (objects : Schema) (stored : ViewRows) (d : GroupDelta) → AreStored objects stored → IsDelta objects d → AreStored objects (add_to stored d)
 add_stored objects stored d h x place numbers there = by_place place (place_of d)
     (λ e.
     let now_is : plus (unwrap_or (get stored (place_of d)) []) (columns_of d) ≡ numbers = some_same (plus (unwrap_or (get stored (place_of d)) []) (columns_of d)) numbers (sym (written_at stored (place_of d) (Some (plus (unwrap_or (get stored (place_of d)) []) (columns_of d))) place e) ∙ there) in
@@ -278,11 +278,11 @@ more_stored objects rows o stored sound h place numbers there =
       width = r.width;
     }
 
-last_numbered : (objects : Schema) (o : Object) → numbered (objects ++ o ∷ []) (suc (length objects)) ≡ Some o
+pub last_numbered : (objects : Schema) (o : Object) → numbered (objects ++ o ∷ []) (suc (length objects)) ≡ Some o
 last_numbered [] o = refl
 last_numbered (x ∷ objects) o = last_numbered objects o
 
-abbrev Stored' : Store → Type 0
+abbrev pub Stored' : Store → Type 0
 Stored' s = AreStored (schema_of s) s.view
 
 pays_stored : (s : Store) (i : ℕ) → Good' s → IsSession i → (ds : List GroupDelta) → (now s i).owed ≡ ds → Stored' s → Stored' (paid_first s i (now s i) ds)
@@ -311,7 +311,7 @@ ghosts_stored objects stored d x h place numbers there = by_place place (place_o
     zeros_length zero = refl
     zeros_length (suc n) = ap suc (zeros_length n)
 
-each_stored : (s : Store) (i : ℕ) (e : Effect) → Good' s → Can' s i e → Stored' s → Stored' (does the_views s i e)
+pub each_stored : (s : Store) (i : ℕ) (e : Effect) → Good' s → Can' s i e → Stored' s → Stored' (does the_views s i e)
 each_stored s i (Opens mode) g can h = h
 each_stored s i (Takes wants) g can h = h
 each_stored s i (Notes n) g can h = h

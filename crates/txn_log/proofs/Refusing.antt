@@ -1,0 +1,335 @@
+-- An image is refused for one cause at one place or not at all, and none that a crash may leave is.
+use Rattle.std.specs.Prelude.{◌≡◌, ◌⊎◌, ℕ, ◌≤◌, List, [], ◌∷◌, ◌++◌, map, Option, Some, None}
+use Rattle.std.specs.declared.cmp.Ordering.{Ordering}
+use Rattle.std.specs.declared.cmp.Ordering.TheVariants.{Less, Equal, Greater}
+use Rattle.std.specs.Ordering.{ordering_reverse}
+use Rattle.std.proofs.lemmas.Bool.Decides.{leb_tells}
+use Rattle.table_laws.proofs.Place.{place_cmp_total, place_cmp-IsAntisymmetric}
+use mathlib.Core.Path.{refl, sym, ap, subst, ◌∙◌}
+use mathlib.Core.Logic.{inl, inr}
+use Rattle.std.proofs.Common.{arith}
+use Rattle.iv_types.specs.Grammar.{OneStatement}
+use Rattle.table_laws.specs.Place.{Place, place_cmp}
+use Rattle.iv_meaning.specs.Schema.{Schema}
+use Rattle.iv_meaning.specs.Database.{Rows}
+use Rattle.txn_machine.specs.Stored.{ViewRows}
+use Rattle.txn_machine.specs.Log.{Within, Above}
+use Rattle.txn_machine.specs.Laws.{AreInRange}
+use Rattle.txn_log.specs.Replay.{What, Wrote, Added, Deed, Event, Kept, Ghost, Clean, Undo, Commit, Abort, Defined, Pages, Reading, Stored, replay, on_pages, replayed, recovered, rows_without, view_without}
+use Rattle.txn_log.specs.Fitting.{InRange, WhatStands, BackStands, BackFits, Stands, IsKnown, AllDeeds, DoNumbersFall, number_of, AllFit, AllBack}
+use Rattle.txn_log.specs.Meaning.{definitions}
+use Rattle.txn_log.specs.Appended.{Numbered, written, Image, Says, AllSay, IsRead}
+use Rattle.txn_log.specs.Refused.{Placed, PlacedImage, data_left, most_number, Anyhow, entries_of, place_by, CarriedStands, CarriedAs, CarriedBreaks, Passes, SaidAs, BreaksBy, RecordBreaks, BackBreaks, PassesAs, ReversesAs, IsFreshAt, IsFirstWrong, Refusal, BadImage, BadView, IsRefused, carried, further, reversal, sums, entries, view, IsFine, EitherLaw, AreSmall, unplaced}
+use Rattle.txn_machine.specs.Store.{Store}
+use Rattle.txn_log.specs.Moments.{IsRight}
+use Rattle.txn_log.proofs.Once.{same_deed, says_once}
+
+-- ---- carried records
+
+carried_once : (objects : Schema) (rs : List Placed) (ds es : List Deed) → CarriedAs objects rs ds → CarriedAs objects rs es → ds ≡ es
+carried_once objects [] [] [] h k = refl
+carried_once objects [] [] (e ∷ es) h k = absurd k
+carried_once objects [] (d ∷ ds) es h k = absurd h
+carried_once objects (r ∷ rs) [] es h k = absurd h
+carried_once objects (r ∷ rs) (d ∷ ds) [] h k = absurd k
+carried_once objects (r ∷ rs) (d ∷ ds) (e ∷ es) h k =
+    let first : d ≡ e = same_deed d e (sym h.0.0 ∙ k.0.0) in
+    let rest : ds ≡ es = carried_once objects rs ds es h.1 k.1 in
+    λ x. first x ∷ rest x
+
+carried_never : (objects : Schema) (rs : List Placed) (ds : List Deed) → CarriedAs objects rs ds → (place : ℕ) → CarriedBreaks objects rs place → ⊥
+carried_never objects [] ds h place b = b
+carried_never objects (r ∷ rs) [] h place b = h
+carried_never objects (r ∷ rs) (d ∷ ds) h place (inl b) = carried_never objects rs ds h.1 place b
+carried_never objects (r ∷ rs) (d ∷ ds) h place (inr b) =
+    b.3 d (subst (λ es. CarriedStands objects es r d) (carried_once objects rs ds b.1 h.1 b.2) h.0)
+
+carried_place : (objects : Schema) (rs : List Placed) (p q : ℕ) → CarriedBreaks objects rs p → CarriedBreaks objects rs q → p ≡ q
+carried_place objects [] p q b c = absurd b
+carried_place objects (r ∷ rs) p q (inl b) (inl c) = carried_place objects rs p q b c
+carried_place objects (r ∷ rs) p q (inl b) (inr c) = absurd (carried_never objects rs c.1 c.2 p b)
+carried_place objects (r ∷ rs) p q (inr b) (inl c) = absurd (carried_never objects rs b.1 b.2 q c)
+carried_place objects (r ∷ rs) p q (inr b) (inr c) = b.0 ∙ sym c.0
+
+carried_total : (objects : Schema) (rs : List Placed) → ((place : ℕ) → CarriedBreaks objects rs place → ⊥) → ((ds : List Deed) → CarriedAs objects rs ds → ⊥) → ⊥
+carried_total objects [] clear k = k [] tt
+carried_total objects (r ∷ rs) clear k = carried_total objects rs (λ place b. clear place (inl b))
+    (λ ds said. clear r.place (inr (refl, ds, said, λ d stands. k (d ∷ ds) (stands, said))))
+
+-- ---- further records
+
+back_anyhow : (rows : Rows) (stored : ViewRows) (w : What) → BackFits rows stored w → BackStands Anyhow rows stored w
+back_anyhow rows stored (Wrote c) h = h
+back_anyhow rows stored (Added d) h = (h.0, tt)
+
+what_anyhow : (s : Stored) (es : List Event) (e : Event) → Stands InRange s es e → Stands Anyhow s es e
+what_anyhow s es (Kept x) h = (h.0, h.1, one x.what h.2)
+  where
+    one : (w : What) → WhatStands InRange s w → WhatStands Anyhow s w
+    one (Wrote c) k = k
+    one (Added d) k = (k.0, tt)
+what_anyhow s es (Ghost n p columns) h = h
+what_anyhow s es (Clean n p) h = h
+what_anyhow s es (Undo n t m) h = record { latest = h.latest; earlier = h.earlier; is_latest = h.is_latest; number = h.number; back = back_anyhow s.db.rows s.view h.latest.what h.back }
+what_anyhow s es (Commit n t k) h = h
+what_anyhow s es (Abort n t) h = h
+what_anyhow s es (Defined n k o) h = h
+
+module _ (alone : OneStatement) (p : Pages) (ds : List Deed) where
+  said_once : (rs : List Placed) (es fs : List Event) → SaidAs p ds rs es → SaidAs p ds rs fs → es ≡ fs
+  said_once [] [] [] h k = refl
+  said_once [] [] (f ∷ fs) h k = absurd k
+  said_once [] (e ∷ es) fs h k = absurd h
+  said_once (r ∷ rs) [] fs h k = absurd h
+  said_once (r ∷ rs) (e ∷ es) [] h k = absurd k
+  said_once (r ∷ rs) (e ∷ es) (f ∷ fs) h k =
+      let rest : es ≡ fs = said_once rs es fs h.1 k.1 in
+      let first : e ≡ f = says_once alone (definitions p.db.schema fs) r.entry e f (subst (λ gs. Says (definitions p.db.schema gs) r.entry e) rest h.0.0) k.0.0 in
+      λ x. first x ∷ rest x
+
+  record_never : (rs : List Placed) (es : List Event) → SaidAs p ds rs es → (rule place : ℕ) → RecordBreaks p ds rs rule place → ⊥
+  record_never [] es h rule place b = b
+  record_never (r ∷ rs) [] h rule place b = h
+  record_never (r ∷ rs) (e ∷ es) h rule place (inl b) = record_never rs es h.1 rule place b
+  record_never (r ∷ rs) (e ∷ es) h rule place (inr b) =
+      let same : es ≡ b.1 = said_once rs es b.1 h.1 b.2 in
+      let full : Passes p ds InRange b.1 r e = subst (λ gs. Passes p ds InRange gs r e) same h.0 in
+      let some : Passes p ds Anyhow b.1 r e = (full.0, what_anyhow (replay (on_pages p ds) b.1) b.1 e full.1, full.2, full.3) in
+      elim b.3 [
+        | inl c ↦ c.1 e some
+        | inr c ↦ c.3 (subst (Passes p ds InRange b.1 r) (says_once alone (definitions p.db.schema b.1) r.entry e c.1 full.0 c.2.0) full)
+      ]
+
+  record_once : (rs : List Placed) (m n a b : ℕ) → RecordBreaks p ds rs m a → RecordBreaks p ds rs n b → (m ≡ n) × (a ≡ b)
+  record_once [] m n a b h k = absurd h
+  record_once (r ∷ rs) m n a b (inl h) (inl k) = record_once rs m n a b h k
+  record_once (r ∷ rs) m n a b (inl h) (inr k) = absurd (record_never rs k.1 k.2 m a h)
+  record_once (r ∷ rs) m n a b (inr h) (inl k) = absurd (record_never rs h.1 h.2 n b k)
+  record_once (r ∷ rs) m n a b (inr h) (inr k) = (rules h.3 (subst (λ gs. BreaksBy p ds n gs r) (sym (said_once rs h.1 k.1 h.2 k.2)) k.3), h.0 ∙ sym k.0)
+    where
+      rules : BreaksBy p ds m h.1 r → BreaksBy p ds n h.1 r → m ≡ n
+      rules (inl c) (inl d) = c.0 ∙ sym d.0
+      rules (inl c) (inr d) = absurd (c.1 d.1 d.2)
+      rules (inr c) (inl d) = absurd (d.1 c.1 c.2)
+      rules (inr c) (inr d) = c.0 ∙ sym d.0
+
+module _ (p : Pages) (ds : List Deed) where
+  record_total : (rs : List Placed) → ((rule place : ℕ) → RecordBreaks p ds rs rule place → ⊥) → ((es : List Event) → SaidAs p ds rs es → ⊥) → ⊥
+  record_total [] clear k = k [] tt
+  record_total (r ∷ rs) clear k = record_total rs (λ rule place b. clear rule place (inl b))
+      (λ es said. clear 13 r.place (inr (refl, es, said, inl (refl, λ e some. clear 14 r.place (inr (refl, es, said, inr (refl, e, some, λ full. k (e ∷ es) (full, said))))))))
+
+-- ---- reversals
+
+module _ (at : ℕ → ℕ) where
+  back_never : (xs : List Deed) (rows : Rows) (stored : ViewRows) → AllBack xs rows stored → (rule place : ℕ) → BackBreaks at xs rows stored rule place → ⊥
+  back_never [] rows stored h rule place b = b
+  back_never (x ∷ xs) rows stored h rule place (inl b) = elim b.1 [
+    | inl c ↦ c.1 (back_anyhow rows stored x.what h.0)
+    | inr c ↦ c.2 h.0
+  ]
+  back_never (x ∷ xs) rows stored h rule place (inr b) = back_never xs (rows_without x.what rows) (view_without x.what stored) h.1 rule place b.1
+
+  -- a record that breaks here does not fit
+  breaks_not : (x : Deed) (rows : Rows) (stored : ViewRows) (rule : ℕ)
+      → ((rule ≡ 13) × (BackStands Anyhow rows stored x.what → ⊥)) ⊎ ((rule ≡ 14) × BackStands Anyhow rows stored x.what × (BackFits rows stored x.what → ⊥))
+      → BackFits rows stored x.what → ⊥
+  breaks_not x rows stored rule (inl c) h = c.1 (back_anyhow rows stored x.what h)
+  breaks_not x rows stored rule (inr c) h = c.2 h
+
+  back_once : (xs : List Deed) (rows : Rows) (stored : ViewRows) (m n a b : ℕ) → BackBreaks at xs rows stored m a → BackBreaks at xs rows stored n b → (m ≡ n) × (a ≡ b)
+  back_once [] rows stored m n a b h k = absurd h
+  back_once (x ∷ xs) rows stored m n a b (inl h) (inl k) = (rules h.1 k.1, h.0 ∙ sym k.0)
+    where
+      rules : ((m ≡ 13) × (BackStands Anyhow rows stored x.what → ⊥)) ⊎ ((m ≡ 14) × BackStands Anyhow rows stored x.what × (BackFits rows stored x.what → ⊥))
+          → ((n ≡ 13) × (BackStands Anyhow rows stored x.what → ⊥)) ⊎ ((n ≡ 14) × BackStands Anyhow rows stored x.what × (BackFits rows stored x.what → ⊥)) → m ≡ n
+      rules (inl c) (inl d) = c.0 ∙ sym d.0
+      rules (inl c) (inr d) = absurd (c.1 d.1)
+      rules (inr c) (inl d) = absurd (d.1 c.1)
+      rules (inr c) (inr d) = c.0 ∙ sym d.0
+  back_once (x ∷ xs) rows stored m n a b (inl h) (inr k) = absurd (breaks_not x rows stored m h.1 k.0)
+  back_once (x ∷ xs) rows stored m n a b (inr h) (inl k) = absurd (breaks_not x rows stored n k.1 h.0)
+  back_once (x ∷ xs) rows stored m n a b (inr h) (inr k) = back_once xs (rows_without x.what rows) (view_without x.what stored) m n a b h.1 k.1
+
+  back_total : (xs : List Deed) (rows : Rows) (stored : ViewRows) → ((rule place : ℕ) → BackBreaks at xs rows stored rule place → ⊥) → (AllBack xs rows stored → ⊥) → ⊥
+  back_total [] rows stored clear k = k tt
+  back_total (x ∷ xs) rows stored clear k = clear 13 (at x.number) (inl (
+    refl,
+    inl (
+      refl,
+      λ some. clear 14 (at x.number) (inl (
+        refl,
+        inr (
+          refl,
+          some,
+          λ full.
+              back_total xs (rows_without x.what rows) (view_without x.what stored) (λ rule place b. clear rule place (inr (full, b))) (λ rest. k (full, rest)),
+        ),
+      )),
+    ),
+  ))
+
+-- ---- all of it
+
+module _ (alone : OneStatement) (i : PlacedImage) where
+  passes_once : (r q : Reading) → PassesAs i r → PassesAs i q → r ≡ q
+  passes_once r q h k =
+      let ds : r.carried ≡ q.carried = carried_once i.pages.db.schema i.carried r.carried q.carried h.carried k.carried in
+      let es : r.after ≡ q.after = said_once alone i.pages q.carried i.after r.after q.after (subst (λ xs. SaidAs i.pages xs i.after r.after) ds h.after) k.after in
+      λ x. record { pages = (h.pages ∙ sym k.pages) x; carried = ds x; after = es x }
+
+  -- what was tried before it passes
+  no_carried : (r : Reading) → PassesAs i r → (place : ℕ) → CarriedBreaks i.pages.db.schema i.carried place → ⊥
+  no_carried r h place = carried_never i.pages.db.schema i.carried r.carried h.carried place
+
+  no_record : (r : Reading) → PassesAs i r → (ds : List Deed) → CarriedAs i.pages.db.schema i.carried ds → (rule place : ℕ) → RecordBreaks i.pages ds i.after rule place → ⊥
+  no_record r h ds k rule place b =
+      record_never alone i.pages r.carried i.after r.after h.after rule place
+      (subst (λ xs. RecordBreaks i.pages xs i.after rule place) (carried_once i.pages.db.schema i.carried ds r.carried k h.carried) b)
+
+  no_back : (r : Reading) → ReversesAs i r → (q : Reading) → PassesAs i q → (rule place : ℕ)
+      → BackBreaks (λ n. place_by n (i.after ++ i.carried)) (replayed q).live (replayed q).db.rows (replayed q).view rule place → ⊥
+  no_back r h q k rule place b =
+      back_never (λ n. place_by n (i.after ++ i.carried)) (replayed r).live (replayed r).db.rows (replayed r).view h.back rule place
+      (subst (λ (x : Reading). BackBreaks (λ n. place_by n (i.after ++ i.carried)) (replayed x).live (replayed x).db.rows (replayed x).view rule place) (passes_once q r k h.passes) b)
+
+  same_range : (r q : Reading) → PassesAs i r → PassesAs i q → AreInRange (recovered r).db.schema (recovered r).db.rows → AreInRange (recovered q).db.schema (recovered q).db.rows
+  same_range r q h k = subst (λ (x : Reading). AreInRange (recovered x).db.schema (recovered x).db.rows) (passes_once r q h k)
+
+  not_both : (limit : Option ℕ) (bytes : ℕ) → Within limit bytes → Above limit bytes → ⊥
+  not_both None bytes h k = k
+  not_both (Some most) bytes h k = omega arith
+
+  one_bad : (m n a b : ℕ) → (m ≡ n) × (a ≡ b) → BadImage m a ≡ BadImage n b
+  one_bad m n a b e = λ x. BadImage (e.0 x) (e.1 x)
+
+  -- the group that is first
+  one_view : (p : Pages) (a b : Place) → IsFirstWrong p a → IsFirstWrong p b → a ≡ b
+  one_view p a b h k = by_order (place_cmp a b) refl
+    where
+      by_order : (o : Ordering) → place_cmp a b ≡ o → a ≡ b
+      by_order Less e = absurd (h.wrong (k.first a e h.column))
+      by_order Equal e = place_cmp-IsAntisymmetric a b e
+      by_order Greater e = absurd (k.wrong (h.first b (place_cmp_total.antisymm b a ∙ ap ordering_reverse e) k.column))
+
+  -- causes in the order in which they are tried
+  pub ordered : (one other : Refusal) → IsRefused i one → IsRefused i other → one ≡ other
+  ordered one other (carried a h) (carried b k) = ap (BadImage 13) (carried_place i.pages.db.schema i.carried a b h k)
+  ordered one other (carried a h) (further ds said rule place k) = absurd (carried_never i.pages.db.schema i.carried ds said a h)
+  ordered one other (carried a h) (reversal r p rule place k) = absurd (no_carried r p a h)
+  ordered one other (carried a h) (sums r p k) = absurd (no_carried r p.passes a h)
+  ordered one other (carried a h) (entries r p g k) = absurd (no_carried r p.passes a h)
+  ordered one other (carried a h) (view r p g w place k) = absurd (no_carried r p.passes a h)
+  ordered one other (further ds said m a h) (carried b k) = absurd (carried_never i.pages.db.schema i.carried ds said b k)
+  ordered one other (further ds said m a h) (further es told n b k) =
+      one_bad m n a b (record_once alone i.pages es i.after m n a b (subst (λ xs. RecordBreaks i.pages xs i.after m a) (carried_once i.pages.db.schema i.carried ds es said told) h) k)
+  ordered one other (further ds said m a h) (reversal r p rule place k) = absurd (no_record r p ds said m a h)
+  ordered one other (further ds said m a h) (sums r p k) = absurd (no_record r p.passes ds said m a h)
+  ordered one other (further ds said m a h) (entries r p g k) = absurd (no_record r p.passes ds said m a h)
+  ordered one other (further ds said m a h) (view r p g w place k) = absurd (no_record r p.passes ds said m a h)
+  ordered one other (reversal r p m a h) (carried b k) = absurd (no_carried r p b k)
+  ordered one other (reversal r p m a h) (further ds said n b k) = absurd (no_record r p ds said n b k)
+  ordered one other (reversal r p m a h) (reversal q o n b k) =
+      one_bad m n a b (back_once (λ n. place_by n (i.after ++ i.carried)) (replayed q).live (replayed q).db.rows (replayed q).view m n a b
+      (subst (λ (x : Reading). BackBreaks (λ n. place_by n (i.after ++ i.carried)) (replayed x).live (replayed x).db.rows (replayed x).view m a) (passes_once r q p o) h) k)
+  ordered one other (reversal r p m a h) (sums q o k) = absurd (no_back q o r p m a h)
+  ordered one other (reversal r p m a h) (entries q o g k) = absurd (no_back q o r p m a h)
+  ordered one other (reversal r p m a h) (view q o g w place k) = absurd (no_back q o r p m a h)
+  ordered one other (sums r p h) (carried b k) = absurd (no_carried r p.passes b k)
+  ordered one other (sums r p h) (further ds said n b k) = absurd (no_record r p.passes ds said n b k)
+  ordered one other (sums r p h) (reversal q o n b k) = absurd (no_back r p q o n b k)
+  ordered one other (sums r p h) (sums q o k) = refl
+  ordered one other (sums r p h) (entries q o g k) = absurd (h (same_range q r o.passes p.passes g))
+  ordered one other (sums r p h) (view q o g w place k) = absurd (h (same_range q r o.passes p.passes g))
+  ordered one other (entries r p g h) (carried b k) = absurd (no_carried r p.passes b k)
+  ordered one other (entries r p g h) (further ds said n b k) = absurd (no_record r p.passes ds said n b k)
+  ordered one other (entries r p g h) (reversal q o n b k) = absurd (no_back r p q o n b k)
+  ordered one other (entries r p g h) (sums q o k) = absurd (k (same_range r q p.passes o.passes g))
+  ordered one other (entries r p g h) (entries q o f k) = refl
+  ordered one other (entries r p g h) (view q o f w place k) =
+      absurd (not_both i.data_limit (data_left i (recovered q)) w (subst (λ (x : Reading). Above i.data_limit (data_left i (recovered x))) (passes_once r q p.passes o.passes) h))
+  ordered one other (view r p g v place h) (carried b k) = absurd (no_carried r p.passes b k)
+  ordered one other (view r p g v place h) (further ds said n b k) = absurd (no_record r p.passes ds said n b k)
+  ordered one other (view r p g v place h) (reversal q o n b k) = absurd (no_back r p q o n b k)
+  ordered one other (view r p g v place h) (sums q o k) = absurd (k (same_range r q p.passes o.passes g))
+  ordered one other (view r p g v place h) (entries q o f k) =
+      absurd (not_both i.data_limit (data_left i (recovered q)) (subst (λ (x : Reading). Within i.data_limit (data_left i (recovered x))) (passes_once r q p.passes o.passes) v) k)
+  ordered one other (view r p g v a h) (view q o f w b k) =
+      ap BadView (one_view (recovered q) a b (subst (λ (x : Reading). IsFirstWrong (recovered x) a) (passes_once r q p.passes o.passes) h) k)
+
+  pub fine_never : (why : Refusal) → IsFine i → IsRefused i why → ⊥
+  fine_never why f (carried a h) = no_carried f.reading f.sound.reverses.passes a h
+  fine_never why f (further ds said m a h) = no_record f.reading f.sound.reverses.passes ds said m a h
+  fine_never why f (reversal r p m a h) = no_back f.reading f.sound.reverses r p m a h
+  fine_never why f (sums r p h) = h (same_range f.reading r f.sound.reverses.passes p.passes f.sound.in_range)
+  fine_never why f (entries r p g h) =
+      not_both i.data_limit (data_left i (recovered r)) (subst (λ (x : Reading). Within i.data_limit (data_left i (recovered x))) (passes_once f.reading r f.sound.reverses.passes p.passes) f.sound.within) h
+  fine_never why f (view r p g w a h) =
+      h.wrong (subst (λ (x : Reading). IsFreshAt (recovered x) a) (passes_once f.reading r f.sound.reverses.passes p.passes) (f.fresh_at a) h.column)
+
+pub either : EitherLaw
+either i clear none =
+    carried_total i.pages.db.schema i.carried (λ place b. clear 13 place (carried place b)) (λ ds said.
+    record_total i.pages ds i.after (λ rule place b. clear rule place (further ds said rule place b)) (λ es told.
+    let r : Reading = record { pages = i.pages; carried = ds; after = es } in
+    let passes : PassesAs i r = record { pages = refl; carried = said; after = told } in
+    back_total (λ n. place_by n (i.after ++ i.carried)) (replayed r).live (replayed r).db.rows (replayed r).view (λ rule place b. clear rule place (reversal r passes rule place b)) (λ back.
+    let reverses : ReversesAs i r = record { passes = passes; back = back } in
+    clear 14 0 (sums r reverses (λ in_range.
+    by_limit i.data_limit (data_left i (recovered r))
+    (λ within. none r (record { reverses = reverses; in_range = in_range; within = within }))
+    (λ above. clear 15 0 (entries r reverses in_range above)))))))
+  where
+    by_limit : (limit : Option ℕ) (bytes : ℕ) → (Within limit bytes → ⊥) → (Above limit bytes → ⊥) → ⊥
+    by_limit None bytes f g = f tt
+    by_limit (Some most) bytes f g = elim (leb_tells bytes most) [ inl h ↦ f h.1 | inr h ↦ g h.1 ]
+
+-- ---- what a crash leaves
+
+says_number : (objects : Schema) (r : Numbered) (e : Event) → Says objects r e → number_of e ≡ r.number
+says_number objects r (Kept x) h = sym (ap (λ (q : Numbered). q.number) h)
+says_number objects r (Ghost n p columns) h = sym (ap (λ (q : Numbered). q.number) h.0)
+says_number objects r (Clean n p) h = sym (ap (λ (q : Numbered). q.number) h)
+says_number objects r (Undo n t m) h = sym (ap (λ (q : Numbered). q.number) h)
+says_number objects r (Commit n t k) h = sym (ap (λ (q : Numbered). q.number) h.1)
+says_number objects r (Abort n t) h = sym (ap (λ (q : Numbered). q.number) h)
+says_number objects r (Defined n k o) h = sym (ap (λ (q : Numbered). q.number) h.2)
+
+carried_fit : (objects : Schema) (rs : List Placed) (ds : List Deed) → entries_of rs ≡ map written ds → AllDeeds (IsKnown objects) ds → DoNumbersFall ds → AreSmall rs → CarriedAs objects rs ds
+carried_fit objects [] [] e known fall small = tt
+carried_fit objects [] (d ∷ ds) e known fall small = absurd (cc)
+carried_fit objects (r ∷ rs) [] e known fall small = absurd (cc)
+carried_fit objects (r ∷ rs) (d ∷ ds) e known fall small =
+    let first : r.entry ≡ written d = cc in
+    ((first, known.0, fall.0, subst (λ (q : Numbered). q.number ≤ most_number) first small.0), carried_fit objects rs ds (cc) known.1 fall.1 small.1)
+
+records_fit : (p : Pages) (ds : List Deed) (rs : List Placed) (es : List Event) → AllSay p.db.schema (entries_of rs) es → AllFit (on_pages p ds) es → AreSmall rs → SaidAs p ds rs es
+records_fit p ds [] [] say fit small = tt
+records_fit p ds [] (e ∷ es) say fit small = absurd say
+records_fit p ds (r ∷ rs) [] say fit small = absurd say
+records_fit p ds (r ∷ rs) (e ∷ es) say fit small = (
+  (say.0, fit.0, fit.1, subst (λ n. n ≤ most_number) (sym (says_number (definitions p.db.schema es) r.entry e say.0)) small.0),
+  records_fit p ds rs es say.1 fit.2 small.1,
+)
+
+pub right_fine : (s : Store) (left : Image) (acknowledged : ℕ) → IsRight s left acknowledged → (i : PlacedImage) → unplaced i ≡ left → i.data_limit ≡ None → AreSmall i.carried → AreSmall i.after → IsFine i
+right_fine s left acknowledged right i same free few many =
+    let r : Reading = right.reading in
+    let read : IsRead (unplaced i) r = subst (λ (x : Image). IsRead x r) (sym same) right.is_read in
+    let known : AllDeeds (IsKnown i.pages.db.schema) r.carried = subst (λ (p : Pages). AllDeeds (IsKnown p.db.schema) r.carried) read.pages right.fits.known in
+    let records : AllFit (on_pages i.pages r.carried) r.after = subst (λ (p : Pages). AllFit (on_pages p r.carried) r.after) read.pages right.fits.records in record {
+      reading = r;
+      sound = record {
+        reverses = record {
+          passes = record {
+            pages = read.pages;
+            carried = carried_fit i.pages.db.schema i.carried r.carried read.carried known right.fits.fall few;
+            after = records_fit i.pages r.carried i.after r.after read.after records many;
+          };
+          back = right.fits.back;
+        };
+        in_range = right.opens.in_range;
+        within = subst (λ o. Within o (data_left i (recovered r))) (sym free) tt;
+      };
+      fresh_at = λ place column. right.opens.rows place column;
+    }

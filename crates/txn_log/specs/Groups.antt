@@ -1,0 +1,18 @@
+-- The blocks of a log area, as groups of records.
+use Rattle.std.specs.Prelude.{◌≡◌, List, [], ◌∷◌, ◌++◌, reverse, drop, length}
+use Rattle.txn_log.specs.Appended.{Numbered}
+use Rattle.txn_log.specs.Moments.{Disk, flushed_all}
+
+-- the records of the groups after the first one, the latest first; groups and their records stand as on the disk, the first first
+abbrev pub after_of : List (List Numbered) → List Numbered
+after_of [] = []
+after_of (g ∷ gs) = after_of gs ++ reverse g
+
+-- A crash in a flush leaves the groups or one more, which has all that waited. Both are cuts: without all of the waiting records,
+-- and with all of them.
+abbrev pub FlushLaw : Type 0
+FlushLaw = (d : Disk) (gs : List (List Numbered)) (rs : List Numbered) → d.flushed ≡ after_of gs → d.waiting ≡ reverse rs
+    → (drop (length d.waiting) d.waiting ++ d.flushed ≡ after_of gs)
+    × (drop 0 d.waiting ++ d.flushed ≡ after_of (gs ++ rs ∷ []))
+    -- and so is what a flush leaves that succeeds
+    × ((flushed_all d).flushed ≡ after_of (gs ++ rs ∷ []))

@@ -1,0 +1,60 @@
+-- The laws of the log over every run of the machine, and of what its images mean.
+use Rattle.std.specs.Prelude.{◌≡◌, ◌⊎◌, ℕ, List, [], ◌∷◌, ◌++◌}
+use Rattle.std.specs.FinMap.{get}
+use Rattle.table_laws.specs.Place.{Place}
+use Rattle.iv_meaning.specs.History.{Entry, fold}
+use Rattle.txn_machine.specs.Stored.{stored_number}
+use Rattle.txn_machine.specs.Fresh.{fresh}
+use Rattle.txn_machine.specs.Store.{Store}
+use Rattle.txn_machine.specs.Log.{Opening}
+use Rattle.txn_machine.specs.State.{State}
+use Rattle.txn_machine.specs.Laws.{IsOpened}
+use Rattle.txn_log.specs.Replay.{Deed, Pages, Reading, recovered, closed}
+use Rattle.txn_log.specs.Fitting.{DoNumbersFall, IsFit}
+use Rattle.txn_log.specs.Meaning.{base_row, view_number, greatest, definitions}
+use Rattle.txn_log.specs.Appended.{Image, IsRead}
+use Rattle.txn_log.specs.Moments.{Disk, Keeps, Writes, World, Halted, store_of, disk_of, left_by, Run, opened_world, IsRight, Life}
+
+-- whatever a crash may leave at any moment is right
+abbrev pub CrashLaw : Type 0
+CrashLaw = (p : Pages) → IsOpened p.db p.view → (opening : Opening) (w : World) → Run (opened_world opening p) w → (k : ℕ)
+    → IsRight (store_of w) (left_by w k) (disk_of w).acknowledged
+
+-- whatever its moment, a machine that has not stopped finds what a checkpoint carries
+abbrev pub CheckpointLaw : Type 0
+CheckpointLaw = (p : Pages) → IsOpened p.db p.view → (opening : Opening) (w : World) → Run (opened_world opening p) w → Writes w
+    → (carried : List Deed) × Keeps w carried × DoNumbersFall carried
+
+-- an image is read in one way
+abbrev pub ReadingLaw : Type 0
+ReadingLaw = (i : Image) (one other : Reading) → IsRead i one → IsRead i other → one ≡ other
+
+-- an opening may be stopped and repeated: what its checkpoint publishes is read, is not refused and recovers to the same
+abbrev pub RepeatLaw : Type 0
+RepeatLaw = (r : Reading) → IsRead (record { pages = recovered r; carried = []; after = [] }) (closed r) × IsFit (closed r) × (recovered (closed r) ≡ recovered r)
+
+-- to replay and then reverse gives what an image means: its base rows, its view rows, its number and its definitions
+abbrev pub MeaningLaw : Type 0
+MeaningLaw = (r : Reading) → IsFit r
+    → ((q : Place) → get (recovered r).db.rows q ≡ base_row r q)
+    × ((p : Place) (column : ℕ) → stored_number (recovered r).view p column ≡ view_number r p column)
+    × ((recovered r).db.number ≡ greatest r.pages.db.number r.after)
+    × ((recovered r).db.schema ≡ definitions r.pages.db.schema r.after)
+
+-- so of each image that a crash may leave, the view rows by the records are those of the views evaluated afresh on the base rows
+-- by the records
+abbrev pub RecoveredViewsLaw : Type 0
+RecoveredViewsLaw = (p : Pages) → IsOpened p.db p.view → (opening : Opening) (w : World) → Run (opened_world opening p) w
+    → (k : ℕ) (r : Reading) → IsRead (left_by w k) r
+    → (place : Place) (column : ℕ) → view_number r place column ≡ fresh (definitions r.pages.db.schema r.after) (recovered r).db.rows place column
+
+-- Over any number of openings and crashes: what an opening finds can be opened, and it is the first database after the commits that
+-- the crashes left, those of each opening a beginning of its own.
+abbrev pub LivesLaw : Type 0
+LivesLaw = (first : Pages) → IsOpened first.db first.view → (p : Pages) (es : List Entry) → Life first p es
+    → IsOpened p.db p.view × (p.db ≡ fold es first.db)
+
+-- where a fault of the disk stopped the machine, its store is the log's, or lacks the one entry that the step was making
+abbrev pub StopLaw : Type 0
+StopLaw = (p : Pages) (opening : Opening) (s : State) (next : Store) (d : Disk) → Run (opened_world opening p) (Halted s next d)
+    → (next.origin ≡ s.store.origin) × ((next.history ≡ s.store.history) ⊎ ((e : Entry) × (next.history ≡ s.store.history ++ e ∷ [])))

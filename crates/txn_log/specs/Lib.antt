@@ -1,0 +1,11 @@
+pub mod Replay
+pub mod Fitting
+pub mod Meaning
+pub mod Appended
+pub mod Moments
+pub mod Groups
+pub mod Refused
+pub mod Worked
+pub mod Day
+pub mod Stored
+pub mod Laws

@@ -1,0 +1,12 @@
+//! Laws of the entries of stored pages. Each function is there for its contract.
+ghost use Rattle.txn_log.specs.Stored.{OneStoredLaw, ProperLaw};
+
+/// Entries, with the texts of their definitions, stand for one database and its view rows.
+pub fn one_stored_law()
+    ensures { OneStoredLaw }
+{}
+
+/// What a checkpoint publishes is proper, whatever its moment: rows fit their tables and totals are of groups of views.
+pub fn proper_law()
+    ensures { ProperLaw }
+{}

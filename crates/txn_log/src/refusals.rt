@@ -1,0 +1,22 @@
+//! Laws of the images that are refused. Each function is there for its contract.
+ghost use Rattle.txn_log.specs.Refused.{EitherLaw, NeverBothLaw, NotRefusedLaw, OneRefusalLaw};
+
+/// An image of which no rule fails and whose views are as evaluated afresh is not refused.
+pub fn never_both_law()
+    ensures { NeverBothLaw }
+{}
+
+/// An image is refused for one cause, at one place.
+pub fn one_refusal_law()
+    ensures { OneRefusalLaw }
+{}
+
+/// Where no rule fails first, none fails.
+pub fn either_law()
+    ensures { EitherLaw }
+{}
+
+/// What a crash may leave is not refused.
+pub fn not_refused_law()
+    ensures { NotRefusedLaw }
+{}
