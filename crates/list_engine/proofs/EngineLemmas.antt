@@ -25,8 +25,7 @@ use Rattle.iv_meaning.specs.Reading.{replies_of}
 use Rattle.iv_meaning.specs.Autocommit.{is_built, whole_meaning, means_whole, outside_whole}
 use Rattle.list_engine.specs.declared.engine.ListEngine.{ListEngine}
 use Rattle.std.specs.List.{AllByRecursion}
-use Rattle.std.specs.Option.{option_and_then}
-use Rattle.iv_meaning.specs.Query.{BoundQuery, answer}
+use Rattle.iv_meaning.specs.Query.{BoundQuery}
 use Rattle.row_eval.specs.Grouped.{Gives}
 use Rattle.list_store.specs.Held.{Holds, IsEvaluated, sources}
 use Rattle.list_store.proofs.HeldLemmas.{any_refused}

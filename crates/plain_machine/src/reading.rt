@@ -54,7 +54,7 @@ fn tables_of(alloc: Global, rows: &PlaceMap<Row>) -> Result<TableRows, NoMemory>
 ///
 /// # Errors
 ///
-/// Where there is no memory for it, and where it is a view that is refused.
+/// Where there is no memory for it, and where it is a view of which a sum leaves the HUGE range.
 pub fn read(
     alloc: Global,
     catalog: &Catalog,
