@@ -22,4 +22,5 @@ pub mod Shopping
 pub mod Saving
 pub mod Trading
 pub mod Standing
+pub mod Damaging
 pub mod Groups
