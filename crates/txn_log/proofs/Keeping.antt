@@ -2,51 +2,40 @@
 use Rattle.std.specs.Prelude.{◌≡◌, ◌≢◌, ℕ, suc, ◌+◌, ◌<◌, ◌≤◌, ◌==◌, Bool, true, false, not, List, [], ◌∷◌, ◌++◌, Option, Some, None, IsSome, ℤ, pos, ◌+ℤ◌, ◌≤ℤ◌}
 use Rattle.std.specs.FinMap.{get}
 use mathlib.Core.Path.{refl, sym, ap, subst, ◌∙◌}
-use mathlib.Core.Logic.{inl}
 use Rattle.std.proofs.Common.{arith, eq-eqb, length}
 use Rattle.std.proofs.lemmas.Int.{ints}
 use Rattle.std.proofs.lemmas.Bool.{ne_eqb, and_right, and_from}
-use Rattle.iv_types.specs.declared.statement.Mode.TheVariants.{Serial, Snapshot}
-use Rattle.iv_types.specs.declared.lock.GroupDelta.{GroupDelta}
+use Rattle.iv_types.specs.declared.statement.Mode.TheVariants.{Serial}
 use Rattle.table_laws.specs.Place.{Place}
 use Rattle.iv_types.specs.Encoding.{IsHuge}
-use Rattle.table_laws.specs.Kept.{redo, Touches}
 use Rattle.table_laws.specs.Table.{write}
 use Rattle.iv_meaning.specs.Schema.{Object}
 use Rattle.iv_meaning.specs.Database.{Rows, Database}
 use Rattle.iv_meaning.specs.Escrow.{IsSession, over_sessions, paid, lo, hi}
 use Rattle.txn_machine.specs.Locks.{with_one}
-use Rattle.txn_machine.specs.Deltas.{RowChange, negated, place_of}
-use Rattle.txn_machine.specs.Keeping.{KeptStep, Put, Pay, changes_of, increments, Open, begun}
+use Rattle.txn_machine.specs.Deltas.{place_of}
+use Rattle.txn_machine.specs.Keeping.{increments, Open}
 use Rattle.txn_machine.specs.Stored.{ViewRows, add_to, add_all, zeros, stored_number}
 use Rattle.txn_machine.specs.Fresh.{fresh, made_of}
-use Rattle.txn_machine.specs.Store.{Store, committed, schema_of, now, changes_by, change_at, locks_of, with_txn, paid_first, undone, notes_before, Effect, Opens, Takes, Notes, Writes, Pays, Ghosts, Undoes, Loses, Ends, Commits, Defines, Cleans, Prunes, does}
+use Rattle.txn_machine.specs.Store.{Store, committed, schema_of, now, with_txn, Effect, Commits, Defines, does}
 use Rattle.txn_machine.specs.Ghosts.{the_views}
 use Rattle.txn_machine.proofs.Basics.{one_same, one_other}
-use Rattle.txn_machine.proofs.Agreeing.{written_at}
-use Rattle.txn_machine.proofs.Bounds.{over_zero, over_at_most, signs, huge_inside}
-use Rattle.txn_machine.proofs.Columns.{paid_in}
-use Rattle.txn_machine.proofs.Keeps.{pays_none}
+use Rattle.txn_machine.proofs.Bounds.{over_at_most, signs, huge_inside}
 use Rattle.txn_machine.proofs.Reached.{Holds'}
-use Rattle.txn_machine.proofs.Good.{the_open, PaysOn}
-use Rattle.txn_machine.proofs.Runs.{Can, CanPay, none_kept, committed_after, defined}
-use Rattle.std.specs.List.{AllByRecursion}
+use Rattle.txn_machine.proofs.Good.{the_open}
+use Rattle.txn_machine.proofs.Runs.{Can, committed_after, defined}
 use Rattle.txn_machine.specs.Steps.{stored}
-use Rattle.txn_machine.proofs.Shapes.{Stored'}
 use Rattle.txn_machine.proofs.Looking.{view_laws}
 use Rattle.txn_log.specs.Replay.{What, Wrote, Added, Deed, Event, Kept, Ghost, Clean, Undo, Commit, Abort, spares, find, Stored, undo_found, rows_with, view_with, rows_without, view_without}
 use Rattle.txn_log.specs.Fitting.{WhatFits, BackFits, InRange, CarriedBelow, AreBelow}
-use Rattle.txn_log.specs.Replay.{own}
 use Rattle.txn_log.specs.Fitting.{IsKnown, IsGroup, IsAccepted}
 use Rattle.txn_log.specs.Moments.{Txn}
-use Rattle.txn_log.proofs.Memory.{no_txn, Memory, with_event, set_txn, deed_now, keeps, pays, undoes, aborts, begins, remembers, HasNumber}
+use Rattle.txn_log.proofs.Memory.{no_txn, Memory, with_event, set_txn, deed_now, keeps, undoes, aborts, begins, remembers}
 use Rattle.txn_log.proofs.Finding.{by_number}
 use Rattle.txn_log.proofs.Owning.{set_each, IsKept, kept_weaker, find_latest, AreApart, apart_set, carried_begin, carried_keep, carried_undo, carried_end, carried_leave, carried_same}
-use Rattle.txn_log.proofs.Reversing.{not_nothing}
-use Rattle.txn_log.proofs.Knowing.{all_owed, ghost_group, accepted_stored, stored_group}
-use Rattle.txn_log.proofs.Tying.{whats_of, whats_in, whats_changes, changes_kept, IsClear, clear_set, replay_of, Tied}
+use Rattle.txn_log.proofs.Tying.{whats_of, whats_in, IsClear, clear_set, replay_of, Tied}
 
-abbrev CanDo : Store → ℕ → Effect → Type 0
+abbrev pub CanDo : Store → ℕ → Effect → Type 0
 CanDo = Can the_views fresh view_laws
 
 -- the open transaction of one session is replaced
@@ -66,15 +55,15 @@ tail_of : List What → List What
 tail_of [] = []
 tail_of (v ∷ vs) = vs
 
-same_head : (v w : What) (vs ws : List What) → v ∷ vs ≡ w ∷ ws → v ≡ w
+pub same_head : (v w : What) (vs ws : List What) → v ∷ vs ≡ w ∷ ws → v ≡ w
 unfolding head_or
 same_head v w vs ws e = ap (head_or v) e
 
-same_tail : (v w : What) (vs ws : List What) → v ∷ vs ≡ w ∷ ws → vs ≡ ws
+pub same_tail : (v w : What) (vs ws : List What) → v ∷ vs ≡ w ∷ ws → vs ≡ ws
 unfolding tail_of
 same_tail v w vs ws e = ap tail_of e
 
-not_empty : (v : What) (vs : List What) → v ∷ vs ≡ [] → ⊥
+pub not_empty : (v : What) (vs : List What) → v ∷ vs ≡ [] → ⊥
 not_empty v vs e = let lengths : suc (length vs) ≡ 0 = ap length e in omega arith
 
 carried_more : (n m : ℕ) (xs : List Deed) → n ≤ m → CarriedBelow n xs → CarriedBelow m xs
@@ -85,7 +74,7 @@ below_more : (n m : ℕ) (carried : List Deed) (rs : List Event) → n ≤ m →
 below_more n m carried [] h b = carried_more n m carried h b
 below_more n m carried (r ∷ rs) h b = ((let l = b.0 in omega arith), below_more n m carried rs h b.1)
 
-next_below : (s : Store) (l : Memory) → Tied s l → (l.next < l.next + 1) × AreBelow (l.next + 1) l.carried (l.waiting ++ l.flushed)
+pub next_below : (s : Store) (l : Memory) → Tied s l → (l.next < l.next + 1) × AreBelow (l.next + 1) l.carried (l.waiting ++ l.flushed)
 next_below s l t = (omega arith, below_more l.next (l.next + 1) l.carried (l.waiting ++ l.flushed) (omega arith) t.below)
 
 -- as a record fits, of the machine's rows
@@ -93,11 +82,11 @@ abbrev FitsIn : Rows → ViewRows → What → Type 0
 FitsIn rows view (Wrote c) = c.before ≡ get rows c.key
 FitsIn rows view (Added d) = IsSome (get view (place_of d)) × InRange (add_to view d) (place_of d)
 
-what_fits : (s : Store) (l : Memory) → Tied s l → (w : What) → FitsIn s.rows s.view w → WhatFits (replay_of l) w
+pub what_fits : (s : Store) (l : Memory) → Tied s l → (w : What) → FitsIn s.rows s.view w → WhatFits (replay_of l) w
 what_fits s l t (Wrote c) h = h ∙ ap (λ (d : Database). get d.rows c.key) (sym t.db)
 what_fits s l t (Added d) h = subst (λ (v : ViewRows). IsSome (get v (place_of d)) × InRange (add_to v d) (place_of d)) (sym t.view) h
 
-some_of : {X : Type 0} (o : Option X) → (o ≡ None → ⊥) → IsSome o
+pub some_of : {X : Type 0} (o : Option X) → (o ≡ None → ⊥) → IsSome o
 some_of None h = absurd (h refl)
 some_of (Some x) h = refl
 
@@ -112,7 +101,7 @@ stored_huge s g p column =
     huge_inside (base +ℤ over_sessions (λ j. lo (kept j))) (stored_number s.view p column) (base +ℤ over_sessions (λ j. hi (kept j))) (g.low p column)
     (omega (arith, ints, there, low)) (omega (arith, ints, there, high)) (g.high p column)
 
-no_whats : (xs : List Deed) → whats_of xs ≡ [] → xs ≡ []
+pub no_whats : (xs : List Deed) → whats_of xs ≡ [] → xs ≡ []
 no_whats [] e = refl
 no_whats (x ∷ xs) e = absurd (not_empty x.what (whats_of xs) e)
 
@@ -145,7 +134,7 @@ module _ (s : Store) (l : Memory) (t : Tied s l) (i : ℕ) (one : IsSession i) w
       (λ n. t.whats j is ∙ ap (λ (p : Open). whats_in p.kept) (sym (now_other s i o j n)))
 
   -- the machine's transaction changes, the log stays
-  tied_stay : (o : Option Open) → whats_in (the_open o).kept ≡ whats_in (now s i).kept → Tied (with_txn s i o) l
+  pub tied_stay : (o : Option Open) → whats_in (the_open o).kept ≡ whats_in (now s i).kept → Tied (with_txn s i o) l
   tied_stay o same = record {
     carried = t.carried;
     apart = t.apart;
@@ -160,7 +149,7 @@ module _ (s : Store) (l : Memory) (t : Tied s l) (i : ℕ) (one : IsSession i) w
   }
 
   -- a transaction begins
-  tied_begin : (o : Open) → (now s i).kept ≡ [] → o.kept ≡ [] → id ≡ 0 → Tied (with_txn s i (Some o)) (begins l i Serial)
+  pub tied_begin : (o : Open) → (now s i).kept ≡ [] → o.kept ≡ [] → id ≡ 0 → Tied (with_txn s i (Some o)) (begins l i Serial)
   tied_begin o none kept zero_id =
       let u : Txn = record { id = l.begun + 1; kept = []; wrote = false } in record {
         carried = carried_begin l.txn_of st.live t.carried i one l.begun t.apart.in_range zero_id;
@@ -180,7 +169,7 @@ module _ (s : Store) (l : Memory) (t : Tied s l) (i : ℕ) (one : IsSession i) w
       }
 
   -- a change or a delta
-  tied_keep : 1 ≤ id → (w : What) (o : Open) (rows : Rows) (view : ViewRows) → whats_in o.kept ≡ w ∷ whats_in (now s i).kept
+  pub tied_keep : 1 ≤ id → (w : What) (o : Open) (rows : Rows) (view : ViewRows) → whats_in o.kept ≡ w ∷ whats_in (now s i).kept
       → rows ≡ rows_with w s.rows → view ≡ view_with w s.view → IsKnown (schema_of s) w → FitsIn s.rows s.view w
       → Tied (record s { rows = rows; view = view; open_of = with_one s.open_of i (Some o) }) (keeps l i w)
   tied_keep at w o rows view kept rows_are view_is known fits =
@@ -203,7 +192,7 @@ module _ (s : Store) (l : Memory) (t : Tied s l) (i : ℕ) (one : IsSession i) w
       }
 
   -- the latest one taken back
-  tied_undo : 1 ≤ id → (x : Deed) (ks : List Deed) → (l.txn_of i).kept ≡ x ∷ ks → (o : Open) (rows : Rows) (view : ViewRows) → whats_in o.kept ≡ whats_of ks
+  pub tied_undo : 1 ≤ id → (x : Deed) (ks : List Deed) → (l.txn_of i).kept ≡ x ∷ ks → (o : Open) (rows : Rows) (view : ViewRows) → whats_in o.kept ≡ whats_of ks
       → rows ≡ rows_without x.what s.rows → view ≡ view_without x.what s.view → BackFits s.rows s.view x.what
       → Tied (record s { rows = rows; view = view; open_of = with_one s.open_of i (Some o) }) (undoes l i (x ∷ ks))
   tied_undo at x ks latest o rows view kept rows_are view_is back =
@@ -255,7 +244,7 @@ module _ (s : Store) (l : Memory) (t : Tied s l) (i : ℕ) (one : IsSession i) w
       (λ j g n h. and_from _ _ (spared j n (λ same. omega arith)) (t.clear.new j g n (omega arith)))
 
   -- without a record
-  tied_bare : (o : Option Open) → (now s i).kept ≡ [] → (the_open o).kept ≡ [] → Tied (with_txn s i o) (set_txn l i no_txn)
+  pub tied_bare : (o : Option Open) → (now s i).kept ≡ [] → (the_open o).kept ≡ [] → Tied (with_txn s i o) (set_txn l i no_txn)
   tied_bare o none kept =
       let nothing : (l.txn_of i).kept ≡ [] = no_whats (l.txn_of i).kept (t.whats i one ∙ ap whats_in none) in record {
         carried = by_number id 0
@@ -275,10 +264,10 @@ module _ (s : Store) (l : Memory) (t : Tied s l) (i : ℕ) (one : IsSession i) w
         below = t.below;
       }
 
-  tied_leave : (now s i).kept ≡ [] → Tied (with_txn s i None) (set_txn l i no_txn)
+  pub tied_leave : (now s i).kept ≡ [] → Tied (with_txn s i None) (set_txn l i no_txn)
   tied_leave none = tied_bare None none refl
 
-  tied_abort : 1 ≤ id → Tied (with_txn s i None) (set_txn (with_event l (Abort l.next id)) i no_txn)
+  pub tied_abort : 1 ≤ id → Tied (with_txn s i None) (set_txn (with_event l (Abort l.next id)) i no_txn)
   tied_abort at =
       let r : Event = Abort l.next id in
       let spared : (j n : ℕ) → id ≢ j → spares r j n ≡ true = λ j n d. ap not (ne_eqb id j d) in record {
@@ -295,11 +284,11 @@ module _ (s : Store) (l : Memory) (t : Tied s l) (i : ℕ) (one : IsSession i) w
       }
 
   -- an Abort where there was a record
-  tied_end : (now s i).kept ≡ [] → (wrote : Bool) → (wrote ≡ true → 1 ≤ id) → Tied (with_txn s i None) (set_txn (aborts l id wrote) i no_txn)
+  pub tied_end : (now s i).kept ≡ [] → (wrote : Bool) → (wrote ≡ true → 1 ≤ id) → Tied (with_txn s i None) (set_txn (aborts l id wrote) i no_txn)
   tied_end none false h = tied_leave none
   tied_end none true h = tied_abort (h refl)
 
-  tied_commit : 1 ≤ id → Tied (does the_views s i Commits) (remembers s i Commits l)
+  pub tied_commit : 1 ≤ id → Tied (does the_views s i Commits) (remembers s i Commits l)
   tied_commit at =
       let number : ℕ = (committed s).number + 1 in
       let r : Event = Commit l.next id number in
@@ -333,7 +322,7 @@ module _ (s : Store) (l : Memory) (t : Tied s l) where
     new = λ j g n h. t.clear.new j g n (omega arith);
   }
 
-  tied_ghost : (p : Place) (columns : ℕ) → IsGroup (schema_of s) p → get s.view p ≡ None → Tied (record s { view = write s.view p (Some (zeros columns)) }) (with_event l (Ghost l.next p columns))
+  pub tied_ghost : (p : Place) (columns : ℕ) → IsGroup (schema_of s) p → get s.view p ≡ None → Tied (record s { view = write s.view p (Some (zeros columns)) }) (with_event l (Ghost l.next p columns))
   tied_ghost p columns group absent = record {
     carried = t.carried;
     apart = same_apart;
@@ -347,7 +336,7 @@ module _ (s : Store) (l : Memory) (t : Tied s l) where
     below = next_below s l t;
   }
 
-  tied_clean : (p : Place) → IsGroup (schema_of s) p → IsSome (get s.view p) → ((column : ℕ) → stored_number s.view p column ≡ pos 0) → Tied (record s { view = write s.view p None }) (with_event l (Clean l.next p))
+  pub tied_clean : (p : Place) → IsGroup (schema_of s) p → IsSome (get s.view p) → ((column : ℕ) → stored_number s.view p column ≡ pos 0) → Tied (record s { view = write s.view p None }) (with_event l (Clean l.next p))
   tied_clean p group there zeros_are = record {
     carried = t.carried;
     apart = same_apart;
@@ -370,7 +359,7 @@ module _ (s : Store) (l : Memory) (t : Tied s l) where
   }
 
   -- a definition
-  tied_define : (i : ℕ) (o : Object) → IsAccepted (stored s) o → Tied (does the_views s i (Defines o)) (remembers s i (Defines o) l)
+  pub tied_define : (i : ℕ) (o : Object) → IsAccepted (stored s) o → Tied (does the_views s i (Defines o)) (remembers s i (Defines o) l)
   tied_define i o accepted =
       let st : Stored = replay_of l in
       let number : ℕ = (committed s).number + 1 in
@@ -388,95 +377,3 @@ module _ (s : Store) (l : Memory) (t : Tied s l) where
         fall = t.fall;
         below = next_below s l t;
       }
-
--- ---- all effects
-
--- a change is of a table, a definition is accepted, and a Clean finds its row
-abbrev pub Finds : Store → ℕ → Effect → Type 0
-Finds s i (Writes place new) = IsKnown (schema_of s) (Wrote (change_at s place new))
-Finds s i (Defines o) = IsAccepted (committed s) o
-Finds s i (Cleans p) = IsSome (get s.view p)
-Finds s i _ = Unit {0}
-
-module _ (s : Store) (l : Memory) (t : Tied s l) (i : ℕ) (one : IsSession i) where
-  pays_tied : 1 ≤ (l.txn_of i).id → (owed : List GroupDelta) → AllByRecursion (λ d. IsKnown (schema_of s) (Added d)) owed → CanPay the_views fresh view_laws s i owed → Holds' (paid_first s i (now s i) owed)
-      → Tied (paid_first s i (now s i) owed) (pays l i owed)
-  pays_tied at [] known can good = t
-  pays_tied at (d ∷ ds) known can good =
-      tied_keep s l t i one at (Added d) (record (now s i) { kept = Pay d ∷ (now s i).kept; owed = ds }) s.rows (add_to s.view d) refl refl refl known.0
-      (some_of (get s.view (place_of d)) can.0, λ column. stored_huge (paid_first s i (now s i) (d ∷ ds)) good (place_of d) column)
-
-  has_number : (x : Deed) (xs : List Deed) → (l.txn_of i).kept ≡ x ∷ xs → 1 ≤ (l.txn_of i).id
-  has_number x xs e = by_number (l.txn_of i).id 0
-      (λ z. absurd (not_nothing x xs (sym e ∙ (sym (t.carried.each i one) ∙ (ap (λ a. own a (replay_of l).live) z ∙ t.carried.of_none)))))
-      (λ z. omega arith)
-
-  -- a transaction that keeps a change has a number
-  pub number_of_changes : changes_by s i ≢ [] → 1 ≤ (l.txn_of i).id
-  number_of_changes some = by_kept (l.txn_of i).kept refl
-    where
-      by_kept : (xs : List Deed) → (l.txn_of i).kept ≡ xs → 1 ≤ (l.txn_of i).id
-      by_kept [] e = absurd (some (changes_kept (now s i).kept ∙ ap whats_changes (sym (t.whats i one) ∙ ap whats_of e)))
-      by_kept (x ∷ xs) e = has_number x xs e
-
-  module _ (good : Holds' s) where
-    -- the latest change's row is the one that it left
-    row_after_is : (c : RowChange) (ds : List GroupDelta) (ks : List KeptStep) → (now s i).kept ≡ Put c ds ∷ ks → get s.rows c.key ≡ c.after
-    row_after_is c ds ks e =
-        let changes : changes_by s i ≡ c ∷ changes_of ks = ap changes_of e in
-        good.stored.own i c.key one (subst (Touches c.key) (sym changes) (inl refl))
-        ∙ (ap (λ cs. get (redo cs (committed s).rows) c.key) changes ∙ written_at (redo (changes_of ks) (committed s).rows) c.key c.after c.key refl)
-
-    row_there : (d : GroupDelta) (ks : List KeptStep) → (now s i).kept ≡ Pay d ∷ ks → IsSome (get s.view (place_of d))
-    row_there d ks e = some_of (get s.view (place_of d)) (λ none. good.present (place_of d) none i one (subst (PaysOn (place_of d)) (sym e) (inl refl)))
-
-    undo_tied : (ks : List KeptStep) (xs : List Deed) → (now s i).kept ≡ ks → (l.txn_of i).kept ≡ xs → Holds' (undone s i (now s i) ks)
-        → Tied (undone s i (now s i) ks) (undoes l i xs)
-    undo_tied [] [] eks exs after = t
-    undo_tied [] (x ∷ xs) eks exs after = absurd (not_empty x.what (whats_of xs) (sym (ap whats_of exs) ∙ (t.whats i one ∙ ap whats_in eks)))
-    undo_tied (Put c ds ∷ ks) [] eks exs after = absurd (not_empty (Wrote c) (whats_in ks) (sym (ap whats_in eks) ∙ (sym (t.whats i one) ∙ ap whats_of exs)))
-    undo_tied (Pay d ∷ ks) [] eks exs after = absurd (not_empty (Added d) (whats_in ks) (sym (ap whats_in eks) ∙ (sym (t.whats i one) ∙ ap whats_of exs)))
-    undo_tied (Put c ds ∷ ks) (x ∷ xs) eks exs after =
-        let both : x.what ∷ whats_of xs ≡ Wrote c ∷ whats_in ks = sym (ap whats_of exs) ∙ (t.whats i one ∙ ap whats_in eks) in
-        let head : x.what ≡ Wrote c = same_head x.what (Wrote c) (whats_of xs) (whats_in ks) both in
-        let tail : whats_of xs ≡ whats_in ks = same_tail x.what (Wrote c) (whats_of xs) (whats_in ks) both in
-        tied_undo s l t i one (has_number x xs exs) x xs exs (record (now s i) { kept = ks; owed = []; back = 0; notes = notes_before (length ks) (now s i).notes })
-        (write s.rows c.key c.before) s.view (sym tail) (ap (λ w. rows_without w s.rows) (sym head)) (ap (λ w. view_without w s.view) (sym head))
-        (subst (BackFits s.rows s.view) (sym head) (row_after_is c ds ks eks))
-    undo_tied (Pay d ∷ ks) (x ∷ xs) eks exs after =
-        let both : x.what ∷ whats_of xs ≡ Added d ∷ whats_in ks = sym (ap whats_of exs) ∙ (t.whats i one ∙ ap whats_in eks) in
-        let head : x.what ≡ Added d = same_head x.what (Added d) (whats_of xs) (whats_in ks) both in
-        let tail : whats_of xs ≡ whats_in ks = same_tail x.what (Added d) (whats_of xs) (whats_in ks) both in
-        tied_undo s l t i one (has_number x xs exs) x xs exs (record (now s i) { kept = ks; owed = d ∷ (now s i).owed; back = (now s i).back + 1 })
-        s.rows (add_to s.view (negated d)) (sym tail) (ap (λ w. rows_without w s.rows) (sym head)) (ap (λ w. view_without w s.view) (sym head))
-        (subst (BackFits s.rows s.view) (sym head) (row_there d ks eks, λ column. stored_huge (undone s i (now s i) (Pay d ∷ ks)) after (place_of d) column))
-
--- a row that may be removed holds zeros
-zeros_there : (s : Store) → Holds' s → (p : Place) → CanDo s 0 (Cleans p) → (column : ℕ) → stored_number s.view p column ≡ pos 0
-zeros_there s g p can column =
-    let there : stored_number s.view p column ≡ fresh (schema_of s) (committed s).rows p column +ℤ over_sessions (λ j. paid_in p column (now s j).kept) = g.view p column in
-    let none : fresh (schema_of s) (committed s).rows p column ≡ pos 0 = view_laws.none (schema_of s) (committed s).rows p can.0 column in
-    let idle_ : over_sessions (λ j. paid_in p column (now s j).kept) ≡ pos 0 =
-    over_zero (λ j. paid_in p column (now s j).kept) (λ j js. pays_none (schema_of s) (locks_of s j) p column (now s j).kept (g.each j js).held (can.1 j js)) in
-    omega (arith, ints)
-
-pub tied_does : (s : Store) (l : Memory) (i : ℕ) (e : Effect) → Holds' s → Stored' s → Holds' (does the_views s i e) → Tied s l → CanDo s i e → HasNumber e (l.txn_of i) → Finds s i e
-    → Tied (does the_views s i e) (remembers s i e l)
-tied_does s l i (Opens Serial) g shape after t can has finds = tied_begin s l t i can.0 (begun Serial (committed s).number) (none_kept the_views fresh view_laws s i can.1) refl has
-tied_does s l i (Opens Snapshot) g shape after t can has finds = tied_bare s l t i can.0 (Some (begun Snapshot (committed s).number)) (none_kept the_views fresh view_laws s i can.1) refl
-tied_does s l i (Takes wants) g shape after t can has finds = tied_stay s l t i can.0 (Some (record (now s i) { locks = wants ++ (now s i).locks })) refl
-tied_does s l i (Notes note) g shape after t can has finds = tied_stay s l t i can (Some (record (now s i) { notes = note ∷ (now s i).notes })) refl
-tied_does s l i (Writes place new) g shape after t can has finds =
-    let c : RowChange = change_at s place new in
-    let owed : List GroupDelta = the_views.owed (schema_of s) s.rows c in
-    tied_keep s l t i can.0 has (Wrote c) (record (now s i) { kept = Put c owed ∷ (now s i).kept; owed = owed; back = 0 }) (write s.rows place new) s.view refl refl refl finds refl
-tied_does s l i Pays g shape after t can has finds = pays_tied s l t i can.0 has (now s i).owed (all_owed s g i can.0) can.1 after
-tied_does s l i (Ghosts p n) g shape after t can has finds = tied_ghost s l t p n (ghost_group s g i can.1 p n can.2) can.0
-tied_does s l i Undoes g shape after t can has finds = undo_tied s l t i can g (now s i).kept (l.txn_of i).kept refl refl after
-tied_does s l i Loses g shape after t can has finds = tied_stay s l t i can (Some (record (now s i) { is_lost = true })) refl
-tied_does s l i Ends g shape after t can has finds = tied_end s l t i can.0 can.1 (l.txn_of i).wrote has
-tied_does s l i Commits g shape after t can has finds = tied_commit s l t i can.0 has
-tied_does s l i (Defines o) g shape after t can has finds = tied_define s l t i o (accepted_stored s g o can finds)
-tied_does s l i (Cleans p) g shape after t can has finds = tied_clean s l t p (stored_group (schema_of s) s.view p shape finds) finds (zeros_there s g p can)
-tied_does s l i Prunes g shape after t can has finds =
-    record { carried = t.carried; apart = t.apart; clear = t.clear; whats = t.whats; db = t.db; view = t.view; fits = t.fits; known = t.known; fall = t.fall; below = t.below }

@@ -21,7 +21,7 @@ use Rattle.txn_log.specs.Fitting.{IsKnown}
 use Rattle.txn_log.proofs.Finding.{by_number}
 use Rattle.txn_log.proofs.Knowing.{all_owed}
 use Rattle.txn_log.proofs.Tying.{whats_in, AllWhats}
-use Rattle.txn_log.proofs.Keeping.{Finds}
+use Rattle.txn_log.proofs.KeptTied.{Finds}
 
 abbrev pub AreKnown : Schema → Option Open → Type 0
 AreKnown objects o = AllWhats (IsKnown objects) (whats_in (the_open o).kept)

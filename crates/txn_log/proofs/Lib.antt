@@ -6,6 +6,7 @@ pub mod Backing
 pub mod Knowing
 pub mod Tying
 pub mod Keeping
+pub mod KeptTied
 pub mod KeptKnown
 pub mod Numbering
 pub mod Meaning
@@ -22,4 +23,5 @@ pub mod Shopping
 pub mod Saving
 pub mod Trading
 pub mod Standing
+pub mod Damaging
 pub mod Groups

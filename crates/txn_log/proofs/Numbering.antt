@@ -41,7 +41,7 @@ use Rattle.txn_log.proofs.Finding.{by_number}
 use Rattle.txn_log.proofs.Owning.{set_each}
 use Rattle.txn_log.proofs.Tying.{Tied}
 use Rattle.txn_log.proofs.Knowing.{change_known}
-use Rattle.txn_log.proofs.Keeping.{number_of_changes, Finds}
+use Rattle.txn_log.proofs.KeptTied.{number_of_changes, Finds}
 
 abbrev pub ModeNumber : Mode → Txn → Type 0
 ModeNumber Serial t = 1 ≤ t.id

@@ -37,7 +37,7 @@ use Rattle.txn_log.proofs.Reversing.{by_owner, changes_of}
 use Rattle.txn_log.proofs.Backing.{carried_agree}
 use Rattle.txn_log.proofs.Meaning.{row_all_carried}
 use Rattle.txn_log.proofs.Tying.{same_changes, Tied, right_now, whats_of, AllWhats, of_each}
-use Rattle.txn_log.proofs.Keeping.{tied_does}
+use Rattle.txn_log.proofs.KeptTied.{tied_does}
 use Rattle.txn_log.proofs.KeptKnown.{AllKept, kept_does}
 use Rattle.txn_log.proofs.Numbering.{IsNumbered, OpenFor, has_number, numbered_does, finds}
 

@@ -26,7 +26,7 @@ use Rattle.txn_log.proofs.Once.{created}
 
 -- ---- definitions
 
-creates_once : OneStatement → (objects : Schema) (texts : List (List ℕ)) (a b : Schema) → AllCreate objects texts a → AllCreate objects texts b → a ≡ b
+pub creates_once : OneStatement → (objects : Schema) (texts : List (List ℕ)) (a b : Schema) → AllCreate objects texts a → AllCreate objects texts b → a ≡ b
 creates_once alone objects [] a b h k = h ∙ sym k
 creates_once alone objects (text ∷ texts) a b h k =
     let same : h.0 ≡ k.0 = created alone objects text h.0 k.0 h.1 k.1 in

@@ -8,4 +8,5 @@ pub mod Refused
 pub mod Worked
 pub mod Day
 pub mod Stored
+pub mod Damaged
 pub mod Laws

@@ -1,4 +1,5 @@
 //! Laws of the entries of stored pages. Each function is there for its contract.
+ghost use Rattle.txn_log.specs.Damaged.{OneDamageLaw};
 ghost use Rattle.txn_log.specs.Stored.{OneStoredLaw, ProperLaw};
 
 /// Entries, with the texts of their definitions, stand for one database and its view rows.
@@ -9,4 +10,9 @@ pub fn one_stored_law()
 /// What a checkpoint publishes is proper, whatever its moment: rows fit their tables and totals are of groups of views.
 pub fn proper_law()
     ensures { ProperLaw }
+{}
+
+/// Before its records are replayed an image is refused by one rule at most, at one place.
+pub fn one_damage_law()
+    ensures { OneDamageLaw }
 {}
