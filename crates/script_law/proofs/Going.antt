@@ -187,7 +187,7 @@ module _ {S : Type 0} (view : S → Visible) (Does : S → ℕ → Act → Answe
     closes next stay free (Some t) is c =
         let numbers : (n : ℕ) → e ≡ Commits n → n ≡ next_number (kept_of t) (base (view s) t).number = λ n ex. laws.numbers s mid i a said n t st.stands does ex is in
         let r = closed_ends i w table statement number held (view s) (Halts s) (Halts mid) lasts st.others st.held_grows t is (laws.truth s i t st.stands is)
-            (laws.defined s i t st.stands is) e next numbers c in
+        (laws.defined s i t st.stands is) e next numbers c in
         ended_so free r.0 r.1 r.2 (laws.stands s mid i a said st.stands does)
         (subst (λ v. EndResult i w table statement number held r.0 r.1 v (Halts mid)) (sym moved_view) r.3)
     closes next stay free None is c = by e next refl c
@@ -234,9 +234,11 @@ module _ {S : Type 0} (view : S → Visible) (Does : S → ℕ → Act → Answe
   OnOutcome (stepped todo) s = Stays s todo
 
   stays_outcome : (s : S) (todo : Todo) → Stays s todo → OnOutcome (outcome_at todo) s
-  stays_outcome s (says replies standing) h = (h.stage.stands,
-      done_ends i w table statement number held (view s) (Halts s) (Halts s) (λ x. x) h.stage.others h.stage.held_grows h.stage.stopped ((view s).open_of i) replies standing h.stage.known refl
-      (objects_known s h.stage.stands h.stage.held_grows ((view s).open_of i) refl) h.serves)
+  stays_outcome s (says replies standing) h = (
+    h.stage.stands,
+    done_ends i w table statement number held (view s) (Halts s) (Halts s) (λ x. x) h.stage.others h.stage.held_grows h.stage.stopped ((view s).open_of i) replies standing h.stage.known refl
+        (objects_known s h.stage.stands h.stage.held_grows ((view s).open_of i) refl) h.serves,
+  )
   stays_outcome s (asks a f) h = h
   stays_outcome s (ghosts f) h = h
 

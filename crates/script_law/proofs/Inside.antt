@@ -192,7 +192,7 @@ module _ (works : Works) (laws : WorkLaws works) (b : Bool) (o : Open) (t : Txn)
   denies_at_once why w e is = told o t (reply.Error why ∷ []) standing refl (work_stays statement w)
       (told_as b o t standing statement (reply.Error why ∷ []) (λ db. (lone o db).1) at.is at.mode_is at.copy_is
       (λ db truth. inside_accepted o.mode statement (ran db) (not_refused e db truth) ∙ accepted_work statement (ran db) w
-        ∙ ap (λ m. told_of m (ran db)) (laws.denies statement w standing.copy why is (ran db).db ((fine_ran db truth).0.1 ∙ truth.schema ∙ sym at.copy_is)))
+      ∙ ap (λ m. told_of m (ran db)) (laws.denies statement w standing.copy why is (ran db).db ((fine_ran db truth).0.1 ∙ truth.schema ∙ sym at.copy_is)))
       at.names at.fits at.counts at.marks at.snapshot)
 
 -- ---- where the engine is known to be stopped
@@ -263,12 +263,12 @@ module _ (works : Works) (laws : WorkLaws works) (o : Open) (t : Txn) (standing 
     copy_is = at.copy_is ∙ sym h.objects_is;
     names = λ db all. at.names db (h.back db all);
     fits = inr (λ db all.
-      let f = fits_now db (h.back db all) in
-      record {
-        db_is = f.db_is ∙ ap (λ l. keep_all (in_order (changes l)) db) (sym h.kept_is);
-        kept_is = f.kept_is ∙ ap (λ l. in_order (changes l)) (sym h.kept_is);
-        saved = subst (λ l. AreSaved db l (lone o db).1.saved standing.saved) (sym h.kept_is) f.saved;
-      });
+        let f = fits_now db (h.back db all) in
+        record {
+          db_is = f.db_is ∙ ap (λ l. keep_all (in_order (changes l)) db) (sym h.kept_is);
+          kept_is = f.kept_is ∙ ap (λ l. in_order (changes l)) (sym h.kept_is);
+          saved = subst (λ l. AreSaved db l (lone o db).1.saved standing.saved) (sym h.kept_is) f.saved;
+        });
     counts = inr (ap length h.kept_is ∙ counts_now);
     marks = inr (subst (λ l. AreMarks l standing.saved) (sym h.kept_is) marks_now);
     snapshot = inr (λ m. h.kept_is ∙ snapshot_now m);
@@ -334,12 +334,12 @@ module _ (works : Works) (laws : WorkLaws works) (o : Open) (t : Txn) (standing 
         (λ db all. told_so t' (Accepted listed count (in_order (changes later))) h.back comes db all)
         (λ db all. at.names db (h.back db all))
         (inr (λ db all.
-          let f = fits_now db (h.back db all) in
-          record {
-            db_is = ap (keep_all (in_order (changes later))) f.db_is ∙ sym (keep_append (kept_of t) (in_order (changes later)) db) ∙ ap (λ ks. keep_all ks db) (sym (kept_later t' later n h));
-            kept_is = ap (λ ks. ks ++ in_order (changes later)) f.kept_is ∙ sym (kept_later t' later n h);
-            saved = subst (λ l. AreSaved db l (lone o db).1.saved standing.saved) (sym h.kept_is) (saved_more db later t.kept (lone o db).1.saved standing.saved marks_now f.saved);
-          }))
+        let f = fits_now db (h.back db all) in
+        record {
+          db_is = ap (keep_all (in_order (changes later))) f.db_is ∙ sym (keep_append (kept_of t) (in_order (changes later)) db) ∙ ap (λ ks. keep_all ks db) (sym (kept_later t' later n h));
+          kept_is = ap (λ ks. ks ++ in_order (changes later)) f.kept_is ∙ sym (kept_later t' later n h);
+          saved = subst (λ l. AreSaved db l (lone o db).1.saved standing.saved) (sym h.kept_is) (saved_more db later t.kept (lone o db).1.saved standing.saved marks_now f.saved);
+        }))
         (inr (ap length h.kept_is ∙ length-append later t.kept ∙ (λ k. h.count_is k + counts_now k)))
         (inr (subst (λ l. AreMarks l standing.saved) (sym h.kept_is) (marks_more later t.kept standing.saved marks_now)))
         (inr (λ m. h.kept_is ∙ (λ k. reads (at.is.mode_is ∙ m) k ++ snapshot_now m k))))
@@ -356,14 +356,14 @@ module _ (works : Works) (laws : WorkLaws works) (o : Open) (t : Txn) (standing 
     frame_serves = record {
       finishes = finishes;
       denied = λ t' later n why h comes. back_serves t' later n why h (λ t'' h'' from.
-        told o t'' (reply.Error why ∷ []) standing refl (work_stays statement w)
-        (let at'' = undone_at t'' h'' in
-        told_as false o t'' standing statement (reply.Error why ∷ []) (λ db. lone_now db) at''.is at''.mode_is at''.copy_is
-        (λ db all. told_so t' (Refused why) h.back comes db (from db all)) at''.names at''.fits at''.counts at''.marks at''.snapshot));
+          told o t'' (reply.Error why ∷ []) standing refl (work_stays statement w)
+          (let at'' = undone_at t'' h'' in
+          told_as false o t'' standing statement (reply.Error why ∷ []) (λ db. lone_now db) at''.is at''.mode_is at''.copy_is
+          (λ db all. told_so t' (Refused why) h.back comes db (from db all)) at''.names at''.fits at''.counts at''.marks at''.snapshot));
       passes = λ t' later n why h engines alive. back_serves t' later n why h (λ t'' h'' from. passed_inside o t'' standing why refl engines alive (undone_at t'' h''));
       loses = λ t' later n why h engines dead. rolls_serves (says (reply.Error why ∷ []) (outside_with standing.copy))
-        (λ t'' c. loses o why standing.copy refl engines dead (of_comes works laws false o t standing at statement number t'' c) (grows_comes works laws false o t standing at statement number t'' c))
-        (n + standing.kept) t' (later ++ t.kept) (subst (λ m. Since (record t { kept = [] }) t' (later ++ t.kept) (n + m)) counts_now (since_none t t' later n h));
+          (λ t'' c. loses o why standing.copy refl engines dead (of_comes works laws false o t standing at statement number t'' c) (grows_comes works laws false o t standing at statement number t'' c))
+          (n + standing.kept) t' (later ++ t.kept) (subst (λ m. Since (record t { kept = [] }) t' (later ++ t.kept) (n + m)) counts_now (since_none t t' later n h));
       stops = λ t' later n why h engines alive. passed_inside o t' standing why refl engines alive (stopped_at works laws false o t standing at statement number t' (comes_of t t' later n h));
     }
 
@@ -390,7 +390,7 @@ module _ (works : Works) (laws : WorkLaws works) (o : Open) (t : Txn) (standing 
     where
       by : (said : Answer) → MayCome false (Some t) act.Commit said
           → Proceeds (job_of commit) (Some t) (event act.Commit said) (commit_next (λ n. says (reply.Commit n ∷ []) (outside_with standing.copy)) (keeps_standing works standing) said)
-            (Serves (false || is_stop (event act.Commit said)) (job_of commit) (next_txn (Some t) (event act.Commit said)) (commit_next (λ n. says (reply.Commit n ∷ []) (outside_with standing.copy)) (keeps_standing works standing) said))
+          (Serves (false || is_stop (event act.Commit said)) (job_of commit) (next_txn (Some t) (event act.Commit said)) (commit_next (λ n. says (reply.Commit n ∷ []) (outside_with standing.copy)) (keeps_standing works standing) said))
       by (answer.Committed n) m = commits o n standing standing.copy refl refl at (grows_comes works laws false o t standing at commit number t (comes_self t))
       by (answer.Refused why) m = refused_by_stop false (job_of commit) t (keeps_standing works standing why) why m.can (stop_after works laws o t standing at commit number t why (comes_self t) m.can)
       by _ m = absurd m.can
@@ -449,14 +449,14 @@ module _ (works : Works) (laws : WorkLaws works) (o : Open) (t : Txn) (standing 
         → Serves false (job_of (rollback (Some name))) (Some t) (undo works (standing.kept - p.1) (says (reply.Done 0 ∷ []) back_standing) (keeps_standing works standing))
     returns_go at = undo_serves (job_of (rollback (Some name))) works t (record t { kept = marks.1 }) (says (reply.Done 0 ∷ []) back_standing) (keeps_standing works standing)
         (λ t' h from. returns_done false at t' (comes t' [] 0 h)
-          (inr (λ db all.
-            let truth = from db all in
-            fits_back marks.1 t' db (lone o db).1 (from_named name (lone o db).1.saved) h.kept_is marks.3 older (names_back false at db truth)
-            (subst (AreSaved db t.kept (from_named name (lone o db).1.saved)) is
-            ((from_both name (lone o db).1.saved standing.saved (at.names db truth)).stand db t.kept (now_so at.marks) (now_so at.fits db truth).saved))))
-          (inr (ap length h.kept_is ∙ marks.3))
-          (inr ([], marks.1, h.kept_is, marks.3, marks.4))
-          (inr (λ m. h.kept_is ∙ end_none marks.0 marks.1 (sym marks.2 ∙ now_so at.snapshot m))))
+        (inr (λ db all.
+        let truth = from db all in
+        fits_back marks.1 t' db (lone o db).1 (from_named name (lone o db).1.saved) h.kept_is marks.3 older (names_back false at db truth)
+        (subst (AreSaved db t.kept (from_named name (lone o db).1.saved)) is
+        ((from_both name (lone o db).1.saved standing.saved (at.names db truth)).stand db t.kept (now_so at.marks) (now_so at.fits db truth).saved))))
+        (inr (ap length h.kept_is ∙ marks.3))
+        (inr ([], marks.1, h.kept_is, marks.3, marks.4))
+        (inr (λ m. h.kept_is ∙ end_none marks.0 marks.1 (sym marks.2 ∙ now_so at.snapshot m))))
         (λ t' later n why h e. stop_after works laws o t standing at (rollback (Some name)) number t' why (comes t' later n h) e)
         (standing.kept - p.1) t marks.0 (record {
           kept_is = marks.2;

@@ -80,7 +80,7 @@ module _ (works : Works) (laws : WorkLaws works) (statement : StatementTree) (w 
     where
       by : (t' : Txn) → Since first t' [] 0 → ((db : Database) → IsTruthful db t' → IsTruthful db t) → (said : Answer) → MayCome false (Some t') act.End said
           → Proceeds the_job (Some t') (event act.End said) (end_next (says (reply.Error why ∷ []) (outside_with objects)) (stays_out works objects) said)
-            (Serves (false || is_stop (event act.End said)) the_job (next_txn (Some t') (event act.End said)) (end_next (says (reply.Error why ∷ []) (outside_with objects)) (stays_out works objects) said))
+          (Serves (false || is_stop (event act.End said)) the_job (next_txn (Some t') (event act.End said)) (end_next (says (reply.Error why ∷ []) (outside_with objects)) (stays_out works objects) said))
       by t' h' from answer.Ended m = closes t' h' from
       by t' h' from (answer.Refused x) m = refused_by_stop false the_job t' (stays_out works objects x) x m.can (stays_serves t' [] 0 x h')
       by t' h' from _ m = absurd m.can
@@ -109,14 +109,14 @@ module _ (works : Works) (laws : WorkLaws works) (statement : StatementTree) (w 
       lone_so m db e all =
           let so = outside_so t later n (Accepted listed count (in_order (changes later))) h comes db all in
           let number_is : m ≡ next_number (in_order (changes later)) (keep_all (in_order (changes later)) db).number =
-              e ∙ ap (λ ks. next_number ks db.number) kept_is ∙ ap (next_number (in_order (changes later))) (sym (same_number (in_order (changes later)) db)) in (
+          e ∙ ap (λ ks. next_number ks db.number) kept_is ∙ ap (next_number (in_order (changes later))) (sym (same_number (in_order (changes later)) db)) in (
             ap (λ x. map reply.Row listed ++ reply.Done count ∷ reply.Commit x ∷ []) number_is ∙ sym (ap (λ (x : Transaction). x.replies) so),
             kept_is ∙ sym (ap (λ (x : Transaction). x.kept) so),
           )
 
       by : (said : Answer) → MayCome false (Some t) act.Commit said
           → Proceeds the_job (Some t) (event act.Commit said) (commit_next (λ m. says (map reply.Row listed ++ reply.Done count ∷ reply.Commit m ∷ []) (outside_with objects)) (stays_out works objects) said)
-            (Serves (false || is_stop (event act.Commit said)) the_job (next_txn (Some t) (event act.Commit said)) (commit_next (λ m. says (map reply.Row listed ++ reply.Done count ∷ reply.Commit m ∷ []) (outside_with objects)) (stays_out works objects) said))
+          (Serves (false || is_stop (event act.Commit said)) the_job (next_txn (Some t) (event act.Commit said)) (commit_next (λ m. says (map reply.Row listed ++ reply.Done count ∷ reply.Commit m ∷ []) (outside_with objects)) (stays_out works objects) said))
       by (answer.Committed m) x = is_alone m (map reply.Row listed ++ reply.Done count ∷ reply.Commit m ∷ []) objects refl (work_no_begin statement w) h.mode_is (λ db e. lone_so m db e) (grows_now t later n h)
       by (answer.Refused why) x = refused_by_stop false the_job t (stays_out works objects why) why x.can (stays_serves t later n why h)
       by _ x = absurd x.can
@@ -125,9 +125,9 @@ module _ (works : Works) (laws : WorkLaws works) (statement : StatementTree) (w 
   frame_serves = record {
     finishes = λ t later n listed count h comes reads. finishes t later n listed count h comes;
     denied = λ t later n why h comes. back_serves t later n why h (λ t' h' from.
-      is_refused (reply.Error why ∷ []) objects refl (work_no_begin statement w) h'.mode_is
-      (λ db all. let so = outside_so t later n (Refused why) h comes db (from db all) in (sym (ap (λ (x : Transaction). x.replies) so), sym (ap (λ (x : Transaction). x.kept) so)))
-      (grows_now t' [] 0 h'));
+        is_refused (reply.Error why ∷ []) objects refl (work_no_begin statement w) h'.mode_is
+        (λ db all. let so = outside_so t later n (Refused why) h comes db (from db all) in (sym (ap (λ (x : Transaction). x.replies) so), sym (ap (λ (x : Transaction). x.kept) so)))
+        (grows_now t' [] 0 h'));
     passes = λ t later n why h engines alive. back_serves t later n why h (λ t' h' from. is_passed why objects refl engines (grows_now t' [] 0 h'));
     loses = λ t later n why h engines dead. back_serves t later n why h (λ t' h' from. is_passed why objects refl engines (grows_now t' [] 0 h'));
     stops = λ t later n why h engines alive. stop_serves t later n why h engines;
@@ -181,7 +181,7 @@ module _ (works : Works) (laws : WorkLaws works) (statement : StatementTree) (nu
 
         end_failed : (why : EngineRefusal) (said : Answer) → MayCome false (Some (new_txn mode number objects)) act.End said
             → Proceeds j (Some (new_txn mode number objects)) (event act.End said) (end_next (says (reply.Error (works.tell copy None why) ∷ []) (outside_with copy)) (stays_out works copy) said)
-              (Serves (false || is_stop (event act.End said)) j (next_txn (Some (new_txn mode number objects)) (event act.End said)) (end_next (says (reply.Error (works.tell copy None why) ∷ []) (outside_with copy)) (stays_out works copy) said))
+            (Serves (false || is_stop (event act.End said)) j (next_txn (Some (new_txn mode number objects)) (event act.End said)) (end_next (says (reply.Error (works.tell copy None why) ∷ []) (outside_with copy)) (stays_out works copy) said))
         end_failed why answer.Ended m = is_passed (works.tell copy None why) copy refl (laws.engines copy None why) g
         end_failed why (answer.Refused x) m = refused_by_stop false j (new_txn mode number objects) (stays_out works copy x) x m.can (refused_out true (Some (new_txn mode number objects)) copy x (inr refl) g)
         end_failed why _ m = absurd m.can
@@ -193,7 +193,7 @@ module _ (works : Works) (laws : WorkLaws works) (statement : StatementTree) (nu
 
         told_all : (said : Answer) → MayCome false (Some (new_txn mode number objects)) act.Defs said
             → Proceeds j (Some (new_txn mode number objects)) (event act.Defs said) (defs_next (λ held. next held number) (fails_defs works copy) said)
-              (Serves (false || is_stop (event act.Defs said)) j (next_txn (Some (new_txn mode number objects)) (event act.Defs said)) (defs_next (λ held. next held number) (fails_defs works copy) said))
+            (Serves (false || is_stop (event act.Defs said)) j (next_txn (Some (new_txn mode number objects)) (event act.Defs said)) (defs_next (λ held. next held number) (fails_defs works copy) said))
         told_all (answer.Defs held) m = subst (λ x. Serves false j (Some (new_txn mode number objects)) (next x number)) (sym m.known) (goes objects)
         told_all (answer.Refused why) m = failed (is_stop (Fails why)) why refl
         told_all _ m = absurd m.can
@@ -226,9 +226,9 @@ module _ (works : Works) (laws : WorkLaws works) (statement : StatementTree) (nu
     where
       by : (b : Bool) (t : Option Txn) → IsOut b t → Grows copy (objects_of (record { statement = statement; before = None; number = number; copy = copy }) t) → (said : Answer) → MayCome b t (act.Schema statement) said
           → Proceeds j t (event (act.Schema statement) said)
-            (schema_next (λ n. says (reply.Done 0 ∷ reply.Commit n ∷ []) (outside_with copy)) (λ why. says (reply.Error why ∷ []) (outside_with copy)) (stays_out works copy) said)
-            (Serves (b || is_stop (event (act.Schema statement) said)) j (next_txn t (event (act.Schema statement) said))
-              (schema_next (λ n. says (reply.Done 0 ∷ reply.Commit n ∷ []) (outside_with copy)) (λ why. says (reply.Error why ∷ []) (outside_with copy)) (stays_out works copy) said))
+          (schema_next (λ n. says (reply.Done 0 ∷ reply.Commit n ∷ []) (outside_with copy)) (λ why. says (reply.Error why ∷ []) (outside_with copy)) (stays_out works copy) said)
+          (Serves (b || is_stop (event (act.Schema statement) said)) j (next_txn t (event (act.Schema statement) said))
+          (schema_next (λ n. says (reply.Done 0 ∷ reply.Commit n ∷ []) (outside_with copy)) (λ why. says (reply.Error why ∷ []) (outside_with copy)) (stays_out works copy) said))
       by b None out g (answer.Committed n) m = creates n refl nb
       by b (Some t) out g (answer.Committed n) m = absurd (open_not b t out (λ e. let x = m.stop e in cc))
       by b None out g (answer.Denied why) m = denies why refl nb

@@ -317,7 +317,7 @@ module _ (story : Story) (r : IsReachedStory story) (i : ℕ) where
       own : (j : ℕ) → option_map (txn_seen (schema_of (run the_views s i es)) (with_one story.told i l j)) ((run the_views s i es).open_of j) ≡ (if j == i then open_after v (v.open_of i) e else v.open_of j)
       own j = by_session j i
           (λ is. subst (λ (m : ℕ). option_map (txn_seen (schema_of (run the_views s i es)) (with_one story.told i l m)) ((run the_views s i es).open_of m) ≡ (if m == i then open_after v (v.open_of i) e else v.open_of m)) (sym is)
-            (at_own ∙ sym (if_same i (open_after v (v.open_of i) e) (v.open_of i))))
+          (at_own ∙ sym (if_same i (open_after v (v.open_of i) e) (v.open_of i))))
           (λ n. (λ k. option_map (txn_seen (same k) (one_other story.told i l j n k)) (other_opens s i es j n k)) ∙ sym (if_other j i (open_after v (v.open_of i) e) (v.open_of j) n))
 
   -- nobody's transaction is open
@@ -342,9 +342,9 @@ module _ (story : Story) (r : IsReachedStory story) (i : ℕ) where
       own : (j : ℕ) → option_map (txn_seen (schema_of (run the_views s i (Defines h.object ∷ []))) (with_one story.told i l j)) (s.open_of j) ≡ (if j == i then open_after v (v.open_of i) (Creates statement number) else v.open_of j)
       own j = ap (option_map (txn_seen (schema_of (run the_views s i (Defines h.object ∷ []))) (with_one story.told i l j))) (none_open_all h.none_open j)
           ∙ by_session j i
-            (λ is. sym (subst (λ (m : ℕ). (if m == i then open_after v (v.open_of i) (Creates statement number) else v.open_of m) ≡ None) (sym is)
-              (if_same i (open_after v (v.open_of i) (Creates statement number)) (v.open_of i) ∙ ap (λ x. open_after v x (Creates statement number)) (seen_none i))))
-            (λ n. sym (if_other j i (open_after v (v.open_of i) (Creates statement number)) (v.open_of j) n ∙ seen_none j))
+          (λ is. sym (subst (λ (m : ℕ). (if m == i then open_after v (v.open_of i) (Creates statement number) else v.open_of m) ≡ None) (sym is)
+          (if_same i (open_after v (v.open_of i) (Creates statement number)) (v.open_of i) ∙ ap (λ x. open_after v x (Creates statement number)) (seen_none i))))
+          (λ n. sym (if_other j i (open_after v (v.open_of i) (Creates statement number)) (v.open_of j) n ∙ seen_none j))
 
 moves_by : (story : Story) → IsReachedStory story → (i : ℕ) (a : Act) (said : Answer) (after : State) (x : Does story.state i a said after) → MayAct story.state.store i a → Making a said
     → seen_with (run the_views story.state.store i x.effects) (with_one story.told i (told_after story.state.store i a said (story.told i))) ≡ visible_after (seen_of story) i (event a said)
@@ -371,11 +371,11 @@ told_moves story i a n = λ k. record {
         ≡ (if j == i then open_after (seen_of story) ((seen_of story).open_of i) (Fails (refusal.Stopped n)) else (seen_of story).open_of j)
     own j = by_session j i
         (λ is. subst (λ (m : ℕ). option_map (txn_seen (schema_of story.state.store) (with_one story.told i (told_after story.state.store i a (answer.Refused (refusal.Stopped n)) (story.told i)) m)) (story.state.store.open_of m)
-          ≡ (if m == i then open_after (seen_of story) ((seen_of story).open_of i) (Fails (refusal.Stopped n)) else (seen_of story).open_of m)) (sym is)
-          (ap (λ l. option_map (txn_seen (schema_of story.state.store) l) (story.state.store.open_of i)) (one_same story.told i _ i refl ∙ told_is) ∙ same_txn ((seen_of story).open_of i)
-          ∙ sym (if_same i (open_after (seen_of story) ((seen_of story).open_of i) (Fails (refusal.Stopped n))) ((seen_of story).open_of i))))
+        ≡ (if m == i then open_after (seen_of story) ((seen_of story).open_of i) (Fails (refusal.Stopped n)) else (seen_of story).open_of m)) (sym is)
+        (ap (λ l. option_map (txn_seen (schema_of story.state.store) l) (story.state.store.open_of i)) (one_same story.told i _ i refl ∙ told_is) ∙ same_txn ((seen_of story).open_of i)
+        ∙ sym (if_same i (open_after (seen_of story) ((seen_of story).open_of i) (Fails (refusal.Stopped n))) ((seen_of story).open_of i))))
         (λ n'. ap (λ l. option_map (txn_seen (schema_of story.state.store) l) (story.state.store.open_of j)) (one_other story.told i _ j n')
-          ∙ sym (if_other j i (open_after (seen_of story) ((seen_of story).open_of i) (Fails (refusal.Stopped n))) ((seen_of story).open_of j) n'))
+        ∙ sym (if_other j i (open_after (seen_of story) ((seen_of story).open_of i) (Fails (refusal.Stopped n))) ((seen_of story).open_of j) n'))
 
 moves : (story after : Story) (i : ℕ) (a : Act) (said : Answer) → IsReachedStory story → DoesOf story i a said after → seen_of after ≡ visible_after (seen_of story) i (event a said)
 unfolding seen_with
@@ -384,7 +384,7 @@ moves story after i a said r h = ap seen_of h.2 ∙ elim h.1.does [
       ∙ moves_by story r i a said h.0 x (may_of story.state i a x.runs h.1.may.1) (making a said)
   | inr x ↦ ap (λ (z : State). seen_with z.store (with_one story.told i (told_after story.state.store i a said (story.told i)))) x.left
       ∙ subst (λ y. seen_with story.state.store (with_one story.told i (told_after story.state.store i a y (story.told i))) ≡ visible_after (seen_of story) i (event a y)) (sym x.says)
-        (told_moves story i a x.stop.step)
+      (told_moves story i a x.stop.step)
 ]
 
 -- ---- what answers tell

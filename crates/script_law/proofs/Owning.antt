@@ -279,12 +279,16 @@ module _ {S : Type 0} (view : S → Visible) (Does : S → ℕ → Act → Answe
                   run_is = refl;
                   left_is = if_same i (loaded statement None) (w.unfinished i);
                   txn_is = refl;
-                  agrees = ((h.seats i).0, (h.seats i).1, (
-                    the_seat.standing.copy,
-                    copy_grows (h.seats i).0 (w.running i) the_seat.standing open_now refl b,
-                    λ number. starts (h.seats i).0 (w.running i) the_seat.standing open_now statement number refl b e,
-                    between_within here (h.seats i).0 (w.running i) the_seat.standing open_now b,
-                  ));
+                  agrees = (
+                    (h.seats i).0,
+                    (h.seats i).1,
+                    (
+                      the_seat.standing.copy,
+                      copy_grows (h.seats i).0 (w.running i) the_seat.standing open_now refl b,
+                      λ number. starts (h.seats i).0 (w.running i) the_seat.standing open_now statement number refl b e,
+                      between_within here (h.seats i).0 (w.running i) the_seat.standing open_now b,
+                    ),
+                  );
                 })),
           ),
         )
@@ -324,13 +328,16 @@ module _ {S : Type 0} (view : S → Visible) (Does : S → ℕ → Act → Answe
 
   idle_step : (w : World) (table : Table) (s s' : S) (a : Act) (said : Answer) → Stands s → Agrees w table (view s) (Halts s) → Does s 0 a said s' → IsIdle (event a said)
       → Stands s' × Agrees w table (view s') (Halts s')
-  idle_step w table s s' a said stands h does still = (laws.stands s s' 0 a said stands does, subst (λ v. Agrees w table v (Halts s')) (sym (laws.moves s s' 0 a said stands does)) (record {
-    origin = h.origin;
-    history = h.history ∙ sym (quiet_history (view s) 0 e (idle_quiet e still));
-    seats = λ j. subst (SeatIs (objects_in next) (Halts s') (w.running j) (w.unfinished j) (table j).standing (table j).line) (sym (same j))
-        (lasting (objects_in (view s)) (objects_in next) (step_grows (view s) 0 e) (w.running j) (w.unfinished j) (table j).standing (table j).line ((view s).open_of j)
-        (λ x. (laws.stays s s' 0 a said does x).0) (h.seats j));
-  }))
+  idle_step w table s s' a said stands h does still = (
+    laws.stands s s' 0 a said stands does,
+    subst (λ v. Agrees w table v (Halts s')) (sym (laws.moves s s' 0 a said stands does)) (record {
+      origin = h.origin;
+      history = h.history ∙ sym (quiet_history (view s) 0 e (idle_quiet e still));
+      seats = λ j. subst (SeatIs (objects_in next) (Halts s') (w.running j) (w.unfinished j) (table j).standing (table j).line) (sym (same j))
+          (lasting (objects_in (view s)) (objects_in next) (step_grows (view s) 0 e) (w.running j) (w.unfinished j) (table j).standing (table j).line ((view s).open_of j)
+          (λ x. (laws.stays s s' 0 a said does x).0) (h.seats j));
+    }),
+  )
     where
       e : Event
       e = event a said

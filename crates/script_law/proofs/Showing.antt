@@ -211,9 +211,9 @@ module _ (story : Story) (i : ℕ) where
       own_is = ap (option_map (txn_seen objects l)) (one_same (does the_views s i (Takes wants)).open_of i _ i refl)
           ∙ ap (λ (t : Open). Some (record (txn_seen objects l t) { kept = Some (change_at s place new) ∷ kept_seen t.kept })) (now_locked view_laws s i wants)
           ∙ (λ k. Some (record (txn_seen objects told (now s i)) {
-              told = WasThere place new before (sym (changes_seen (now s i).kept) k) ∷ told;
-              kept = Some (record { key = place; before = sym is k; after = new }) ∷ kept_seen (now s i).kept;
-            }))
+            told = WasThere place new before (sym (changes_seen (now s i).kept) k) ∷ told;
+            kept = Some (record { key = place; before = sym is k; after = new }) ∷ kept_seen (now s i).kept;
+          }))
           ∙ sym (ap (λ x. open_after v x (Changes place new before)) the_own);
     }
       where
@@ -295,7 +295,7 @@ module _ (story : Story) (i : ℕ) where
         origin = refl;
         history = sym (history_seen
             ∙ ap (λ es. s.history ++ es) (entries_some (in_order (changes (kept_seen (now s i).kept))) (store.committed s).number
-              (λ e. ends_some cs x (sym (ap in_order (changes_seen (now s i).kept ∙ is)) ∙ e)))
+            (λ e. ends_some cs x (sym (ap in_order (changes_seen (now s i).kept ∙ is)) ∙ e)))
             ∙ (λ k. s.history ++ record { number = (store.committed s).number + 1; session = i; kept = kept_is (now s i).kept k } ∷ []));
         own_is = ap (option_map (txn_seen objects [])) (one_same s.open_of i None i refl) ∙ sym (committed_open v (own told s) number);
       })

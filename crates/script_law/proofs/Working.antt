@@ -209,7 +209,7 @@ module _ (j : Job) (works : Works) where
       goes_put : (table : ℕ) (key : List ℕ) (new : Option Row) (f : Option Row → Work) (t : Txn) (later : List (Option RowChange)) (n : ℕ) (before : Option Row)
           → Point (puts table key new f) t later n
           → Point (f before) (record t { told = WasThere (table, key) new before (changes t.kept) ∷ t.told; kept = Some (record { key = (table, key); before = before; after = new }) ∷ t.kept })
-            (Some (record { key = (table, key); before = before; after = new }) ∷ later) (n + 1)
+          (Some (record { key = (table, key); before = before; after = new }) ∷ later) (n + 1)
       goes_put table key new f t later n before p = record {
         since = record {
           kept_is = ap (λ l. Some (record { key = (table, key); before = before; after = new }) ∷ l) p.since.kept_is;
@@ -241,7 +241,7 @@ module _ (j : Job) (works : Works) where
         where
           by_mode : (m : Mode) → mode ≡ m
               → ((rows : List Row) (cs : List RowChange) → ((db : Database) → with_changes cs db ≡ with_changes (changes later) (begun_on first db))
-                → Serves false j (Some (record t { told = Found index interval rows cs ∷ t.told })) (runs works copy mode frame (f rows) n))
+              → Serves false j (Some (record t { told = Found index interval rows cs ∷ t.told })) (runs works copy mode frame (f rows) n))
               → Serves false j (Some t) (asks (reads_by m index interval lock) (rows_next (λ rows. runs works copy mode frame (f rows) n) (failed works copy mode frame n None)))
           by_mode Serial e rest (answer.Rows rows) m = rest rows (changes t.kept) (λ db. on_way t later n db p.since)
           by_mode Serial e rest (answer.Refused why) m = fails_serves t later n None why p.since
@@ -255,8 +255,8 @@ module _ (j : Job) (works : Works) where
           (λ t' later' n' h' same truth. runs_serves (f before) n' t' later' (paid_point (f before) _ t' _ later' (n + 1) n' (goes_put table key new f t later n before p) h' same truth (λ m. (p.reads m).0))))
         where
           by : ((before : Option Row) (owed : List GroupDelta)
-                → Serves false j (Some (record t { told = WasThere (table, key) new before (changes t.kept) ∷ t.told; kept = Some (record { key = (table, key); before = before; after = new }) ∷ t.kept }))
-                  (pays works copy mode frame owed (λ m. runs works copy mode frame (f before) m) (n + 1)))
+              → Serves false j (Some (record t { told = WasThere (table, key) new before (changes t.kept) ∷ t.told; kept = Some (record { key = (table, key); before = before; after = new }) ∷ t.kept }))
+              (pays works copy mode frame owed (λ m. runs works copy mode frame (f before) m) (n + 1)))
               → Serves false j (Some t) (runs works copy mode frame (puts table key new f) n)
           by rest (answer.Changed before owed) m = rest before owed
           by rest (answer.Refused why) m = fails_serves t later n None why p.since

@@ -181,14 +181,14 @@ module _ (works : Works) where
   abbrev pub begins_with : Mode → Schema → (Schema → ℕ → Todo) → Todo
   begins_with mode copy next =
       asks (act.Begin mode) (begun_next
-        (λ number defs. if defs == length copy then next copy number else asks act.Defs (defs_next (λ objects. next objects number) (fails_defs copy)))
-        (stays_out copy))
+      (λ number defs. if defs == length copy then next copy number else asks act.Defs (defs_next (λ objects. next objects number) (fails_defs copy)))
+      (stays_out copy))
 
   abbrev pub creates_with : Schema → StatementTree → Todo
   creates_with copy statement = asks (act.Schema statement) (schema_next
-    (λ number. says (reply.Done 0 ∷ reply.Commit number ∷ []) (outside_with copy))
-    (λ why. says (reply.Error why ∷ []) (outside_with copy))
-    (stays_out copy))
+      (λ number. says (reply.Done 0 ∷ reply.Commit number ∷ []) (outside_with copy))
+      (λ why. says (reply.Error why ∷ []) (outside_with copy))
+      (stays_out copy))
 
   abbrev pub start_outside : Schema → StatementTree → Todo
   start_outside copy (create_table name columns primary) = creates_with copy (create_table name columns primary)
