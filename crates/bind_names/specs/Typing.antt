@@ -1,3 +1,5 @@
+-- No clause of `run` rests on this module: it serves contracts between crates.
+--
 -- The type of a value of a tuple.
 use Rattle.std.specs.Prelude.{Bool, [], Option, Some, None}
 use Rattle.iv_types.specs.declared.value.Kind.{Kind}

@@ -1,3 +1,5 @@
+-- No clause of `run` rests on this module: it serves contracts between crates.
+--
 -- What the limits count.
 use Rattle.std.specs.Prelude.{ℕ, ◌==◌, is_some, Bool, true, false}
 use Rattle.std.specs.List.{list_any}

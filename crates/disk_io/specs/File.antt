@@ -1,3 +1,5 @@
+-- No clause of `run` rests on this module: it serves contracts between crates.
+--
 -- What a disk in a file shows.
 use Rattle.std.specs.Prelude.{ℕ}
 use Rattle.disk_io.specs.declared.file.FileDisk.{FileDisk}

@@ -1,3 +1,5 @@
+-- No clause of `run` rests on this module: it serves contracts between crates.
+--
 -- The three images of a crash that a disk in memory can make.
 use Rattle.std.specs.Prelude.{ℕ, suc, zero, Bool, true, false, List, [], ◌∷◌, length, take, drop, map, replicate}
 use Rattle.disk_io.specs.declared.torn.Torn.{Torn}

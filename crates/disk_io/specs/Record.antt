@@ -1,3 +1,5 @@
+-- No clause of `run` rests on this module: it serves contracts between crates.
+--
 -- The record of a disk in memory: its calls, and the bytes that they wrote, one after another.
 use Rattle.std.specs.Prelude.{◌≤◌, ℕ, ◌+◌, ◌*◌, Bool, true, false, List, map, length, All}
 use Rattle.disk_io.specs.declared.call.Call.{Call}

@@ -1,3 +1,5 @@
+-- No clause of `run` rests on this module: it serves contracts between crates.
+--
 -- What a record of calls shows.
 use Rattle.std.specs.Prelude.{◌≡◌, ℕ, ◌-◌, List, length, refl}
 use Rattle.std.proofs.Common.{sym, ◌∙◌, ap, subst}

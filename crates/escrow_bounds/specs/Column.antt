@@ -1,3 +1,5 @@
+-- No clause of `run` rests on this module: it serves contracts between crates.
+--
 -- A column as its bounds are kept: of each session's kept increments their prefix alone.
 use Rattle.std.specs.Prelude.{◌≡◌, ◌≢◌, ℕ, ℤ, ◌+ℤ◌, ◌≤ℤ◌, List, [], ◌∷◌, IsSome, unwrap_or}
 use Rattle.std.specs.Int.{int_min, int_max}

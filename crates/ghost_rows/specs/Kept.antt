@@ -1,3 +1,5 @@
+-- No clause of `run` rests on this module: it serves contracts between crates.
+--
 -- For which kept pays the rows in memory and the stored rows stand.
 use Rattle.std.specs.Prelude.{◌≡◌, ◌≢◌, ℕ, suc, ◌<◌, ◌≤◌, ◌==◌, ℤ, pos, true, false, List, [], ◌∷◌, map, length, get_or, slice_get, Option, Some, None, IsSome, IfSome, if◌then◌else◌}
 use Rattle.std.specs.List.{AllByRecursion}

@@ -1,3 +1,5 @@
+-- No clause of `run` rests on this module: it serves contracts between crates.
+--
 -- The numbers of a stored row.
 use Rattle.std.specs.Prelude.{ℕ, suc, ℤ, neg_ℤ, ◌+ℤ◌, List, [], ◌∷◌, FitsSigned, Bool, if◌then◌else◌}
 use Rattle.std.specs.Int.{w128}

@@ -1,3 +1,5 @@
+-- No clause of `run` rests on this module: it serves contracts between crates.
+--
 -- The rows that open transactions pay to, as they are kept in memory.
 use Rattle.std.specs.Prelude.{◌≡◌, ◌≢◌, ℕ, ◌<◌, ◌==◌, ℤ, Bool, true, false, List, [], ◌∷◌, length, map, filter, not, slice_get, slice_set, slice_index_or, T, Option, Some, None, IsSome, refl, if◌then◌else◌}
 use Rattle.std.specs.Int.{w128, int_wrapping_add}

@@ -1,3 +1,5 @@
+-- No clause of `run` rests on this module: it serves contracts between crates.
+--
 -- What the transactions of sessions have added to a row's count.
 use Rattle.std.specs.Prelude.{ℕ, ◌==◌, ℤ, List, [], ◌∷◌, Option, Some, None, if◌then◌else◌}
 use Rattle.ghost_rows.specs.declared.shares.Share.{Share}

@@ -1,3 +1,5 @@
+-- No clause of `run` rests on this module: it serves contracts between crates.
+--
 -- Escrow bounds of one column of a view row (O'Neil, The escrow transactional method, ACM TODS 11(4), 1986): between
 -- them lies whatever becomes of the column, whichever of the open transactions commit.
 use Rattle.std.specs.Prelude.{◌≡◌, ℕ, ◌≤◌, ◌==◌, ℤ, pos, ◌+ℤ◌, List, [], ◌∷◌, ◌++◌, if◌then◌else◌}

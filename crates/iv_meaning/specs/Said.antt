@@ -1,3 +1,5 @@
+-- No clause of `run` rests on this module: it serves contracts between crates.
+--
 -- What a line of a script of many sessions says.
 use Rattle.std.specs.Prelude.{◌≡◌, ◌⊎◌, ◌≤◌, ◌<◌, ℕ, List, ◌++◌, length, Result, Ok, Err, codes, decimal}
 use Rattle.iv_types.specs.declared.refusal.Refusal.{Refusal}

@@ -1,3 +1,5 @@
+-- No clause of `run` rests on this module: it serves contracts between crates.
+--
 -- When the output of a script of many sessions is serial. Each committed transaction was told what it is told alone on the
 -- database that the commit before it left, a snapshot on the database of its number, and any other transaction on the
 -- database that was last committed before it ended, or before the input did.

@@ -1,3 +1,5 @@
+-- No clause of `run` rests on this module: it serves contracts between crates.
+--
 -- Transcripts that are serial, what single lines say, and transcripts that are not serial.
 use Rattle.std.specs.Prelude.{ℕ, pos, List, [], ◌∷◌, ◌++◌, codes, Ok, Some, None}
 use Rattle.std.specs.FinMap.{empty}

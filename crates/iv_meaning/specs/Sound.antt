@@ -1,3 +1,5 @@
+-- No clause of `run` rests on this module: it serves contracts between crates.
+--
 -- What laws ask of a database. Each object has its number. The columns of a table's key, of an index and of a view's groups
 -- are there, and a view reads tables. Each row fits its table and stands under its key.
 use Rattle.std.specs.Prelude.{◌≡◌, ◌<◌, ℕ, List, length, map, Some}

@@ -1,3 +1,5 @@
+-- No clause of `run` rests on this module: it serves contracts between crates.
+--
 -- Who waits for whom among the sessions 1 to 64, and cycles of waiting sessions.
 use Rattle.std.specs.Prelude.{◌≡◌, ℕ, ◌-◌, ◌≤◌, ◌==◌, List, [], ◌∷◌, length, get_or, take, if◌then◌else◌}
 use Rattle.std.specs.List.{Contains}

@@ -1,3 +1,5 @@
+-- No clause of `run` rests on this module: it serves contracts between crates.
+--
 -- Maps in the order of their keys' bytes, one for each index, and what their entries take of a limit.
 use Rattle.std.specs.Prelude.{ℕ, zero, suc, ◌+◌, ◌≤◌, ◌==◌, Bool, List, [], ◌∷◌, length, sum_by, Option, None, Some, if◌then◌else◌}
 use Rattle.std.specs.FinMap.{FinMap, entries}

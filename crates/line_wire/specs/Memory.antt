@@ -1,3 +1,5 @@
+-- No clause of `run` rests on this module: it serves contracts between crates.
+--
 -- What a source and a sink in memory hold.
 use Rattle.std.specs.Prelude.{ℕ, List, drop}
 use Rattle.line_wire.specs.declared.memory.ListSource.{ListSource}

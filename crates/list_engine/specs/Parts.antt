@@ -1,3 +1,5 @@
+-- No clause of `run` rests on this module: it serves contracts between crates.
+--
 -- The parts of sessions: those from 1 on have one place each.
 use Rattle.std.specs.Prelude.{◌≡◌, ◌≤◌, ◌<◌, ℕ, zero, suc, List, slice_get, Option, None, Some, IsSome}
 use Rattle.std.specs.Option.{option_map, unwrap_or}

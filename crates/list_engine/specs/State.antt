@@ -1,3 +1,5 @@
+-- No clause of `run` rests on this module: it serves contracts between crates.
+--
 -- What an engine that does steps knows. Locks, waits, kept changes and disks will join it as further parts.
 use Rattle.std.specs.Prelude.{ℕ, ◌+◌, ◌==◌, Option, Some, if◌then◌else◌}
 use Rattle.iv_types.specs.declared.statement.Mode.{Mode}

@@ -1,3 +1,5 @@
+-- No clause of `run` rests on this module: it serves contracts between crates.
+--
 -- Which answers a step can have, and what it changes: the step relation of the acts that are built.
 use Rattle.std.specs.Prelude.{◌≡◌, ◌⊎◌, ℕ, true, false, ◌+◌, ◌≤◌, ◌<◌, ◌^◌, [], ◌∷◌, length, Option, Some, None, IsSome, Ok, Err}
 use Rattle.iv_types.specs.declared.statement.Mode.{Mode}

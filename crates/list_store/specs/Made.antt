@@ -1,3 +1,5 @@
+-- No clause of `run` rests on this module: it serves contracts between crates.
+--
 -- What a CREATE statement makes, or why it is refused.
 use Rattle.std.specs.Prelude.{◌≡◌, ◌⊎◌, Bool, true, false, [], ◌∷◌, Result, Ok, Err}
 use Rattle.iv_types.specs.declared.refusal.Refusal.{Refusal}

@@ -1,3 +1,5 @@
+-- No clause of `run` rests on this module: it serves contracts between crates.
+--
 -- What the calls keep: no two sessions hold locks that conflict, and waits close no cycle.
 use Rattle.std.specs.Prelude.{◌≡◌, ◌≢◌, ℕ, List, [], ◌∷◌}
 use Rattle.iv_types.specs.declared.lock.Want.{Want}

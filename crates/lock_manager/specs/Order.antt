@@ -1,3 +1,5 @@
+-- No clause of `run` rests on this module: it serves contracts between crates.
+--
 -- Locks in the order of their indexes, and in an index of their low ends.
 use Rattle.std.specs.Prelude.{◌≡◌, ℕ, zero, suc, ◌<◌, nat_lt, Bool, true, false, not, List, [], ◌∷◌, ◌++◌, Option, Some, None, length, slice_index_or, refl}
 use Rattle.std.specs.Ordering.{nat_cmp, is_lt, is_gt}

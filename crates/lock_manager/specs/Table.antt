@@ -1,3 +1,5 @@
+-- No clause of `run` rests on this module: it serves contracts between crates.
+--
 -- The locks of each session, what each waits for, and the room that is left for each.
 use Rattle.std.specs.Prelude.{◌≡◌, ◌≢◌, ℕ, ◌+◌, max, ◌↔◌, ◌⊎◌, List, [], length, slice_index_or, refl}
 use Rattle.std.specs.List.{Contains}

@@ -1,3 +1,5 @@
+-- No clause of `run` rests on this module: it serves contracts between crates.
+--
 -- The bytes of a record.
 use Rattle.std.specs.Prelude.{ℕ, ℤ, ◌<◌, ◌^◌, List, [], ◌∷◌, ◌++◌, length, Option, Some, None, IfSome}
 use Rattle.std.specs.List.{flat_map, AllByRecursion}

@@ -1,3 +1,5 @@
+-- No clause of `run` rests on this module: it serves contracts between crates.
+--
 -- When a session may open a transaction, and whether it is open.
 use Rattle.std.specs.Prelude.{◌≡◌, ℕ, Bool, true, false, None}
 use Rattle.iv_meaning.specs.Escrow.{IsSession}

@@ -1,3 +1,5 @@
+-- No clause of `run` rests on this module: it serves contracts between crates.
+--
 -- What is true of the fields of `Leaves`.
 use Rattle.std.specs.Prelude.{◌≤◌, length, vec_capacity}
 use Rattle.ordered_index.specs.Row.{Row, pages_of, leaves_of, IsRow}

@@ -1,3 +1,5 @@
+-- No clause of `run` rests on this module: it serves contracts between crates.
+--
 -- What callers see of `PageMaps`: all entries in one order, and a sorted map for each index.
 use Rattle.std.specs.Prelude.{ℕ, ◌+◌, ◌-◌, ◌*◌, ◌^◌, ◌≤◌, Bool, List, length, Option, Some}
 use Rattle.std.specs.FinMap.{entries, from_sorted}

@@ -1,3 +1,5 @@
+-- No clause of `run` rests on this module: it serves contracts between crates.
+--
 -- What the bytes of a disk mean: its live header, that header's log area and the stored pages that it names.
 use Rattle.std.specs.Prelude.{◌==◌, ◌&&◌, ◌||◌, not, nat_le, Bool, if◌then◌else◌, ℕ, zero, suc, ◌+◌, ◌*◌, List, [], ◌∷◌, drop, get_or, Option, Some, None}
 use Rattle.std.specs.Prelude.{map as map_of}

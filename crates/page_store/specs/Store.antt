@@ -1,3 +1,5 @@
+-- No clause of `run` rests on this module: it serves contracts between crates.
+--
 -- What a store holds: its pages, which of them are stored, and which are marked as changed.
 use Rattle.std.specs.Prelude.{true, ℕ, ◌*◌, Bool, List, length}
 use Rattle.std.specs.Borrow.{Lends, MutBor, Fml, u8, Array}

@@ -1,3 +1,5 @@
+-- No clause of `run` rests on this module: it serves contracts between crates.
+--
 -- Which locks some definitions make a change ask for.
 use Rattle.std.specs.Prelude.{List, map}
 use Rattle.iv_types.specs.declared.lock.Want.{Want}

@@ -1,3 +1,5 @@
+-- No clause of `run` rests on this module: it serves contracts between crates.
+--
 -- What open transactions keep of a column of a view row, and which deltas its bounds allow.
 use Rattle.std.specs.Prelude.{◌≡◌, ℕ, zero, suc, ◌<◌, ℤ, pos, List, [], length, get_or, Option, Some, None}
 use Rattle.std.specs.Option.{option_map_or}

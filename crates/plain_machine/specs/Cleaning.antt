@@ -1,3 +1,5 @@
+-- No clause of `run` rests on this module: it serves contracts between crates.
+--
 -- Which ghost is removed.
 use Rattle.std.specs.Prelude.{ℕ, Option, None, Some}
 use Rattle.iv_types.specs.declared.lock.LockMode.TheVariants.{Increment}

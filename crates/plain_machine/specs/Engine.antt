@@ -1,3 +1,5 @@
+-- No clause of `run` rests on this module: it serves contracts between crates.
+--
 -- In which states a machine that keeps last refusals is.
 use Rattle.std.specs.Prelude.{◌≡◌, ◌≢◌, ℕ, ◌<◌, ◌^◌, List, length, slice_get, Option, None, Some}
 use Rattle.std.specs.Option.{option_and_then, option_map}

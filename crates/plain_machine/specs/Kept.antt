@@ -1,3 +1,5 @@
+-- No clause of `run` rests on this module: it serves contracts between crates.
+--
 -- Kept steps of the code, as the machine has them.
 use Rattle.std.specs.Prelude.{List, map}
 use Rattle.txn_machine.specs.Keeping as keeping

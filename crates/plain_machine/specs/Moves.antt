@@ -1,3 +1,5 @@
+-- No clause of `run` rests on this module: it serves contracts between crates.
+--
 -- What the parts of a step change in a machine.
 use Rattle.std.specs.Prelude.{◌≡◌, ℕ, ℤ, ◌+◌, ◌≤◌, length, List, [], ◌∷◌, true, Option, Some, None}
 use Rattle.std.specs.FinMap.{get}

@@ -1,3 +1,5 @@
+-- No clause of `run` rests on this module: it serves contracts between crates.
+--
 -- What rows contribute to a view of one table.
 use Rattle.std.specs.Prelude.{List, ◌==◌}
 use Rattle.std.specs.List.{flat_map}

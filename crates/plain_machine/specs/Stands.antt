@@ -1,3 +1,5 @@
+-- No clause of `run` rests on this module: it serves contracts between crates.
+--
 -- In which state of the step relation a machine is.
 use Rattle.std.specs.Prelude.{◌≡◌, ◌≢◌, ℕ, ◌+◌, ◌≤◌, nat_le, List, [], length, Option, None, Some, if◌then◌else◌, false}
 use Rattle.std.specs.List.{flat_map}

@@ -1,3 +1,5 @@
+-- No clause of `run` rests on this module: it serves contracts between crates.
+--
 -- After which answers a session waits.
 use Rattle.std.specs.Prelude.{Bool, true, false}
 use Rattle.txn_book.specs.declared.step.Answer.{Answer}

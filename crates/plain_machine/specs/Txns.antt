@@ -1,3 +1,5 @@
+-- No clause of `run` rests on this module: it serves contracts between crates.
+--
 -- The open transactions of the sessions: session k's at place k.
 use Rattle.std.specs.Prelude.{◌≡◌, ◌≢◌, ℕ, ◌≤◌, ◌<◌, List, length, slice_get, Option, None, Some, IsSome}
 use Rattle.std.specs.Option.{option_and_then}

@@ -1,3 +1,5 @@
+-- No clause of `run` rests on this module: it serves contracts between crates.
+--
 -- How much the machine keeps at most, by a weight that does not look at the kinds of columns. It is small while the weight is.
 use Rattle.std.specs.Prelude.{ℕ, ◌+◌, List, map, length, Option, None, Some}
 use Rattle.std.specs.List.{sum}

@@ -1,3 +1,5 @@
+-- No clause of `run` rests on this module: it serves contracts between crates.
+--
 -- Rows with their keys.
 use Rattle.std.specs.Prelude.{ℕ, List}
 use Rattle.iv_meaning.specs.Database.{Row}

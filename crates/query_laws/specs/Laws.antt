@@ -1,3 +1,5 @@
+-- No clause of `run` rests on this module: it serves contracts between crates.
+--
 -- Laws of databases that statements left, and of how a SELECT reads them.
 use Rattle.std.specs.Prelude.{◌≡◌, ◌≢◌, ◌⊎◌, ℕ, true, List, [], ◌∷◌, ◌++◌, filter, Option, Some, None, Ok, IsSome}
 use Rattle.std.specs.List.{All}

@@ -1,3 +1,5 @@
+-- No clause of `run` rests on this module: it serves contracts between crates.
+--
 -- Laws of a format, of which each column has these bytes and breaks rules so.
 use Rattle.std.specs.Prelude.{◌≡◌, ℕ, List}
 use Rattle.std.specs.Ordering.{nat_cmp}

@@ -1,3 +1,5 @@
+-- No clause of `run` rests on this module: it serves contracts between crates.
+--
 -- The transcript law.
 use Rattle.std.specs.Prelude.{◌≡◌, ℕ, List, [], None, IsTrue}
 use Rattle.iv_types.specs.declared.refusal.Refusal.{Refusal}

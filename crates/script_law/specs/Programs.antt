@@ -1,3 +1,5 @@
+-- No clause of `run` rests on this module: it serves contracts between crates.
+--
 -- Statements as programs of steps, and when a session's programs are right: what they tell is what the lone transaction is told
 -- on every database in which all that they were told is so.
 use Rattle.std.specs.Prelude.{◌≡◌, ℕ, Bool, true, false, IsTrue, ◌⊎◌, ◌||◌, List, [], ◌∷◌, ◌++◌, ◌-◌, map, length, drop, Option, Some, None}

@@ -1,3 +1,5 @@
+-- No clause of `run` rests on this module: it serves contracts between crates.
+--
 -- What bound statements and plans are, without where they lie in memory.
 use Rattle.std.specs.Prelude.{List, map}
 use Rattle.iv_types.specs.Syntax.{tree, trees, perhaps_tree}

@@ -1,3 +1,5 @@
+-- No clause of `run` rests on this module: it serves contracts between crates.
+--
 -- The faults of a statement behind those of its names and types.
 use Rattle.std.specs.Prelude.{List, ◌++◌}
 use Rattle.iv_types.specs.declared.refusal.Refusal.{Refusal}

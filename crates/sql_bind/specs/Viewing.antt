@@ -1,3 +1,5 @@
+-- No clause of `run` rests on this module: it serves contracts between crates.
+--
 -- How a view is kept: its tables, and the index by which it joins them.
 use Rattle.std.specs.Prelude.{ℕ, ◌==◌, ◌+◌, length, List, [], ◌∷◌, Bool, false, Option, Some, None, if◌then◌else◌}
 use Rattle.std.specs.List.{filter_map}

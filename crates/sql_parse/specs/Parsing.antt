@@ -1,3 +1,5 @@
+-- No clause of `run` rests on this module: it serves contracts between crates.
+--
 -- What the parser answers.
 use Rattle.std.specs.Prelude.{◌≡◌, ℕ, pos, List, Result, Ok, Err}
 use Rattle.text_grammar.specs.declared.fault.Cause.TheVariants as cause

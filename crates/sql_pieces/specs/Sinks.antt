@@ -1,3 +1,5 @@
+-- No clause of `run` rests on this module: it serves contracts between crates.
+--
 -- What a sink of pieces holds once pieces are written to it.
 use Rattle.std.specs.Prelude.{◌≡◌, ℕ, ℤ, pos, negsuc, suc, Bool, true, ◌||◌, List, Option, Some, None, Result, OnOk, OnErr, if◌then◌else◌, min, length}
 use Rattle.iv_types.specs.declared.fault.NoMemory.{NoMemory}

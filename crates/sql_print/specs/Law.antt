@@ -1,3 +1,5 @@
+-- No clause of `run` rests on this module: it serves contracts between crates.
+--
 -- What is printed of a statement of a text is a text of that same statement.
 use Rattle.std.specs.Prelude.{ℕ, List}
 use Rattle.iv_types.specs.Syntax.{StatementTree}

@@ -1,3 +1,5 @@
+-- No clause of `run` rests on this module: it serves contracts between crates.
+--
 -- A text as it is written.
 use Rattle.std.specs.Prelude.{◌≡◌, ℕ, Bool, ◌||◌, List, [], codes, if◌then◌else◌}
 use Rattle.iv_types.specs.Printing.{Written}

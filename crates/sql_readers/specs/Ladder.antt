@@ -1,3 +1,5 @@
+-- No clause of `run` rests on this module: it serves contracts between crates.
+--
 -- The readers of an expression, each as the rule of the grammar that it reads.
 use Rattle.std.specs.Prelude.{ℕ, zero, suc, ◌-◌, nat_lt, Bool, true, false, List, Option, if◌then◌else◌}
 use Rattle.text_grammar.specs.declared.fault.Cause.{Cause}

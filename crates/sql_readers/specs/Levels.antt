@@ -1,3 +1,5 @@
+-- No clause of `run` rests on this module: it serves contracts between crates.
+--
 -- The rules of the grammar whose operators are read by one function.
 use Rattle.std.specs.Prelude.{◌≡◌, ℕ, false, List, ◌∷◌, Option, Some, None}
 use Rattle.text_grammar.specs.Readers.{Reader, starts, is}

@@ -1,3 +1,5 @@
+-- No clause of `run` rests on this module: it serves contracts between crates.
+--
 -- What is passed.
 use Rattle.std.specs.Prelude.{◌≡◌, ◌==◌, ◌&&◌, true, List, ◌∷◌, map, if◌then◌else◌}
 use Rattle.text_grammar.specs.declared.fault.ParseError.{ParseError}

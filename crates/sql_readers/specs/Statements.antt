@@ -1,3 +1,5 @@
+-- No clause of `run` rests on this module: it serves contracts between crates.
+--
 -- The readers of a statement, each as the rule of the grammar that it reads.
 use Rattle.std.specs.Prelude.{ℕ, suc, nat_lt, Bool, List, length, Option, Result, if◌then◌else◌}
 use Rattle.text_grammar.specs.declared.fault.Cause.TheVariants.{Limit}

@@ -1,3 +1,5 @@
+-- No clause of `run` rests on this module: it serves contracts between crates.
+--
 -- What the functions that walk a text find.
 use Rattle.std.specs.Prelude.{ℕ, List, length, take, Option, Some, None, Bool, get_or, ◌==◌}
 use Rattle.iv_types.specs.Tokens.{Symbol}

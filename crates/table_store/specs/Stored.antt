@@ -1,3 +1,5 @@
+-- No clause of `run` rests on this module: it serves contracts between crates.
+--
 -- What sorted maps hold of the rows of a database's tables.
 use Rattle.std.specs.Prelude.{◌≡◌, ◌≢◌, ℕ, ◌+◌, ◌≤◌, Bool, true, List, [], ◌∷◌, Option, Some, None, IsSome, IfSome, is_some, filter, if◌then◌else◌}
 use Rattle.std.specs.Option.{option_map, option_map_or}

@@ -1,3 +1,5 @@
+-- No clause of `run` rests on this module: it serves contracts between crates.
+--
 -- Acts and answers of the code, as the step relation has them.
 use Rattle.iv_types.specs.Syntax.{statement_tree}
 use Rattle.iv_meaning.specs.Schema.{schema_of}

@@ -1,3 +1,5 @@
+-- No clause of `run` rests on this module: it serves contracts between crates.
+--
 -- What an engine's step is: by which states it may be asked for, where it leads, and when a fault is told.
 use Rattle.std.specs.Prelude.{◌≡◌, ℕ, true, false, None}
 use Rattle.iv_types.specs.Faults.{Rose}

@@ -1,3 +1,5 @@
+-- No clause of `run` rests on this module: it serves contracts between crates.
+--
 -- Records with the numbers that the log gave them, an image of them, and what it says as it is read.
 use Rattle.std.specs.Prelude.{◌≡◌, ℕ, suc, List, [], ◌∷◌, map, length, Some, Ok}
 use Rattle.iv_types.specs.Syntax.{StatementTree}

@@ -1,3 +1,5 @@
+-- No clause of `run` rests on this module: it serves contracts between crates.
+--
 -- Which images are refused before their records are replayed: by the rules on the header, the log's blocks, the page map and the entries
 -- of stored pages, in their order, each at its first place.
 use Rattle.std.specs.Prelude.{◌≡◌, ◌≢◌, ◌⊎◌, ℕ, suc, ◌+◌, ◌*◌, ◌<◌, ◌≤◌, ◌^◌, ℤ, Bool, false, List, [], ◌∷◌, ◌++◌, map, length, reverse, drop, Option, Some, None, if◌then◌else◌}

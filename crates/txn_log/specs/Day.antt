@@ -1,3 +1,5 @@
+-- No clause of `run` rests on this module: it serves contracts between crates.
+--
 -- A shop's day with a checkpoint, and what is recovered after it.
 use Rattle.std.specs.Prelude.{ℕ, zero, suc, ◌+◌, List, [], ◌∷◌, ◌++◌, Some}
 use Rattle.iv_types.specs.declared.statement.Mode.TheVariants.{Snapshot}

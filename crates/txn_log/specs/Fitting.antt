@@ -1,3 +1,5 @@
+-- No clause of `run` rests on this module: it serves contracts between crates.
+--
 -- Which images are not refused for their records: each record fits what stands where it is replayed, and what is left can be taken
 -- back. Lists of records have the latest first.
 use Rattle.std.specs.Prelude.{◌≡◌, ℕ, ◌+◌, pos, true, List, [], ◌∷◌, length, Some, None, IsSome, ◌<◌}

@@ -1,3 +1,5 @@
+-- No clause of `run` rests on this module: it serves contracts between crates.
+--
 -- The blocks of a log area, as groups of records.
 use Rattle.std.specs.Prelude.{◌≡◌, List, [], ◌∷◌, ◌++◌, reverse, drop, length}
 use Rattle.txn_log.specs.Appended.{Numbered}

@@ -1,3 +1,5 @@
+-- No clause of `run` rests on this module: it serves contracts between crates.
+--
 -- The machine with its log and the pages of its last checkpoint, moment by moment, and what a crash may leave.
 use Rattle.std.specs.Prelude.{◌≡◌, ℕ, ◌≤◌, Bool, false, List, [], ◌∷◌, ◌++◌, map, filter, nat_le, drop, Option, Some, None}
 use Rattle.iv_types.specs.Syntax.{StatementTree}

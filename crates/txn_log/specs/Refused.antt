@@ -1,3 +1,5 @@
+-- No clause of `run` rests on this module: it serves contracts between crates.
+--
 -- Which images are refused for their records and what they leave, and at which place. The rules are tried in order: each carried record
 -- by rule 13; each further record, and then each last reversal, by rules 13 and 14; the sums of views evaluated afresh by rule 14;
 -- the bytes of all entries by rule 15; and then each view against what it is, evaluated afresh.

@@ -1,3 +1,5 @@
+-- No clause of `run` rests on this module: it serves contracts between crates.
+--
 -- What the entries of an image's stored pages stand for: rows of tables, rows of views, and definitions by the parts of their texts.
 use Rattle.std.specs.Prelude.{◌≡◌, ◌⊎◌, ◌↔◌, ℕ, ◌+◌, ◌*◌, ◌<◌, ℤ, List, [], ◌∷◌, ◌++◌, map, length, take, drop, slice_get, Some}
 use Rattle.std.specs.List.{Contains}

@@ -1,3 +1,5 @@
+-- No clause of `run` rests on this module: it serves contracts between crates.
+--
 -- Worked runs of a shop, and what is recovered of each image that a crash may leave on the way.
 use Rattle.std.specs.Prelude.{◌≡◌, ◌⊎◌, ℕ, pos, List, [], ◌∷◌, map, length, Some}
 use Rattle.std.specs.FinMap.{get, empty, from_sorted}

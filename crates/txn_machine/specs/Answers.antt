@@ -1,3 +1,5 @@
+-- No clause of `run` rests on this module: it serves contracts between crates.
+--
 -- What a step is answered.
 use Rattle.std.specs.Prelude.{ℕ, List, Option}
 use Rattle.iv_types.specs.declared.lock.GroupDelta.{GroupDelta}

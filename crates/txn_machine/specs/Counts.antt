@@ -1,3 +1,5 @@
+-- No clause of `run` rests on this module: it serves contracts between crates.
+--
 -- How many bytes a transaction and the history take, and the most that they may.
 use Rattle.std.specs.Prelude.{ℕ, ◌+◌, ◌*◌, List, [], map, length, Option, Some, None}
 use Rattle.std.specs.List.{sum}

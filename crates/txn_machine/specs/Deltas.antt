@@ -1,3 +1,5 @@
+-- No clause of `run` rests on this module: it serves contracts between crates.
+--
 -- What a change of one row owes to the views: deltas, each of one combination of a view's query.
 use Rattle.std.specs.Prelude.{ℕ, ℤ, pos, neg_ℤ, Bool, true, false, ◌&&◌, ◌==◌, List, [], ◌∷◌, ◌++◌, map, filter, get_or, Option, Some, None, if◌then◌else◌}
 use Rattle.std.specs.List.{flat_map, filter_map}

@@ -1,3 +1,5 @@
+-- No clause of `run` rests on this module: it serves contracts between crates.
+--
 -- Runs that the step relation allows, and answers that it refuses, of a shop's sales and a view of them.
 use Rattle.std.specs.Prelude.{ℕ, zero, suc, ◌+◌, ◌-◌, ◌^◌, pos, List, [], ◌∷◌, replicate, Some, None}
 use Rattle.std.specs.FinMap.{empty}

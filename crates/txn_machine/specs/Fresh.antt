@@ -1,3 +1,5 @@
+-- No clause of `run` rests on this module: it serves contracts between crates.
+--
 -- Views evaluated afresh, group by group: what all combinations of a view's query add up to.
 use Rattle.std.specs.Prelude.{ℕ, ℤ, List, [], map, filter}
 use Rattle.std.specs.List.{flat_map}

@@ -1,3 +1,5 @@
+-- No clause of `run` rests on this module: it serves contracts between crates.
+--
 -- What an open transaction keeps and owes: changes of rows, and deltas that it paid to view rows.
 use Rattle.std.specs.Prelude.{◌≡◌, ℕ, ℤ, List, [], ◌∷◌, Bool, false, if◌then◌else◌}
 use Rattle.iv_types.specs.declared.statement.Mode.{Mode}

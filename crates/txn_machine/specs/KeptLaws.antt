@@ -1,3 +1,5 @@
+-- No clause of `run` rests on this module: it serves contracts between crates.
+--
 -- The laws of what a step adds, of what an open transaction keeps and was told, and of the rows under its locks.
 use Rattle.std.specs.Prelude.{◌≡◌, ◌⊎◌, ℕ, ◌+◌, ◌≤◌, List, [], ◌∷◌, ◌++◌, length, map, Option, if◌then◌else◌, pos, neg_ℤ, Some, drop, ◌-◌}
 use Rattle.std.specs.List.{All, Contains}

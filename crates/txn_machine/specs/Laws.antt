@@ -1,3 +1,5 @@
+-- No clause of `run` rests on this module: it serves contracts between crates.
+--
 -- The laws of the machine, over every list of steps from an opened state.
 use Rattle.std.specs.Prelude.{◌≡◌, ◌≢◌, ◌⊎◌, ◌↔◌, ℕ, ℤ, ◌+ℤ◌, List, [], ◌∷◌, ◌++◌, ◌==◌, ◌+◌, ◌≤◌, nat_le, get_or, length, None, pos, Some, IsSome, Ok, if◌then◌else◌}
 use Rattle.std.specs.List.{All, Contains, list_any}

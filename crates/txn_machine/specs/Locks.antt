@@ -1,3 +1,5 @@
+-- No clause of `run` rests on this module: it serves contracts between crates.
+--
 -- Locks on intervals of the keys of indexes: which of them conflict, whom a request has to wait for, and deadlocks.
 use Rattle.std.specs.Prelude.{◌≡◌, ◌≢◌, ◌↔◌, ℕ, ◌==◌, List, if◌then◌else◌}
 use Rattle.std.specs.List.{Contains}

@@ -1,3 +1,5 @@
+-- No clause of `run` rests on this module: it serves contracts between crates.
+--
 -- The laws of the log's room.
 use Rattle.std.specs.Prelude.{◌≡◌, ◌+◌, ◌≤◌, None}
 use Rattle.txn_machine.specs.Log.{Within, block_bytes, reserved, carried}

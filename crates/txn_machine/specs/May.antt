@@ -1,3 +1,5 @@
+-- No clause of `run` rests on this module: it serves contracts between crates.
+--
 -- What a caller has to know before a step, of an engine that is not stopped.
 use Rattle.std.specs.Prelude.{◌≡◌, ◌≢◌, ◌⊎◌, ℕ, false, ◌≤◌, List, [], ◌∷◌, Option, Some, None, IsSome}
 use Rattle.std.specs.FinMap.{get}

@@ -1,3 +1,5 @@
+-- No clause of `run` rests on this module: it serves contracts between crates.
+--
 -- The records that steps append to the log, and their bytes: a record is its kind, its number and its fields; bytes are a length of
 -- two and then these, and an option is one byte and then, where there is one, its bytes.
 use Rattle.std.specs.Prelude.{ℕ, ◌+◌, ◌*◌, List, length, Option}

@@ -1,3 +1,5 @@
+-- No clause of `run` rests on this module: it serves contracts between crates.
+--
 -- The state of an engine between two steps: what it stores, what sessions wait for, and what steps were done.
 use Rattle.std.specs.Prelude.{ℕ, ◌+◌, ◌^◌, ◌==◌, Bool, true, false, List, [], length, Option, Some, None, if◌then◌else◌}
 use Rattle.iv_types.specs.declared.lock.Want.{Want}

@@ -1,3 +1,5 @@
+-- No clause of `run` rests on this module: it serves contracts between crates.
+--
 -- Which answers a step can have, and what it leaves: the step relation. A step says an answer and a short list of effects
 -- of its session; the effects change what is stored, and every answer is counted alike. Each answer of an act stands here
 -- with all that would come before it excluded, so that the order of answers can be read off.

@@ -1,3 +1,5 @@
+-- No clause of `run` rests on this module: it serves contracts between crates.
+--
 -- What an engine stores, what was committed, and the effects of one session's steps on it. An effect is a function; whether
 -- it may come is said where steps are answered.
 use Rattle.std.specs.Prelude.{ℕ, ℤ, ◌+◌, true, nat_le, List, [], ◌∷◌, ◌++◌, map, filter, length, reverse, Option, Some, None, if◌then◌else◌}

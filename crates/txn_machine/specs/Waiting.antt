@@ -1,3 +1,5 @@
+-- No clause of `run` rests on this module: it serves contracts between crates.
+--
 -- Who waits for whom by the locks that are held, and rings of sessions that wait for each other.
 use Rattle.std.specs.Prelude.{ℕ, List, [], ◌∷◌}
 use Rattle.iv_meaning.specs.Waits.{AreDifferent}

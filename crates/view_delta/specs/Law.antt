@@ -1,3 +1,5 @@
+-- No clause of `run` rests on this module: it serves contracts between crates.
+--
 -- What deltas are for: they carry a view from before a change to after it.
 use Rattle.std.specs.Prelude.{◌≡◌, ℕ, ℤ, pos, ◌+ℤ◌, get_or, None, Option, IfSome}
 use Rattle.std.specs.FinMap.{get}

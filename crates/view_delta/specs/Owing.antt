@@ -1,3 +1,5 @@
+-- No clause of `run` rests on this module: it serves contracts between crates.
+--
 -- Changes of rows as they are handed to the crate, and what is asked of them.
 use Rattle.std.specs.Prelude.{◌≡◌, IfSome, List}
 use Rattle.std.specs.Prelude.{ℤ, pos}

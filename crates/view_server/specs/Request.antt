@@ -1,3 +1,5 @@
+-- No clause of `run` rests on this module: it serves contracts between crates.
+--
 -- What a line asks for, as it is read.
 use Rattle.std.specs.Prelude.{◌≡◌, ◌⊎◌, ℕ, List}
 use Rattle.iv_types.specs.declared.refusal.Refusal.TheVariants.{NoMemory}

@@ -1,3 +1,5 @@
+-- No clause of `run` rests on this module: it serves contracts between crates.
+--
 -- The exit statuses.
 use Rattle.std.specs.Prelude.{ℕ}
 use Rattle.view_server.specs.declared.status.Status.{Status}

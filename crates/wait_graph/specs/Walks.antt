@@ -1,3 +1,5 @@
+-- No clause of `run` rests on this module: it serves contracts between crates.
+--
 -- Walks from session to session, each to one for which the one before waits.
 use Rattle.std.specs.Prelude.{◌≡◌, ℕ, zero, suc, ◌<◌, ◌≤◌, ◌↔◌}
 use Rattle.iv_types.specs.declared.session.Sessions.{Sessions}

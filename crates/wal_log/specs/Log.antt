@@ -1,3 +1,5 @@
+-- No clause of `run` rests on this module: it serves contracts between crates.
+--
 -- The log, and what an area of a disk holds of it.
 use Rattle.std.specs.Prelude.{◌≡◌, ◌≢◌, ◌⊎◌, ℕ, suc, zero, ◌+◌, ◌-◌, ◌<◌, ◌≤◌, List, [], ◌∷◌, ◌++◌, length, take, drop, get_or}
 use Rattle.byteorder.specs.Endian.{big_bytes}
