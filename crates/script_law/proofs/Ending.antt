@@ -260,7 +260,7 @@ module _ (i : ℕ) (w : World) (table : Table) (statement : StatementTree) (numb
               end_open (commits before i r.kept) (visible_after v i (Commits n)) (next_commit n r.kept fits.kept_is) None (outside_with copy) (out_after (Commits n) copy refl g),
             ),
           )
-      closed_ends _ _ numbers (rolls_back o copy run is of g) = (
+      closed_ends _ _ numbers (rolls_back o copy run is of nothing g) = (
         reply.Done 0 ∷ [],
         outside_with copy,
         refl,
@@ -270,7 +270,7 @@ module _ (i : ℕ) (w : World) (table : Table) (statement : StatementTree) (numb
           end_open before (visible_after v i Ends) next_ended None (outside_with copy) (out_after Ends copy refl g),
         ),
       )
-      closed_ends _ _ numbers (loses o why copy run eng dead of g) = (
+      closed_ends _ _ numbers (loses o why copy run eng dead of nothing g) = (
         reply.Error why ∷ [],
         outside_with copy,
         refl,
@@ -293,7 +293,7 @@ module _ (i : ℕ) (w : World) (table : Table) (statement : StatementTree) (numb
                   (subst (λ r. IsBetween (visible_after v i (Commits n)) H' r (outside_with copy) ((visible_after v i (Commits n)).open_of i)) (sym run) (out_after (Commits n) copy refl g)),
             ),
           )
-      closed_ends _ _ numbers (is_refused replies copy run nb mode lone g) =
+      closed_ends _ _ numbers (is_refused replies copy run nb mode lone nothing g) =
           let now = lone (latest before) (truth_now mode) in
           let kept : List Kept = (outside statement (latest before)).kept in (
             replies,
@@ -306,5 +306,5 @@ module _ (i : ℕ) (w : World) (table : Table) (statement : StatementTree) (numb
                   (subst (λ r. IsBetween (visible_after v i Ends) H' r (outside_with copy) ((visible_after v i Ends).open_of i)) (sym run) (out_after Ends copy refl g)),
             ),
           )
-      closed_ends _ _ numbers (is_passed why copy run eng g) =
+      closed_ends _ _ numbers (is_passed why copy run eng nothing g) =
           (reply.Error why ∷ [], outside_with copy, refl, passed (visible_after v i Ends) next_ended why copy run eng (out_after Ends copy refl g))

@@ -187,12 +187,12 @@ module _ (works : Works) (laws : WorkLaws works) (b : Bool) (o : Open) (t : Txn)
 
   -- ---- refused without a step
 
-  denies_at_once : (why : Refusal) → is_work statement ≡ true → refused_marked o.mode standing.saved statement ≡ None → works.work standing.copy statement ≡ refuses why
+  denies_at_once : (why : Refusal) → is_work statement ≡ true → refused_marked o.mode standing.saved statement ≡ None → works.work o.mode standing.copy statement ≡ refuses why
       → IsDone b the_job (Some t) (reply.Error why ∷ []) standing
   denies_at_once why w e is = told o t (reply.Error why ∷ []) standing refl (work_stays statement w)
       (told_as b o t standing statement (reply.Error why ∷ []) (λ db. (lone o db).1) at.is at.mode_is at.copy_is
       (λ db truth. inside_accepted o.mode statement (ran db) (not_refused e db truth) ∙ accepted_work statement (ran db) w
-      ∙ ap (λ m. told_of m (ran db)) (laws.denies statement w standing.copy why is (ran db).db ((fine_ran db truth).0.1 ∙ truth.schema ∙ sym at.copy_is)))
+      ∙ ap (λ m. told_of m (ran db)) (laws.denies o.mode statement w standing.copy why is (ran db).db ((fine_ran db truth).0.1 ∙ truth.schema ∙ sym at.copy_is)))
       at.names at.fits at.counts at.marks at.snapshot)
 
 -- ---- where the engine is known to be stopped
@@ -216,13 +216,23 @@ module _ (works : Works) (laws : WorkLaws works) (o : Open) (t : Txn) (standing 
   failed_halted mode n why e = subst (λ c. Serves true j (Some t) (if c then says (reply.Error (works.tell standing.copy None why) ∷ []) standing
       else if is_deadlock_event why then (inside_frame works standing).lost n (works.tell standing.copy None why) else (inside_frame works standing).back n (works.tell standing.copy None why))) (sym e) (stop_at why e)
 
-  work_halted : is_work statement ≡ true → refused_marked o.mode standing.saved statement ≡ None → (mode : Mode) (w : Work) → works.work standing.copy statement ≡ w
+  lists_halted : (listed : List Row) (count : ℕ) → is_work statement ≡ true → refused_marked o.mode standing.saved statement ≡ None → works.work o.mode standing.copy statement ≡ done listed count
+      → IsDone true j (Some t) (map reply.Row listed ++ reply.Done count ∷ []) (record standing { kept = 0 + standing.kept })
+  lists_halted listed count w e is = told o t (map reply.Row listed ++ reply.Done count ∷ []) (record standing { kept = 0 + standing.kept }) refl (work_stays statement w)
+      (told_as true o t (record standing { kept = 0 + standing.kept }) statement (map reply.Row listed ++ reply.Done count ∷ [])
+      (λ db. record (lone o db).1 { db = keep_all [] (lone o db).1.db; kept = (lone o db).1.kept ++ [] }) at.is at.mode_is at.copy_is
+      (λ db truth. inside_accepted o.mode statement (lone o db).1 (not_refused works laws true o t standing at statement number e db truth) ∙ accepted_work statement (lone o db).1 w
+        ∙ ap (λ m. told_of m (lone o db).1) (laws.lists o.mode statement w standing.copy listed count is (lone o db).1.db
+          ((fine_ran works laws true o t standing at statement number db truth).0.1 ∙ truth.schema ∙ sym at.copy_is)))
+      at.names (inl refl) (inl refl) (inl refl) (inl refl))
+
+  work_halted : is_work statement ≡ true → refused_marked o.mode standing.saved statement ≡ None → (mode : Mode) → o.mode ≡ mode → (w : Work) → works.work o.mode standing.copy statement ≡ w
       → Serves true j (Some t) (runs works standing.copy mode (inside_frame works standing) w 0)
-  work_halted is e mode (done listed count) ew = absurd (laws.steps statement is standing.copy listed count ew)
-  work_halted is e mode (refuses why) ew = denies_at_once works laws true o t standing at statement number why is e ew
-  work_halted is e Serial (fetches index interval lock f) ew = halted j (Some t) (act.Fetch index interval lock) (rows_next _ _) (λ why x. failed_halted Serial 0 why x)
-  work_halted is e Snapshot (fetches index interval lock f) ew = halted j (Some t) (act.Peek index interval) (rows_next _ _) (λ why x. failed_halted Snapshot 0 why x)
-  work_halted is e mode (puts table key new f) ew = halted j (Some t) (act.Put table key new) (changed_next _ _) (λ why x. failed_halted mode 0 why x)
+  work_halted is e mode em (done listed count) ew = lists_halted listed count is e ew
+  work_halted is e mode em (refuses why) ew = denies_at_once works laws true o t standing at statement number why is e ew
+  work_halted is e Serial em (fetches index interval lock f) ew = halted j (Some t) (act.Fetch index interval lock) (rows_next _ _) (λ why x. failed_halted Serial 0 why x)
+  work_halted is e Snapshot em (fetches index interval lock f) ew = halted j (Some t) (act.Peek index interval) (rows_next _ _) (λ why x. failed_halted Snapshot 0 why x)
+  work_halted is e mode em (puts table key new f) ew = halted j (Some t) (act.Put table key new) (changed_next _ _) (λ why x. failed_halted mode 0 why x)
 
 -- ---- where it is not
 
@@ -275,18 +285,18 @@ module _ (works : Works) (laws : WorkLaws works) (o : Open) (t : Txn) (standing 
   }
 
   -- the whole transaction is taken back and ends
-  rolls_serves : (next : Todo) → ((t' : Txn) → Comes t t' → Closes job_now (Some t') Ends next) → (n : ℕ) (t' : Txn) (later : List (Option RowChange)) → Since (record t { kept = [] }) t' later n
+  rolls_serves : (next : Todo) → ((t' : Txn) → Comes t t' → t'.kept ≡ [] → Closes job_now (Some t') Ends next) → (n : ℕ) (t' : Txn) (later : List (Option RowChange)) → Since (record t { kept = [] }) t' later n
       → Serves false job_now (Some t') (rolls_back works standing n next)
   rolls_serves next closes n t' later h = undo_serves job_now works t' (record t { kept = [] }) (asks act.End (end_next next (keeps_standing works standing))) (keeps_standing works standing)
-      (λ t'' h'' from. by t'' (comes_none t t'' [] 0 h''))
+      (λ t'' h'' from. by t'' (comes_none t t'' [] 0 h'') h''.kept_is)
       (λ t'' later'' n'' why h'' e. stop_after t'' why (comes_none t t'' later'' n'' h'') e)
       n t' later h (λ db all. all)
     where
-      by : (t'' : Txn) → Comes t t'' → (said : Answer) → MayCome false (Some t'') act.End said
+      by : (t'' : Txn) → Comes t t'' → t''.kept ≡ [] → (said : Answer) → MayCome false (Some t'') act.End said
           → Proceeds job_now (Some t'') (event act.End said) (end_next next (keeps_standing works standing) said) (Serves (false || is_stop (event act.End said)) job_now (next_txn (Some t'') (event act.End said)) (end_next next (keeps_standing works standing) said))
-      by t'' h'' answer.Ended m = closes t'' h''
-      by t'' h'' (answer.Refused why) m = refused_by_stop false job_now t'' (keeps_standing works standing why) why m.can (stop_after t'' why h'' m.can)
-      by t'' h'' _ m = absurd m.can
+      by t'' h'' none answer.Ended m = closes t'' h'' none
+      by t'' h'' none (answer.Refused why) m = refused_by_stop false job_now t'' (keeps_standing works standing why) why m.can (stop_after t'' why h'' m.can)
+      by t'' h'' none _ m = absurd m.can
 
   since_whole : (n : ℕ) → length t.kept ≡ n → Since (record t { kept = [] }) t t.kept n
   since_whole n many = record {
@@ -302,7 +312,7 @@ module _ (works : Works) (laws : WorkLaws works) (o : Open) (t : Txn) (standing 
 
   module _ (w : is_work statement ≡ true) (goes : refused_marked o.mode standing.saved statement ≡ None) where
     abbrev whole : Work
-    whole = works.work standing.copy statement
+    whole = works.work o.mode standing.copy statement
 
     -- what the statement means where it comes alone to this
     means_so : (t' : Txn) (m : Meaning) → ((db : Database) → IsTruthful db t' → IsTruthful db t) → ComesTo job_now works standing.copy o.mode (inside_frame works standing) t at.is.mode_is whole t' m
@@ -312,7 +322,7 @@ module _ (works : Works) (laws : WorkLaws works) (o : Open) (t : Txn) (standing 
         let fine = fine_ran works laws false o t standing at statement number db truth in
         let same_copy : standing.copy ≡ (lone_now db).db.schema = at.copy_is ∙ sym truth.schema ∙ sym fine.0.1 in
         let same_db : begun_on t db ≡ (lone_now db).db = sym ((fits_now db truth).db_is ∙ kept_makes (changes t.kept) db) in
-        sym (laws.right statement w (lone_now db).db fine.0.0) ∙ sym (λ k. alone_on (works.work (same_copy k) statement) (same_db k) []) ∙ comes db all
+        sym (laws.right o.mode statement w (lone_now db).db fine.0.0) ∙ sym (λ k. alone_on (works.work o.mode (same_copy k) statement) (same_db k) []) ∙ comes db all
 
     told_so : (t' : Txn) (m : Meaning) → ((db : Database) → IsTruthful db t' → IsTruthful db t) → ComesTo job_now works standing.copy o.mode (inside_frame works standing) t at.is.mode_is whole t' m
         → (db : Database) → IsTruthful db t' → inside o.mode statement (lone_now db) ≡ told_of m (lone_now db)
@@ -362,16 +372,16 @@ module _ (works : Works) (laws : WorkLaws works) (o : Open) (t : Txn) (standing 
           (λ db all. told_so t' (Refused why) h.back comes db (from db all)) at''.names at''.fits at''.counts at''.marks at''.snapshot));
       passes = λ t' later n why h engines alive. back_serves t' later n why h (λ t'' h'' from. passed_inside o t'' standing why refl engines alive (undone_at t'' h''));
       loses = λ t' later n why h engines dead. rolls_serves (says (reply.Error why ∷ []) (outside_with standing.copy))
-          (λ t'' c. loses o why standing.copy refl engines dead (of_comes works laws false o t standing at statement number t'' c) (grows_comes works laws false o t standing at statement number t'' c))
+          (λ t'' c none. loses o why standing.copy refl engines dead (of_comes works laws false o t standing at statement number t'' c) none (grows_comes works laws false o t standing at statement number t'' c))
           (n + standing.kept) t' (later ++ t.kept) (subst (λ m. Since (record t { kept = [] }) t' (later ++ t.kept) (n + m)) counts_now (since_none t t' later n h));
       stops = λ t' later n why h engines alive. passed_inside o t' standing why refl engines alive (stopped_at works laws false o t standing at statement number t' (comes_of t t' later n h));
     }
 
-    works_serve : Serves false job_now (Some t) (runs works standing.copy o.mode (inside_frame works standing) (works.work standing.copy statement) 0)
+    works_serve : Serves false job_now (Some t) (runs works standing.copy o.mode (inside_frame works standing) (works.work o.mode standing.copy statement) 0)
     works_serve = runs_serves job_now works standing.copy o.mode (inside_frame works standing) t at.is.mode_is whole laws frame_serves whole 0 t [] (record {
       since = since_first t;
       leads = λ db all. refl;
-      reads = λ m. (laws.reads statement w (reads_only m) standing.copy, refl, snapshot_now (sym at.is.mode_is ∙ m));
+      reads = λ m. (subst (λ x. OnlyReads (works.work x standing.copy statement)) (sym (sym at.is.mode_is ∙ m)) (laws.reads statement w (reads_only m) standing.copy), refl, snapshot_now (sym at.is.mode_is ∙ m));
     })
       where
         reads_only : t.mode ≡ Snapshot → refused_inside Snapshot [] statement ≡ None
@@ -398,7 +408,7 @@ module _ (works : Works) (laws : WorkLaws works) (o : Open) (t : Txn) (standing 
   rolls_all : (b : Bool) → IsAt b o t standing → Serves b (job_of (rollback None)) (Some t) (rolls_back works standing standing.kept (says (reply.Done 0 ∷ []) (outside_with standing.copy)))
   rolls_all true at = rolls_halted works laws o t standing at (rollback None) number standing.kept (says (reply.Done 0 ∷ []) (outside_with standing.copy))
   rolls_all false at = rolls_serves works laws o t standing at (rollback None) number (says (reply.Done 0 ∷ []) (outside_with standing.copy))
-      (λ t' c. closes_back o standing.copy refl refl (of_comes works laws false o t standing at (rollback None) number t' c) (grows_comes works laws false o t standing at (rollback None) number t' c))
+      (λ t' c none. closes_back o standing.copy refl refl (of_comes works laws false o t standing at (rollback None) number t' c) none (grows_comes works laws false o t standing at (rollback None) number t' c))
       standing.kept t t.kept (since_whole works laws o t standing at (rollback None) number standing.kept (now_so at.counts))
 
   -- ROLLBACK TO
@@ -508,12 +518,12 @@ module _ (works : Works) (laws : WorkLaws works) (o : Open) (t : Txn) (standing 
   inside_serves b (rollback None) at e = rolls_all b at
   inside_serves b (rollback (Some name)) at e = returns_serve b name at e
   inside_serves b (savepoint name) at e = saves works laws b o t standing at (savepoint name) number name refl e
-  inside_serves true (select query order) at e = work_halted works laws o t standing at (select query order) number refl e o.mode _ refl
+  inside_serves true (select query order) at e = work_halted works laws o t standing at (select query order) number refl e o.mode refl _ refl
   inside_serves false (select query order) at e = works_serve works laws o t standing at (select query order) number refl e
-  inside_serves true (insert table tuples) at e = work_halted works laws o t standing at (insert table tuples) number refl e o.mode _ refl
+  inside_serves true (insert table tuples) at e = work_halted works laws o t standing at (insert table tuples) number refl e o.mode refl _ refl
   inside_serves false (insert table tuples) at e = works_serve works laws o t standing at (insert table tuples) number refl e
-  inside_serves true (update table ss condition) at e = work_halted works laws o t standing at (update table ss condition) number refl e o.mode _ refl
+  inside_serves true (update table ss condition) at e = work_halted works laws o t standing at (update table ss condition) number refl e o.mode refl _ refl
   inside_serves false (update table ss condition) at e = works_serve works laws o t standing at (update table ss condition) number refl e
-  inside_serves true (delete table condition) at e = work_halted works laws o t standing at (delete table condition) number refl e o.mode _ refl
+  inside_serves true (delete table condition) at e = work_halted works laws o t standing at (delete table condition) number refl e o.mode refl _ refl
   inside_serves false (delete table condition) at e = works_serve works laws o t standing at (delete table condition) number refl e
   inside_serves b _ at e = absurd (cc)

@@ -8,6 +8,7 @@ use Rattle.std.proofs.lemmas.List.{length-append, append_assoc}
 use Rattle.iv_types.specs.declared.refusal.Refusal.{Refusal}
 use Rattle.iv_types.specs.declared.refusal.Refusal.TheVariants.{UnknownSavepoint, Limit}
 use Rattle.iv_types.specs.declared.statement.Mode.{Mode}
+use Rattle.iv_types.specs.declared.statement.Mode.TheVariants.{Serial}
 use Rattle.iv_types.specs.Syntax.{StatementTree, create_table, create_index, create_view, insert, update, delete, select, begin, commit, rollback, savepoint}
 use Rattle.iv_meaning.specs.Schema.{Schema}
 use Rattle.iv_meaning.specs.Database.{Row, Database}
@@ -159,7 +160,7 @@ module _ (works : Works) (laws : WorkLaws works) (objects : Schema) where
       by : (m : Meaning) → means statement r.db ≡ m → StandsFine (told m r).after
       by (Refused why) e = h
       by (Accepted listed count kept) e =
-          let ds = only_sets (works.work r.db.schema statement) r.db [] listed count kept (laws.right statement w r.db h.0.0 ∙ e) in
+          let ds = only_sets (works.work Serial r.db.schema statement) r.db [] listed count kept (laws.right Serial statement w r.db h.0.0 ∙ e) in
           let same : (keep_all kept r.db).schema ≡ r.db.schema = ap (λ ks. (keep_all ks r.db).schema) (ds.1 ∙ in_order_is ds.0) ∙ sets_keep (reverse ds.0) r.db in
           ((laws.sound statement w r.db h.0.0 listed count kept e, same ∙ h.0.1), h.1)
 

@@ -57,7 +57,7 @@ module _ (works : Works) (laws : WorkLaws works) (statement : StatementTree) (w 
   first = new_txn Serial began_at objects
 
   abbrev whole : Work
-  whole = works.work objects statement
+  whole = works.work Serial objects statement
 
   grows_now : (t : Txn) (later : List (Option RowChange)) (n : ℕ) → Since first t later n → Grows objects t.objects
   grows_now t later n h = ([], h.objects_is ∙ sym (append-nil objects))
@@ -90,9 +90,9 @@ module _ (works : Works) (laws : WorkLaws works) (statement : StatementTree) (w 
       → (db : Database) → IsTruthful db t → outside statement db ≡ ended_by m db
   outside_so t later n m h comes db all =
       let truth = h.back db all in
-      let right = laws.right statement w db truth.sound in
+      let right = laws.right Serial statement w db truth.sound in
       outside_by statement db (work_outside statement w)
-      ∙ ap (λ x. ended_by x db) (sym right ∙ ap (λ os. alone_on (works.work os statement) db []) truth.schema ∙ comes db all)
+      ∙ ap (λ x. ended_by x db) (sym right ∙ ap (λ os. alone_on (works.work Serial os statement) db []) truth.schema ∙ comes db all)
 
   finishes : (t : Txn) (later : List (Option RowChange)) (n : ℕ) (listed : List Row) (count : ℕ) → Since first t later n
       → ComesTo the_job works objects Serial (outside_frame works objects) first refl whole t (Accepted listed count (in_order (changes later)))
@@ -127,9 +127,9 @@ module _ (works : Works) (laws : WorkLaws works) (statement : StatementTree) (w 
     denied = λ t later n why h comes. back_serves t later n why h (λ t' h' from.
         is_refused (reply.Error why ∷ []) objects refl (work_no_begin statement w) h'.mode_is
         (λ db all. let so = outside_so t later n (Refused why) h comes db (from db all) in (sym (ap (λ (x : Transaction). x.replies) so), sym (ap (λ (x : Transaction). x.kept) so)))
-        (grows_now t' [] 0 h'));
-    passes = λ t later n why h engines alive. back_serves t later n why h (λ t' h' from. is_passed why objects refl engines (grows_now t' [] 0 h'));
-    loses = λ t later n why h engines dead. back_serves t later n why h (λ t' h' from. is_passed why objects refl engines (grows_now t' [] 0 h'));
+        h'.kept_is (grows_now t' [] 0 h'));
+    passes = λ t later n why h engines alive. back_serves t later n why h (λ t' h' from. is_passed why objects refl engines h'.kept_is (grows_now t' [] 0 h'));
+    loses = λ t later n why h engines dead. back_serves t later n why h (λ t' h' from. is_passed why objects refl engines h'.kept_is (grows_now t' [] 0 h'));
     stops = λ t later n why h engines alive. stop_serves t later n why h engines;
   }
 
@@ -182,7 +182,7 @@ module _ (works : Works) (laws : WorkLaws works) (statement : StatementTree) (nu
         end_failed : (why : EngineRefusal) (said : Answer) → MayCome false (Some (new_txn mode number objects)) act.End said
             → Proceeds j (Some (new_txn mode number objects)) (event act.End said) (end_next (says (reply.Error (works.tell copy None why) ∷ []) (outside_with copy)) (stays_out works copy) said)
             (Serves (false || is_stop (event act.End said)) j (next_txn (Some (new_txn mode number objects)) (event act.End said)) (end_next (says (reply.Error (works.tell copy None why) ∷ []) (outside_with copy)) (stays_out works copy) said))
-        end_failed why answer.Ended m = is_passed (works.tell copy None why) copy refl (laws.engines copy None why) g
+        end_failed why answer.Ended m = is_passed (works.tell copy None why) copy refl (laws.engines copy None why) refl g
         end_failed why (answer.Refused x) m = refused_by_stop false j (new_txn mode number objects) (stays_out works copy x) x m.can (refused_out true (Some (new_txn mode number objects)) copy x (inr refl) g)
         end_failed why _ m = absurd m.can
 
@@ -258,11 +258,11 @@ outside_starts works laws b t copy (begin mode) number out g e =
       snapshot = inr (λ m. refl);
     })) b t out g)
 outside_starts works laws b t copy (select query order) number out g e =
-    inr (opens_first works laws (select query order) number copy Serial (λ held n. runs works held Serial (outside_frame works held) (works.work held (select query order)) 0) (λ objects. work_serves works laws (select query order) refl number copy objects number) b t out g)
+    inr (opens_first works laws (select query order) number copy Serial (λ held n. runs works held Serial (outside_frame works held) (works.work Serial held (select query order)) 0) (λ objects. work_serves works laws (select query order) refl number copy objects number) b t out g)
 outside_starts works laws b t copy (insert table tuples) number out g e =
-    inr (opens_first works laws (insert table tuples) number copy Serial (λ held n. runs works held Serial (outside_frame works held) (works.work held (insert table tuples)) 0) (λ objects. work_serves works laws (insert table tuples) refl number copy objects number) b t out g)
+    inr (opens_first works laws (insert table tuples) number copy Serial (λ held n. runs works held Serial (outside_frame works held) (works.work Serial held (insert table tuples)) 0) (λ objects. work_serves works laws (insert table tuples) refl number copy objects number) b t out g)
 outside_starts works laws b t copy (update table ss condition) number out g e =
-    inr (opens_first works laws (update table ss condition) number copy Serial (λ held n. runs works held Serial (outside_frame works held) (works.work held (update table ss condition)) 0) (λ objects. work_serves works laws (update table ss condition) refl number copy objects number) b t out g)
+    inr (opens_first works laws (update table ss condition) number copy Serial (λ held n. runs works held Serial (outside_frame works held) (works.work Serial held (update table ss condition)) 0) (λ objects. work_serves works laws (update table ss condition) refl number copy objects number) b t out g)
 outside_starts works laws b t copy (delete table condition) number out g e =
-    inr (opens_first works laws (delete table condition) number copy Serial (λ held n. runs works held Serial (outside_frame works held) (works.work held (delete table condition)) 0) (λ objects. work_serves works laws (delete table condition) refl number copy objects number) b t out g)
+    inr (opens_first works laws (delete table condition) number copy Serial (λ held n. runs works held Serial (outside_frame works held) (works.work Serial held (delete table condition)) 0) (λ objects. work_serves works laws (delete table condition) refl number copy objects number) b t out g)
 outside_starts works laws b t copy _ number out g e = absurd (cc)

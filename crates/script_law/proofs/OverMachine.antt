@@ -108,11 +108,10 @@ says_fails s i act.Commit refusal.DiskFault es h = refl
 says_fails s i act.UndoOne _ es h = absurd h
 says_fails s i act.End _ es h = absurd h
 says_fails s i act.Commit _ es h = absurd h
-says_fails s i (act.Begin mode) _ es h = refl
-says_fails s i act.Defs _ es h = refl
-says_fails s i (act.Peek number interval) _ es h = refl
-says_fails s i (act.Schema statement) _ es h = refl
-says_fails s i _ _ es h = tt
+says_fails s i (act.Fetch number interval mode) _ es h = tt
+says_fails s i (act.Put number key new) _ es h = tt
+says_fails s i act.Pay _ es h = tt
+says_fails s i _ _ es h = refl
 
 says_can : (s : State) (i : ℕ) (a : Act) (said : Answer) (es : List Effect) → Says s i a said es → CanCome a (event a said)
 says_can s i a (answer.Refused why) es h = says_fails s i a why es h
@@ -143,11 +142,10 @@ stopped_can : (a : Act) (n : ℕ) → CanFail a (refusal.Stopped n)
 stopped_can act.UndoOne n = refl
 stopped_can act.End n = refl
 stopped_can act.Commit n = refl
-stopped_can (act.Begin mode) n = refl
-stopped_can act.Defs n = refl
-stopped_can (act.Peek number interval) n = refl
-stopped_can (act.Schema statement) n = refl
-stopped_can _ n = tt
+stopped_can (act.Fetch number interval mode) n = tt
+stopped_can (act.Put number key new) n = tt
+stopped_can act.Pay n = tt
+stopped_can _ n = refl
 
 answers : (story after : Story) (i : ℕ) (a : Act) (said : Answer) → IsReachedStory story → DoesOf story i a said after → CanCome a (event a said)
 answers story after i a said r h = elim h.1.does [
@@ -495,7 +493,7 @@ machine_laws = record {
 }
 
 pub machine_law : MachineLaw
-machine_law programs tell program_laws engines db stored opening was_opened all lines out after r =
-    transcript_law seen_of DoesOf IsReachedStory IsStopped programs tell machine_laws program_laws engines db all lines (begun_story (opened_state opening (store.opened db stored))) after out
+machine_law programs tell program_laws engines db stored opening was_opened lines out after r =
+    transcript_law seen_of DoesOf IsReachedStory IsStopped programs tell machine_laws program_laws engines db lines (begun_story (opened_state opening (store.opened db stored))) after out
     (record { db = db; view = stored; opening = opening; was_opened = was_opened; steps = []; tells = refl })
     (record { origin_is = refl; none_committed = refl; none_open = λ session. refl }) r

@@ -11,7 +11,7 @@ use Rattle.txn_machine.specs.Acts.{Act}
 use Rattle.txn_machine.specs.Answers.{Answer}
 use Rattle.script_law.specs.Seen.{Txn, Visible, StepLaws}
 use Rattle.script_law.specs.Programs.{Todo, outside_with, Programs, ProgramLaws}
-use Rattle.script_law.specs.RunLines.{Line, idle, waiting, stepping, Table, set_seat, new_table, Outcome, ended, stuck, stepped, printed_later, seat_after, RunsOn, Tries, Pass, Passes, RunsLine, RunsLines}
+use Rattle.script_law.specs.RunLines.{Line, idle, waiting, stepping, Table, set_seat, new_table, Outcome, ended, stuck, stepped, printed_later, seat_after, RunsOn, Tries, Pass, Passes, RunsLine, RunsLines, all_sessions}
 use Rattle.script_law.specs.Laws.{AreEngines, TranscriptLaw}
 use Rattle.script_law.proofs.Growing.{same_grows}
 use Rattle.script_law.proofs.Agreeing.{SeatAgrees, Within, seat_within, was_alone, others_of, Agrees, objects_in, close}
@@ -121,8 +121,8 @@ module _ {S : Type 0} (view : S → Visible) (Does : S → ℕ → Act → Answe
 
 pub transcript_law : {S : Type 0} (view : S → Visible) (Does : S → ℕ → Act → Answer → S → Type 0) (Stands Halts : S → Type 0) (programs : Programs) (tell : EngineRefusal → Refusal)
     → TranscriptLaw view Does Stands Halts programs tell
-transcript_law view Does Stands Halts programs tell laws program_laws engines db all script s after out stands new r =
-    lines view Does Stands Halts laws programs program_laws tell engines all script (opened_with db) new_table s out r.table r.last stands (record {
+transcript_law view Does Stands Halts programs tell laws program_laws engines db script s after out stands new r =
+    lines view Does Stands Halts laws programs program_laws tell engines all_sessions script (opened_with db) new_table s out r.table r.last stands (record {
       origin = sym new.origin_is;
       history = sym new.none_committed;
       seats = λ j. (false, λ x. absurd (cc), (inl (new.none_open j), refl, (objects_in (view s), refl)));

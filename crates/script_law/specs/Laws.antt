@@ -21,15 +21,15 @@ pub record IsNew (db : Database) (v : Visible) : Type 0 where
   pub none_committed : v.history ≡ []
   pub none_open : (session : ℕ) → v.open_of session ≡ None
 
--- a refusal of the cleaner's is one of the engine's
+-- a refusal of the cleaner's steps is told as one of the engine's
 abbrev pub AreEngines : (EngineRefusal → Refusal) → Type 0
 AreEngines tell = (why : EngineRefusal) → IsTrue (is_engines (tell why))
 
 -- what a run of lines prints is serial
 abbrev pub TranscriptLaw : {S : Type 0} → (S → Visible) → (S → ℕ → Act → Answer → S → Type 0) → (Stands Halts : S → Type 0) → Programs → (EngineRefusal → Refusal) → Type 0
 TranscriptLaw {S} view Does Stands Halts programs tell =
-    StepLaws view Does Stands Halts → ProgramLaws programs → AreEngines tell → (db : Database) (all : List ℕ) (lines : List Said) (s after : S) (out : List ℕ)
-    → Stands s → IsNew db (view s) → RunsScript Does programs tell view all lines s out after → IsSerialFrom (opened_with db) lines out
+    StepLaws view Does Stands Halts → ProgramLaws programs → AreEngines tell → (db : Database) (lines : List Said) (s after : S) (out : List ℕ)
+    → Stands s → IsNew db (view s) → RunsScript Does programs tell view lines s out after → IsSerialFrom (opened_with db) lines out
 
 -- the programs of all statements are right, whatever works of single statements keep their laws
 abbrev pub ProgramsLaw : Type 0

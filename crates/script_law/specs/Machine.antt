@@ -51,6 +51,6 @@ IsStopped story = IsSome story.state.stop
 -- what a script prints that is run over the machine, from an opened database, is serial
 abbrev pub MachineLaw : Type 0
 MachineLaw = (programs : Programs) (tell : EngineRefusal → Refusal) → ProgramLaws programs → AreEngines tell
-    → (db : Database) (view : ViewRows) (opening : Opening) → IsOpened db view → (all : List ℕ) (lines : List Said) (out : List ℕ) (after : Story)
-    → RunsScript DoesOf programs tell seen_of all lines (begun_story (opened_state opening (opened db view))) out after
+    → (db : Database) (view : ViewRows) (opening : Opening) → IsOpened db view → (lines : List Said) (out : List ℕ) (after : Story)
+    → RunsScript DoesOf programs tell seen_of lines (begun_story (opened_state opening (opened db view))) out after
     → IsSerialFrom (opened_with db) lines out

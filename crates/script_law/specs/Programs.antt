@@ -160,22 +160,22 @@ pub data IsDone (stopped : Bool) (j : Job) : Option Txn → List Reply → Stand
 abbrev pub IsLone : StatementTree → Txn → List Reply → List Kept → Database → Type 0
 IsLone statement t replies kept db = IsTruthful db t → (replies ≡ (outside statement db).replies) × (kept ≡ (outside statement db).kept)
 
--- a statement may end so by a step that ends this transaction
+-- a statement may end so by a step that ends this transaction; one that ends without a commit keeps nothing any more
 pub data IsClosed (j : Job) (t : Txn) : Event → Todo → Type 0 where
   commits : (o : Open) (number : ℕ) (standing : Standing) (copy : Schema) → j.before ≡ Some o → j.statement ≡ commit → IsAt false o t standing → Grows copy t.objects
       → IsClosed j t (Commits number) (says (reply.Commit number ∷ []) (outside_with copy))
-  rolls_back : (o : Open) (copy : Schema) → j.before ≡ Some o → j.statement ≡ rollback None → IsOf o t → Grows copy t.objects
+  rolls_back : (o : Open) (copy : Schema) → j.before ≡ Some o → j.statement ≡ rollback None → IsOf o t → t.kept ≡ [] → Grows copy t.objects
       → IsClosed j t Ends (says (reply.Done 0 ∷ []) (outside_with copy))
-  loses : (o : Open) (why : Refusal) (copy : Schema) → j.before ≡ Some o → IsTrue (is_engines why) → IsTrue (is_deadlock why) → IsOf o t → Grows copy t.objects
+  loses : (o : Open) (why : Refusal) (copy : Schema) → j.before ≡ Some o → IsTrue (is_engines why) → IsTrue (is_deadlock why) → IsOf o t → t.kept ≡ [] → Grows copy t.objects
       → IsClosed j t Ends (says (reply.Error why ∷ []) (outside_with copy))
   -- a statement outside a transaction
   is_alone : (number : ℕ) (replies : List Reply) (copy : Schema) → j.before ≡ None → is_begin j.statement ≡ false → t.mode ≡ Serial
       → ((db : Database) → number ≡ next_number (kept_of t) db.number → IsLone j.statement t replies (kept_of t) db) → Grows copy t.objects
       → IsClosed j t (Commits number) (says replies (outside_with copy))
   is_refused : (replies : List Reply) (copy : Schema) → j.before ≡ None → is_begin j.statement ≡ false → t.mode ≡ Serial
-      → ((db : Database) → IsLone j.statement t replies [] db) → Grows copy t.objects
+      → ((db : Database) → IsLone j.statement t replies [] db) → t.kept ≡ [] → Grows copy t.objects
       → IsClosed j t Ends (says replies (outside_with copy))
-  is_passed : (why : Refusal) (copy : Schema) → j.before ≡ None → IsTrue (is_engines why) → Grows copy t.objects
+  is_passed : (why : Refusal) (copy : Schema) → j.before ≡ None → IsTrue (is_engines why) → t.kept ≡ [] → Grows copy t.objects
       → IsClosed j t Ends (says (reply.Error why ∷ []) (outside_with copy))
 
 -- a CREATE statement, which needs no transaction

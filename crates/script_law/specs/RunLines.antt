@@ -1,7 +1,7 @@
 -- No clause of `run` rests on this module: it serves contracts between crates.
 --
 -- Runs of lines: the table of sessions, the steps that each line leads to, and what is printed.
-use Rattle.std.specs.Prelude.{◌≡◌, ◌⊎◌, ℕ, zero, suc, ◌+◌, ◌==◌, Bool, true, false, List, [], ◌∷◌, ◌++◌, length, codes, decimal, Option, Some, None, Result, Ok, Err, if◌then◌else◌}
+use Rattle.std.specs.Prelude.{◌≡◌, ◌⊎◌, ℕ, zero, suc, ◌+◌, ◌==◌, Bool, true, false, IsTrue, List, [], ◌∷◌, ◌++◌, length, codes, decimal, Option, Some, None, Result, Ok, Err, if◌then◌else◌}
 use Rattle.iv_types.specs.declared.session.Sessions.{Sessions}
 use Rattle.iv_types.specs.declared.refusal.Refusal.{Refusal}
 use Rattle.iv_types.specs.declared.refusal.Refusal.TheVariants as refusal
@@ -15,7 +15,7 @@ use Rattle.txn_machine.specs.Acts as act
 use Rattle.txn_machine.specs.Acts.{Act}
 use Rattle.txn_machine.specs.Answers as answer
 use Rattle.txn_machine.specs.Answers.{Answer}
-use Rattle.script_law.specs.Seen.{Event, Waits, LacksRow, event, Txn, Visible}
+use Rattle.script_law.specs.Seen.{Event, Waits, LacksRow, Fails, event, is_stop, Txn, Visible}
 use Rattle.script_law.specs.Programs.{Standing, outside_with, Todo, says, asks, ghosts, Programs}
 
 -- ---- the table of sessions
@@ -97,6 +97,23 @@ outcome_of e stay next = outcome_at next
 abbrev pub IsFree : Event → Type 0
 IsFree (Waits sessions) = ⊥
 IsFree e = Unit {0}
+
+-- the sessions in number order
+abbrev pub up_to : ℕ → List ℕ
+up_to zero = []
+up_to (suc n) = up_to n ++ suc n ∷ []
+
+abbrev pub all_sessions : List ℕ
+all_sessions = up_to 64
+
+-- The transaction that a session leaves at the end of the input: one that counts as outside has none, also where a stopped engine
+-- has one left of it.
+abbrev pub open_at : Seat → Option Txn → Option Txn
+open_at seat t = elim seat.line [
+  | idle ↦ elim seat.standing.mode [ None ↦ None | Some mode ↦ t ]
+  | waiting todo ↦ t
+  | stepping todo ↦ t
+]
 
 -- a name and a number, as a line of the engine's own is answered
 abbrev pub counted_line : List ℕ → ℕ → List ℕ
@@ -232,11 +249,12 @@ module _ {S : Type 0} (Does : S → ℕ → Act → Answer → S → Type 0) (pr
 
   -- ---- the end of the input
 
-  -- so many kept steps are taken back, and the transaction ends; a stopped engine says so
+  -- so many kept steps are taken back, and the transaction ends; only a stopped engine refuses that
   pub data RollsBack (session : ℕ) : ℕ → S → S → Type 0 where
     ends_it : (s after : S) → Does s session act.End answer.Ended after → RollsBack session 0 s after
     takes_back : (kept left : ℕ) (s mid after : S) → Does s session act.UndoOne (answer.Undone left) mid → RollsBack session kept mid after → RollsBack session (kept + 1) s after
-    stops : (kept : ℕ) (a : Act) (s after : S) (why : EngineRefusal) → Does s session a (answer.Refused why) after → RollsBack session kept s after
+    stops_ending : (s after : S) (why : EngineRefusal) → IsTrue (is_stop (Fails why)) → Does s session act.End (answer.Refused why) after → RollsBack session 0 s after
+    stops_taking : (kept : ℕ) (s after : S) (why : EngineRefusal) → IsTrue (is_stop (Fails why)) → Does s session act.UndoOne (answer.Refused why) after → RollsBack session (kept + 1) s after
 
   -- a session's request is cancelled, if it waits for one, and its transaction rolled back, if one is open
   pub data Leaves (session : ℕ) : Line → Option Txn → S → S → Type 0 where
@@ -249,14 +267,14 @@ module _ {S : Type 0} (Does : S → ℕ → Act → Answer → S → Type 0) (pr
     -- each of some sessions in turn
     abbrev pub LeaveAll : List ℕ → Table → S → S → Type 0
     LeaveAll [] table s after = after ≡ s
-    LeaveAll (n ∷ ns) table s after = (mid : S) × Leaves n (table n).line ((view s).open_of n) s mid × LeaveAll ns table mid after
+    LeaveAll (n ∷ ns) table s after = (mid : S) × Leaves n (table n).line (open_at (table n) ((view s).open_of n)) s mid × LeaveAll ns table mid after
 
     -- a whole script: its lines, and then the end of the input, which prints nothing
-    pub record RunsScript (all : List ℕ) (lines : List Said) (s : S) (out : List ℕ) (after : S) : Type 0 where
+    pub record RunsScript (lines : List Said) (s : S) (out : List ℕ) (after : S) : Type 0 where
       pub table : Table
       pub last : S
-      pub of_lines : RunsLines all lines new_table s out table last
-      pub leaves : LeaveAll all table last after
+      pub of_lines : RunsLines all_sessions lines new_table s out table last
+      pub leaves : LeaveAll all_sessions table last after
 
 -- ---- forms of lines that are built
 

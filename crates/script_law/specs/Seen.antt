@@ -1,7 +1,7 @@
 -- No clause of `run` rests on this module: it serves contracts between crates.
 --
--- What sessions see of an engine: what was committed, and of each open transaction what it was told and what it keeps. Of locks,
--- deltas, ghosts and disks nothing is said here.
+-- What sessions see of an engine: what was committed, and of each open transaction what it was told and what it keeps. Of which
+-- locks are held, what is owed and what stands on a disk nothing is said here.
 use Rattle.std.specs.Prelude.{◌≡◌, ℕ, ◌+◌, ◌==◌, List, [], ◌∷◌, ◌++◌, length, Option, Some, None, Bool, true, false, IsTrue, if◌then◌else◌, map}
 use Rattle.std.specs.List.{AllByRecursion}
 use Rattle.iv_types.specs.declared.session.Sessions.{Sessions}
@@ -92,11 +92,10 @@ abbrev pub CanFail : Act → EngineRefusal → Type 0
 CanFail act.UndoOne why = IsTrue (is_stop (Fails why))
 CanFail act.End why = IsTrue (is_stop (Fails why))
 CanFail act.Commit why = IsTrue (is_stop (Fails why))
-CanFail (act.Begin mode) why = is_deadlock_event why ≡ false
-CanFail act.Defs why = is_deadlock_event why ≡ false
-CanFail (act.Peek index interval) why = is_deadlock_event why ≡ false
-CanFail (act.Schema statement) why = is_deadlock_event why ≡ false
-CanFail _ why = Unit {0}
+CanFail (act.Fetch index interval lock) why = Unit {0}
+CanFail (act.Put table key new) why = Unit {0}
+CanFail act.Pay why = Unit {0}
+CanFail a why = is_deadlock_event why ≡ false
 
 abbrev pub CanCome : Act → Event → Type 0
 CanCome a Never = ⊥

@@ -155,7 +155,7 @@ module _ (works : Works) where
   start_inside mode standing (rollback None) = rolls_back standing standing.kept (says (reply.Done 0 ∷ []) (outside_with standing.copy))
   start_inside mode standing (rollback (Some name)) = returns_to standing (from_marked name standing.saved)
   start_inside mode standing (savepoint name) = says (reply.Done 0 ∷ []) (record standing { saved = (name, standing.kept) ∷ standing.saved })
-  start_inside mode standing statement = runs standing.copy mode (inside_frame standing) (works.work standing.copy statement) 0
+  start_inside mode standing statement = runs standing.copy mode (inside_frame standing) (works.work mode standing.copy statement) 0
 
   -- ---- outside one
 
@@ -198,7 +198,7 @@ module _ (works : Works) where
   start_outside copy (create_view name query) = creates_with copy (create_view name query)
   start_outside copy (begin mode) =
       begins_with mode copy (λ held number. says (begin_reply mode number ∷ []) (record { mode = Some mode; saved = []; kept = 0; copy = held }))
-  start_outside copy statement = begins_with Serial copy (λ held number. runs held Serial (outside_frame held) (works.work held statement) 0)
+  start_outside copy statement = begins_with Serial copy (λ held number. runs held Serial (outside_frame held) (works.work Serial held statement) 0)
 
   -- ---- all statements
 

@@ -3,6 +3,7 @@
 -- What a statement reads and changes, step by step, and what that leads to alone on a database.
 use Rattle.std.specs.Prelude.{◌≡◌, ℕ, ◌+◌, Bool, true, false, IsTrue, List, [], ◌∷◌, Option, Some, None}
 use Rattle.std.specs.FinMap.{get}
+use Rattle.iv_types.specs.declared.statement.Mode.{Mode}
 use Rattle.iv_types.specs.declared.statement.Mode.TheVariants.{Snapshot}
 use Rattle.iv_types.specs.declared.value.Interval.{Interval}
 use Rattle.iv_types.specs.declared.lock.LockMode.{LockMode}
@@ -54,24 +55,25 @@ is_work (update table sets condition) = true
 is_work (delete table condition) = true
 is_work _ = false
 
--- how each statement works, by the definitions that its session has a copy of, and how a refusal of the engine's is told: of a pay,
--- with the delta that was to be paid
+-- how each statement works in a transaction of a mode, by the definitions that its session has a copy of, and how a refusal of the
+-- engine's is told: of a pay, with the delta that was to be paid
 pub record Works : Type 0 where
-  pub work : Schema → StatementTree → Work
+  pub work : Mode → Schema → StatementTree → Work
   pub tell : Schema → Option GroupDelta → EngineRefusal → Refusal
 
 pub record WorkLaws (works : Works) : Type 0 where
   -- alone on a sound database a work comes to what its statement means, which leaves a sound database
-  pub right : (statement : StatementTree) → is_work statement ≡ true → (db : Database) → AreSound db.schema db.rows
-      → alone_on (works.work db.schema statement) db [] ≡ means statement db
+  pub right : (mode : Mode) (statement : StatementTree) → is_work statement ≡ true → (db : Database) → AreSound db.schema db.rows
+      → alone_on (works.work mode db.schema statement) db [] ≡ means statement db
   pub sound : (statement : StatementTree) → is_work statement ≡ true → (db : Database) → AreSound db.schema db.rows
       → (listed : List Row) (count : ℕ) (kept : List Kept) → means statement db ≡ Accepted listed count kept → AreSound (keep_all kept db).schema (keep_all kept db).rows
-  -- no work is done without a step, and one that is refused without a step is so by the definitions alone
-  pub steps : (statement : StatementTree) → is_work statement ≡ true → (objects : Schema) (listed : List Row) (count : ℕ) → works.work objects statement ≡ done listed count → ⊥
-  pub denies : (statement : StatementTree) → is_work statement ≡ true → (objects : Schema) (why : Refusal) → works.work objects statement ≡ refuses why
+  -- what a work comes to without a step, as a SELECT whose condition is never true, it does by the definitions alone
+  pub lists : (mode : Mode) (statement : StatementTree) → is_work statement ≡ true → (objects : Schema) (listed : List Row) (count : ℕ)
+      → works.work mode objects statement ≡ done listed count → (db : Database) → db.schema ≡ objects → means statement db ≡ Accepted listed count []
+  pub denies : (mode : Mode) (statement : StatementTree) → is_work statement ≡ true → (objects : Schema) (why : Refusal) → works.work mode objects statement ≡ refuses why
       → (db : Database) → db.schema ≡ objects → means statement db ≡ Refused why
   -- a snapshot may do only what changes nothing
-  pub reads : (statement : StatementTree) → is_work statement ≡ true → refused_inside Snapshot [] statement ≡ None → (objects : Schema) → OnlyReads (works.work objects statement)
+  pub reads : (statement : StatementTree) → is_work statement ≡ true → refused_inside Snapshot [] statement ≡ None → (objects : Schema) → OnlyReads (works.work Snapshot objects statement)
   -- a refusal of the engine's is told as one, and a deadlock as a deadlock
   pub engines : (objects : Schema) (delta : Option GroupDelta) (why : EngineRefusal) → IsTrue (is_engines (works.tell objects delta why))
   pub deadlocks : (objects : Schema) (delta : Option GroupDelta) (why : EngineRefusal) → is_deadlock (works.tell objects delta why) ≡ is_deadlock_event why
