@@ -9,7 +9,7 @@ use Rattle.iv_meaning.specs.Serial.{World, Open, Unfinished, none, waits, loaded
 use Rattle.txn_machine.specs.Deltas.{RowChange}
 use Rattle.script_law.specs.Seen.{Event, Begins, Finds, FindsThen, Changes, Pays, TakesBack, Ends, Commits, Txn, taken_back, but_latest, txn_after, Visible, visible_after, history_after, open_after, committed, base, IsTruthful}
 use Rattle.script_law.specs.Programs.{Standing, outside_with, Todo, Job, Serves, Starts, IsOf, IsAt, IsOut, Grows, next_txn}
-use Rattle.script_law.specs.RunLines.{Line, idle, waiting, stepping, Seat, Table, set_seat}
+use Rattle.script_law.specs.RunLines.{Line, idle, waiting, stepping, held, Seat, Table, set_seat}
 use Rattle.script_law.proofs.Basics.{if_same, if_other, base_same, IsQuiet}
 use Rattle.script_law.proofs.Growing.{grows_by, step_grows}
 
@@ -39,6 +39,7 @@ SeatAgrees objects stopped run (waits statement number) standing (waiting todo) 
 SeatAgrees objects stopped run (loaded statement None) standing (stepping todo) t =
     (copy : Schema) × Grows copy objects × ((number : ℕ) → Starts stopped (job statement run number copy) t todo) × Within run t
 SeatAgrees objects stopped run (loaded statement (Some number)) standing (stepping todo) t = Under objects stopped run statement number todo t
+SeatAgrees objects stopped run (loaded statement (Some number)) standing (held todo) t = Under objects stopped run statement number todo t
 SeatAgrees objects stopped run _ standing _ t = ⊥
 
 -- whether the session knows that the engine is stopped, which is so then
@@ -72,6 +73,7 @@ agrees_later objects objects' g stopped (Some o) none standing idle (Some t) h =
 agrees_later objects objects' g stopped run (waits statement number) standing (waiting todo) t h = (h.0, grows_by h.0 objects objects' h.1 g, h.2, h.3)
 agrees_later objects objects' g stopped run (loaded statement None) standing (stepping todo) t h = (h.0, grows_by h.0 objects objects' h.1 g, h.2, h.3)
 agrees_later objects objects' g stopped run (loaded statement (Some number)) standing (stepping todo) t h = (h.0, grows_by h.0 objects objects' h.1 g, h.2, h.3)
+agrees_later objects objects' g stopped run (loaded statement (Some number)) standing (held todo) t h = (h.0, grows_by h.0 objects objects' h.1 g, h.2, h.3)
 agrees_later objects objects' g stopped run _ standing _ t h = absurd h
 
 pub lasting : (objects objects' : Schema) {H H' : Type 0} → Grows objects objects' → (run : Option Open) (u : Unfinished) (standing : Standing) (line : Line) (t : Option Txn) → (H → H')
@@ -164,6 +166,7 @@ seat_within objects stopped run none standing idle t h = between_within objects 
 seat_within objects stopped run (waits statement number) standing (waiting todo) t h = h.3
 seat_within objects stopped run (loaded statement None) standing (stepping todo) t h = h.3
 seat_within objects stopped run (loaded statement (Some number)) standing (stepping todo) t h = h.3
+seat_within objects stopped run (loaded statement (Some number)) standing (held todo) t h = h.3
 seat_within objects stopped run _ standing _ t h = absurd h
 
 -- what it was told is what its statements are told alone

@@ -20,7 +20,7 @@ use Rattle.txn_machine.specs.Answers as answer
 use Rattle.txn_machine.specs.Answers.{Answer}
 use Rattle.script_law.specs.Seen.{Event, Fails, Idles, event, Txn, txn_after, Visible, open_after, visible_after, committed, IsTruthful, StepLaws}
 use Rattle.script_law.specs.Programs.{Standing, outside_with, Todo, says, asks, Serves, Starts, Programs, ProgramLaws, Grows, objects_of, with_told}
-use Rattle.script_law.specs.RunLines.{Line, idle, waiting, stepping, Seat, Table, set_seat, Outcome, ended, stuck, stepped, next_of, RunsOn, has_ended, is_blocked, goes_on, Tells, Comes, RunsIt, LoadsIt, RefusedOr, Given, Stepped, Cleans, cleaned_all, cleaned_one, clean_fails, CleansLine, pruned, prune_fails, SavesLine, saved, save_fails, Own}
+use Rattle.script_law.specs.RunLines.{Line, seat_run, seat_stepped, idle, waiting, stepping, held as is_held, Seat, Table, set_seat, Outcome, ended, stuck, stepped, next_of, RunsOn, has_ended, is_blocked, goes_on, Tells, Comes, RunsIt, LoadsIt, RefusedOr, Given, Stepped, Cleans, cleaned_all, cleaned_one, clean_fails, CleansLine, pruned, prune_fails, SavesLine, saved, save_fails, Own}
 use Rattle.script_law.specs.Laws.{AreEngines}
 use Rattle.script_law.proofs.Basics.{IsQuiet, quiet_history, if_same, if_other, base_same, latest_same, outside_ends, inside_goes}
 use Rattle.script_law.proofs.Growing.{same_grows, step_grows}
@@ -77,7 +77,7 @@ module _ {S : Type 0} (view : S → Visible) (Does : S → ℕ → Act → Answe
 
     -- `N: ..`
     came_running : (statement : StatementTree) (number : ℕ) (held : Schema) (o : Outcome) (piece : List ℕ) (table' : Table) (s' : S) → ((todo : Todo) → o ≡ stepped todo → ⊥)
-        → OnOutcome view Does Stands Halts laws programs tell i w table statement number held o s' → Comes Does programs tell i waiting o table piece table'
+        → OnOutcome view Does Stands Halts laws programs tell i w table statement number held o s' → Comes Does programs tell i seat_run o table piece table'
         → Leads (λ after. EndsNow w i statement number piece after ⊎ WaitsSo w i (waits statement number) piece after) table' s'
     came_running statement number held (ended replies standing) piece table' s' not x c = (
       x.0,
@@ -95,7 +95,7 @@ module _ {S : Type 0} (view : S → Visible) (Does : S → ℕ → Act → Answe
 
     -- `N+`
     came_stepping : (statement : StatementTree) (number : ℕ) (held : Schema) (o : Outcome) (piece : List ℕ) (table' : Table) (s' : S)
-        → OnOutcome view Does Stands Halts laws programs tell i w table statement number held o s' → Comes Does programs tell i stepping o table piece table'
+        → OnOutcome view Does Stands Halts laws programs tell i w table statement number held o s' → Comes Does programs tell i seat_stepped o table piece table'
         → Leads (λ after. EndsNow w i statement number piece after ⊎ GoesOn w i reply.Step (loaded statement (Some number)) piece after ⊎ WaitsSo w i (loaded statement (Some number)) piece after) table' s'
     came_stepping statement number held (ended replies standing) piece table' s' x c = (
       x.0,
@@ -106,7 +106,7 @@ module _ {S : Type 0} (view : S → Visible) (Does : S → ℕ → Act → Answe
       (
         set_unfinished w i (loaded statement (Some number)),
         inr (inr (record { for = others; goes_on = record { told = c.told; left_is = refl } })),
-        subst (λ y. Agrees (set_unfinished w i (loaded statement (Some number))) y (view s') (Halts s')) (sym c.seat) (going statement number held stepping (loaded statement (Some number)) (λ objects todo' stopped u y. y) todo s' x),
+        subst (λ y. Agrees (set_unfinished w i (loaded statement (Some number))) y (view s') (Halts s')) (sym c.seat) (going statement number held is_held (loaded statement (Some number)) (λ objects todo' stopped u y. y) todo s' x),
       ),
     )
     came_stepping statement number held (stepped todo) piece table' s' x c = (
@@ -222,6 +222,7 @@ module _ {S : Type 0} (view : S → Visible) (Does : S → ℕ → Act → Answe
     takes (waits st n) standing (waiting todo) read eu es el stopped known a Goes It piece table' s' go g = tells i (reply.Error refusal.SessionWaiting) piece table' s' g
     takes (loaded st None) standing (stepping todo) read eu es el stopped known a Goes It piece table' s' go g = tells i (reply.Error refusal.SessionWaiting) piece table' s' g
     takes (loaded st (Some n)) standing (stepping todo) read eu es el stopped known a Goes It piece table' s' go g = tells i (reply.Error refusal.SessionWaiting) piece table' s' g
+    takes (loaded st (Some n)) standing (is_held todo) read eu es el stopped known a Goes It piece table' s' go g = tells i (reply.Error refusal.SessionWaiting) piece table' s' g
     takes _ standing _ read eu es el stopped known a Goes It piece table' s' go g = absurd a
 
     also : (P Q : World → Type 0) (table' : Table) (s' : S) → ((after : World) → P after → Q after) → Leads P table' s' → Leads Q table' s'
@@ -303,6 +304,8 @@ module _ {S : Type 0} (view : S → Visible) (Does : S → ℕ → Act → Answe
     steps_from (loaded st None) (stepping todo) piece table' s' stopped known a x = came_stepping st (latest w).number a.0 x.0 piece table' s'
         (first_steps view Does Stands Halts laws programs tell i w table st (latest w).number a.0 todo s x.0 s' (record { stage = stage stopped known a.0 a.1 a.3; starts = a.2 (latest w).number; number_is = now_number }) x.1) x.2
     steps_from (loaded st (Some n)) (stepping todo) piece table' s' stopped known a x = came_stepping st n a.0 x.0 piece table' s'
+        (steps_on view Does Stands Halts laws programs tell i w table st n a.0 todo s x.0 s' (record { stage = stage stopped known a.0 a.1 a.3; serves = a.2 }) x.1) x.2
+    steps_from (loaded st (Some n)) (is_held todo) piece table' s' stopped known a x = came_stepping st n a.0 x.0 piece table' s'
         (steps_on view Does Stands Halts laws programs tell i w table st n a.0 todo s x.0 s' (record { stage = stage stopped known a.0 a.1 a.3; serves = a.2 }) x.1) x.2
     steps_from _ _ piece table' s' stopped known a x = absurd a
 

@@ -11,7 +11,7 @@ use Rattle.txn_machine.specs.Acts.{Act}
 use Rattle.txn_machine.specs.Answers.{Answer}
 use Rattle.script_law.specs.Seen.{Txn, Visible, StepLaws}
 use Rattle.script_law.specs.Programs.{Todo, outside_with, Programs, ProgramLaws}
-use Rattle.script_law.specs.RunLines.{Line, idle, waiting, stepping, Table, set_seat, new_table, Outcome, ended, stuck, stepped, printed_later, seat_after, RunsOn, Tries, Pass, Passes, RunsLine, RunsLines, all_sessions}
+use Rattle.script_law.specs.RunLines.{Line, idle, waiting, stepping, held, Table, set_seat, new_table, Outcome, ended, stuck, stepped, printed_later, seat_run, RunsOn, Tries, Pass, Passes, RunsLine, RunsLines, all_sessions}
 use Rattle.script_law.specs.Laws.{AreEngines, TranscriptLaw}
 use Rattle.script_law.proofs.Growing.{same_grows}
 use Rattle.script_law.proofs.Agreeing.{SeatAgrees, Within, seat_within, was_alone, others_of, Agrees, objects_in, close}
@@ -44,7 +44,7 @@ module _ {S : Type 0} (view : S → Visible) (Does : S → ℕ → Act → Answe
       (runs_on view Does Stands Halts laws programs tell n w table statement number a.0 todo s some o mid
       (record { stage = record { stands = stands; stopped = stopped; known = known; others = others_of n w table (view s) (Halts s) h; within = a.3; held_grows = a.1 }; serves = a.2 }) r)
     where
-      by : (o : Outcome) → More others (set_seat table n (seat_after waiting o)) mid more table' s' → piece ≡ printed_later n o ++ more → ((left : Todo) → o ≡ stepped left → ⊥)
+      by : (o : Outcome) → More others (set_seat table n (seat_run o)) mid more table' s' → piece ≡ printed_later n o ++ more → ((left : Todo) → o ≡ stepped left → ⊥)
           → OnOutcome view Does Stands Halts laws programs tell n w table statement number a.0 o mid → Retried w piece table' s'
       by (ended replies standing) later is never x =
           let t = rest x.1.0 (set_seat table n (record { standing = standing; line = idle })) mid others more x.0 x.1.2 later in (
@@ -79,6 +79,7 @@ module _ {S : Type 0} (view : S → Visible) (Does : S → ℕ → Act → Answe
   tries n none idle w table s moved piece table' s' stands h eu stopped known a More rest r = rest w table s moved piece stands h r
   tries n (loaded statement None) (stepping todo) w table s moved piece table' s' stands h eu stopped known a More rest r = rest w table s moved piece stands h r
   tries n (loaded statement (Some number)) (stepping todo) w table s moved piece table' s' stands h eu stopped known a More rest r = rest w table s moved piece stands h r
+  tries n (loaded statement (Some number)) (held todo) w table s moved piece table' s' stands h eu stopped known a More rest r = rest w table s moved piece stands h r
   tries n _ _ w table s moved piece table' s' stands h eu stopped known a More rest r = absurd a
 
   pass : (ns : List ℕ) (w : World) (table : Table) (s : S) (moved : ℕ) (piece : List ℕ) (table' : Table) (s' : S) → Stands s → Agrees w table (view s) (Halts s)

@@ -24,8 +24,9 @@ pub data Line : Type 0 where
   idle : Line
   -- a line `N: ..` of which a step was blocked
   waiting : Todo → Line
-  -- a line `N/ ..`
+  -- a line `N/ ..`, and one of which the last step was blocked
   stepping : Todo → Line
+  held : Todo → Line
 
 pub record Seat : Type 0 where
   pub standing : Standing
@@ -53,10 +54,20 @@ printed session (stuck sessions todo) = reply_lines session (reply.Wait sessions
 printed session (stepped todo) = reply_lines session (reply.Step ∷ [])
 
 -- how the session stands is in its unfinished statement, if it has one
-abbrev pub seat_after : (Todo → Line) → Outcome → Seat
-seat_after kind (ended replies standing) = record { standing = standing; line = idle }
-seat_after kind (stuck sessions todo) = record { standing = outside_with []; line = kind todo }
-seat_after kind (stepped todo) = record { standing = outside_with []; line = kind todo }
+abbrev pub under : Line → Seat
+under line = record { standing = outside_with []; line = line }
+
+-- after a line `N: ..` or another try of it
+abbrev pub seat_run : Outcome → Seat
+seat_run (ended replies standing) = record { standing = standing; line = idle }
+seat_run (stuck sessions todo) = under (waiting todo)
+seat_run (stepped todo) = under (waiting todo)
+
+-- after a line `N/ ..` or `N+`
+abbrev pub seat_stepped : Outcome → Seat
+seat_stepped (ended replies standing) = record { standing = standing; line = idle }
+seat_stepped (stuck sessions todo) = under (held todo)
+seat_stepped (stepped todo) = under (stepping todo)
 
 -- a session that is tried again prints nothing where it waits on
 abbrev pub printed_later : ℕ → Outcome → List ℕ
@@ -113,6 +124,7 @@ open_at seat t = elim seat.line [
   | idle ↦ elim seat.standing.mode [ None ↦ None | Some mode ↦ t ]
   | waiting todo ↦ t
   | stepping todo ↦ t
+  | held todo ↦ t
 ]
 
 -- a name and a number, as a line of the engine's own is answered
@@ -144,20 +156,20 @@ module _ {S : Type 0} (Does : S → ℕ → Act → Answer → S → Type 0) (pr
     pub left : s' ≡ s
 
   -- the session's statement came so far
-  pub record Comes (session : ℕ) (kind : Todo → Line) (o : Outcome) (table : Table) (piece : List ℕ) (table' : Table) : Type 0 where
+  pub record Comes (session : ℕ) (seat_after : Outcome → Seat) (o : Outcome) (table : Table) (piece : List ℕ) (table' : Table) : Type 0 where
     pub told : piece ≡ printed session o
-    pub seat : table' ≡ set_seat table session (seat_after kind o)
+    pub seat : table' ≡ set_seat table session (seat_after o)
 
   abbrev pub Rel : Type 1
   Rel = Table → S → List ℕ → Table → S → Type 0
 
   abbrev pub RunsIt : ℕ → StatementTree → Standing → Rel
   RunsIt session statement standing table s piece table' s' =
-      (moved : ℕ) × (o : Outcome) × RunsOn session (programs.start standing statement) s moved o s' × Comes session waiting o table piece table'
+      (moved : ℕ) × (o : Outcome) × RunsOn session (programs.start standing statement) s moved o s' × Comes session seat_run o table piece table'
 
   abbrev pub LoadsIt : ℕ → StatementTree → Standing → Rel
   LoadsIt session statement standing table s piece table' s' =
-      (s' ≡ s) × Comes session stepping (stepped (programs.start standing statement)) table piece table'
+      (s' ≡ s) × Comes session seat_stepped (stepped (programs.start standing statement)) table piece table'
 
   -- a statement that is given to a session is refused by its mode and savepoints, or goes
   abbrev pub RefusedOr : ℕ → Option Refusal → Rel → Rel
@@ -171,7 +183,8 @@ module _ {S : Type 0} (Does : S → ℕ → Act → Answer → S → Type 0) (pr
   Given session standing line read Goes = Tells session (reply.Error refusal.SessionWaiting)
 
   abbrev pub Stepped : ℕ → Line → Rel
-  Stepped session (stepping todo) table s piece table' s' = (o : Outcome) × StepsOnce session todo s o s' × Comes session stepping o table piece table'
+  Stepped session (stepping todo) table s piece table' s' = (o : Outcome) × StepsOnce session todo s o s' × Comes session seat_stepped o table piece table'
+  Stepped session (held todo) table s piece table' s' = (o : Outcome) × StepsOnce session todo s o s' × Comes session seat_stepped o table piece table'
   Stepped session line table s piece table' s' = Tells 0 (reply.Error refusal.BadLine) table s piece table' s'
 
   pub record Rests (table : Table) (s : S) (piece : List ℕ) (table' : Table) (s' : S) : Type 0 where
@@ -213,7 +226,7 @@ module _ {S : Type 0} (Does : S → ℕ → Act → Answer → S → Type 0) (pr
   abbrev pub Tries : ℕ → Line → ℕ → (ℕ → Rel) → Rel
   Tries n (waiting todo) moved More table s piece table' s' =
       (some : ℕ) × (o : Outcome) × (mid : S) × (others : ℕ) × (more : List ℕ) × RunsOn n todo s some o mid
-      × More others (set_seat table n (seat_after waiting o)) mid more table' s'
+      × More others (set_seat table n (seat_run o)) mid more table' s'
       × (piece ≡ printed_later n o ++ more) × (moved ≡ some + others)
   Tries n line moved More table s piece table' s' = More moved table s piece table' s'
 
@@ -259,6 +272,7 @@ module _ {S : Type 0} (Does : S → ℕ → Act → Answer → S → Type 0) (pr
   -- a session's request is cancelled, if it waits for one, and its transaction rolled back, if one is open
   pub data Leaves (session : ℕ) : Line → Option Txn → S → S → Type 0 where
     cancels : (todo : Todo) (t : Option Txn) (s mid after : S) (said : Answer) → Does s session act.Cancel said mid → Leaves session idle t mid after → Leaves session (waiting todo) t s after
+    cancels_held : (todo : Todo) (t : Option Txn) (s mid after : S) (said : Answer) → Does s session act.Cancel said mid → Leaves session idle t mid after → Leaves session (held todo) t s after
     steps_no_more : (todo : Todo) (t : Option Txn) (s after : S) → Leaves session idle t s after → Leaves session (stepping todo) t s after
     has_none : (s : S) → Leaves session idle None s s
     rolls_back : (t : Txn) (s after : S) → RollsBack session (length t.kept) s after → Leaves session idle (Some t) s after
