@@ -222,8 +222,8 @@ module _ (works : Works) (laws : WorkLaws works) (o : Open) (t : Txn) (standing 
       (told_as true o t (record standing { kept = 0 + standing.kept }) statement (map reply.Row listed ++ reply.Done count ∷ [])
       (λ db. record (lone o db).1 { db = keep_all [] (lone o db).1.db; kept = (lone o db).1.kept ++ [] }) at.is at.mode_is at.copy_is
       (λ db truth. inside_accepted o.mode statement (lone o db).1 (not_refused works laws true o t standing at statement number e db truth) ∙ accepted_work statement (lone o db).1 w
-        ∙ ap (λ m. told_of m (lone o db).1) (laws.lists o.mode statement w standing.copy listed count is (lone o db).1.db
-          ((fine_ran works laws true o t standing at statement number db truth).0.1 ∙ truth.schema ∙ sym at.copy_is)))
+      ∙ ap (λ m. told_of m (lone o db).1) (laws.lists o.mode statement w standing.copy listed count is (lone o db).1.db
+      ((fine_ran works laws true o t standing at statement number db truth).0.1 ∙ truth.schema ∙ sym at.copy_is)))
       at.names (inl refl) (inl refl) (inl refl) (inl refl))
 
   work_halted : is_work statement ≡ true → refused_marked o.mode standing.saved statement ≡ None → (mode : Mode) → o.mode ≡ mode → (w : Work) → works.work o.mode standing.copy statement ≡ w

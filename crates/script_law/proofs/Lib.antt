@@ -14,3 +14,4 @@ pub mod Lone
 pub mod Inside
 pub mod Outside
 pub mod Right
+pub mod Leaving

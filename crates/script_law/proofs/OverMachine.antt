@@ -56,7 +56,9 @@ use Rattle.script_law.specs.Machine.{kept_seen, txn_seen, seen_of, DoesOf, IsSto
 use Rattle.script_law.proofs.Basics.{if_same, if_other}
 use Rattle.script_law.proofs.Agreeing.{objects_in}
 use Rattle.script_law.proofs.Showing.{changes_seen, in_order_is, ends_some, fold_push, sets_keep, IsMaking, Making, is_making, makes_none, making, Shown, shown}
+use Rattle.script_law.specs.Laws.{IsNew}
 use Rattle.script_law.proofs.Running.{transcript_law}
+use Rattle.script_law.proofs.Leaving.{end_law}
 
 -- ---- stories
 
@@ -494,6 +496,8 @@ machine_laws = record {
 
 pub machine_law : MachineLaw
 machine_law programs tell program_laws engines db stored opening was_opened lines out after r =
-    transcript_law seen_of DoesOf IsReachedStory IsStopped programs tell machine_laws program_laws engines db lines (begun_story (opened_state opening (store.opened db stored))) after out
-    (record { db = db; view = stored; opening = opening; was_opened = was_opened; steps = []; tells = refl })
-    (record { origin_is = refl; none_committed = refl; none_open = λ session. refl }) r
+    let reached : IsReachedStory (begun_story (opened_state opening (store.opened db stored))) = record { db = db; view = stored; opening = opening; was_opened = was_opened; steps = []; tells = refl } in
+    let new : IsNew db (seen_of (begun_story (opened_state opening (store.opened db stored)))) = record { origin_is = refl; none_committed = refl; none_open = λ session. refl } in (
+      transcript_law seen_of DoesOf IsReachedStory IsStopped programs tell machine_laws program_laws engines db lines (begun_story (opened_state opening (store.opened db stored))) after out reached new r,
+      end_law seen_of DoesOf IsReachedStory IsStopped programs tell machine_laws program_laws engines db lines (begun_story (opened_state opening (store.opened db stored))) after out reached new r,
+    )

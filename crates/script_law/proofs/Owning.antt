@@ -28,6 +28,17 @@ use Rattle.script_law.proofs.Agreeing.{job, Between, Within, between_within, Und
 use Rattle.script_law.proofs.Going.{Stays, Stage, OnOutcome, steps_on, first_runs, first_steps}
 use Rattle.script_law.proofs.Refusing.{refused_at, refused_goes, not_begin, outside_refused}
 
+-- nothing that is seen changes by it
+pub data IsIdle (e : Event) : Type 0 where
+  idles : e ≡ Idles → IsIdle e
+  fails : (why : EngineRefusal) → e ≡ Fails why → IsIdle e
+
+pub idle_open : (v : Visible) (t : Option Txn) (e : Event) → IsIdle e → open_after v t e ≡ t
+idle_open v None e (idles x) = ap (open_after v None) x
+idle_open v (Some t) e (idles x) = ap (txn_after t) x
+idle_open v None e (fails why x) = ap (open_after v None) x
+idle_open v (Some t) e (fails why x) = ap (txn_after t) x
+
 module _ {S : Type 0} (view : S → Visible) (Does : S → ℕ → Act → Answer → S → Type 0) (Stands Halts : S → Type 0) (laws : StepLaws view Does Stands Halts)
     (programs : Programs) (program_laws : ProgramLaws programs) (tell : EngineRefusal → Refusal) (engines : AreEngines tell) where
   -- a piece of this kind was printed, and all agree after it
@@ -314,20 +325,9 @@ module _ {S : Type 0} (view : S → Visible) (Does : S → ℕ → Act → Answe
 
   -- ---- steps of the cleaner
 
-  -- nothing that is seen changes by it
-  data IsIdle (e : Event) : Type 0 where
-    idles : e ≡ Idles → IsIdle e
-    fails : (why : EngineRefusal) → e ≡ Fails why → IsIdle e
-
   idle_quiet : (e : Event) → IsIdle e → IsQuiet e
   idle_quiet e (idles x) = subst IsQuiet (sym x) tt
   idle_quiet e (fails why x) = subst IsQuiet (sym x) tt
-
-  idle_open : (v : Visible) (t : Option Txn) (e : Event) → IsIdle e → open_after v t e ≡ t
-  idle_open v None e (idles x) = ap (open_after v None) x
-  idle_open v (Some t) e (idles x) = ap (txn_after t) x
-  idle_open v None e (fails why x) = ap (open_after v None) x
-  idle_open v (Some t) e (fails why x) = ap (txn_after t) x
 
   idle_step : (w : World) (table : Table) (s s' : S) (a : Act) (said : Answer) → Stands s → Agrees w table (view s) (Halts s) → Does s 0 a said s' → IsIdle (event a said)
       → Stands s' × Agrees w table (view s') (Halts s')

@@ -3,6 +3,7 @@ use Rattle.std.specs.Prelude.{◌≡◌, ℕ, zero, suc, ◌+◌, Bool, false, I
 use mathlib.Core.Path.{refl, sym, ap, subst, ◌∙◌}
 use mathlib.Core.Logic.{inl}
 use Rattle.std.proofs.lemmas.List.{append_assoc}
+use Rattle.iv_meaning.specs.Database.{Database}
 use Rattle.iv_meaning.specs.Said.{Said}
 use Rattle.iv_meaning.specs.Serial.{World, Unfinished, none, waits, loaded, opened_with, LaterPieces, Answers, IsEnd, WasAlone, IsSerialFrom}
 use Rattle.iv_types.specs.declared.refusal.Refusal.{Refusal}
@@ -12,7 +13,7 @@ use Rattle.txn_machine.specs.Answers.{Answer}
 use Rattle.script_law.specs.Seen.{Txn, Visible, StepLaws}
 use Rattle.script_law.specs.Programs.{Todo, outside_with, Programs, ProgramLaws}
 use Rattle.script_law.specs.RunLines.{Line, idle, waiting, stepping, held, Table, set_seat, new_table, Outcome, ended, stuck, stepped, printed_later, seat_run, RunsOn, Tries, Pass, Passes, RunsLine, RunsLines, all_sessions}
-use Rattle.script_law.specs.Laws.{AreEngines, TranscriptLaw}
+use Rattle.script_law.specs.Laws.{IsNew, AreEngines, TranscriptLaw}
 use Rattle.script_law.proofs.Growing.{same_grows}
 use Rattle.script_law.proofs.Agreeing.{SeatAgrees, Within, seat_within, was_alone, others_of, Agrees, objects_in, close}
 use Rattle.script_law.proofs.Going.{OnOutcome, runs_on}
@@ -99,7 +100,7 @@ module _ {S : Type 0} (view : S → Visible) (Does : S → ℕ → Act → Answe
 
   -- ---- lines
 
-  one_line : (all : List ℕ) (said : Said) (w : World) (table : Table) (s : S) (piece : List ℕ) (table' : Table) (s' : S) → Stands s → Agrees w table (view s) (Halts s)
+  pub one_line : (all : List ℕ) (said : Said) (w : World) (table : Table) (s : S) (piece : List ℕ) (table' : Table) (s' : S) → Stands s → Agrees w table (view s) (Halts s)
       → RunsLine Does programs tell all said table s piece table' s' → Stands s' × ((after : World) × Answers said w piece after × Agrees after table' (view s') (Halts s'))
   one_line all said w table s piece table' s' stands h r =
       let x = own view Does Stands Halts laws programs program_laws tell engines said w table s stands h r.own r.mid_table r.mid r.first in
@@ -120,11 +121,14 @@ module _ {S : Type 0} (view : S → Visible) (Does : S → ℕ → Act → Answe
       let x = one_line all said w table s piece mid_table mid stands h one in
       (piece, x.1.0, rest, x.1.1, is, lines all more x.1.0 mid_table mid rest table' s' x.0 x.1.2 others)
 
+pub begun_agrees : {S : Type 0} (view : S → Visible) (Halts : S → Type 0) (db : Database) (s : S) → IsNew db (view s) → Agrees (opened_with db) new_table (view s) (Halts s)
+begun_agrees view Halts db s new = record {
+  origin = sym new.origin_is;
+  history = sym new.none_committed;
+  seats = λ j. (false, λ x. absurd (cc), (inl (new.none_open j), refl, (objects_in (view s), refl)));
+}
+
 pub transcript_law : {S : Type 0} (view : S → Visible) (Does : S → ℕ → Act → Answer → S → Type 0) (Stands Halts : S → Type 0) (programs : Programs) (tell : EngineRefusal → Refusal)
     → TranscriptLaw view Does Stands Halts programs tell
 transcript_law view Does Stands Halts programs tell laws program_laws engines db script s after out stands new r =
-    lines view Does Stands Halts laws programs program_laws tell engines all_sessions script (opened_with db) new_table s out r.table r.last stands (record {
-      origin = sym new.origin_is;
-      history = sym new.none_committed;
-      seats = λ j. (false, λ x. absurd (cc), (inl (new.none_open j), refl, (objects_in (view s), refl)));
-    }) r.of_lines
+    lines view Does Stands Halts laws programs program_laws tell engines all_sessions script (opened_with db) new_table s out r.table r.last stands (begun_agrees view Halts db s new) r.of_lines

@@ -1,7 +1,8 @@
 -- No clause of `run` rests on this module: it serves contracts between crates.
 --
 -- The machine of transactions as its sessions see it.
-use Rattle.std.specs.Prelude.{◌≡◌, ℕ, List, [], ◌∷◌, Option, Some, None, IsSome}
+use Rattle.std.specs.Prelude.{◌≡◌, ◌⊎◌, ℕ, List, [], ◌∷◌, Option, Some, None, IsSome}
+use Rattle.std.specs.List.{Contains}
 use Rattle.std.specs.Option.{option_map}
 use Rattle.iv_types.specs.declared.refusal.Refusal.{Refusal}
 use Rattle.iv_types.specs.declared.refusal.EngineRefusal.{EngineRefusal}
@@ -22,7 +23,7 @@ use Rattle.txn_machine.specs.Alone.{Told, Story, story_after, begun_story}
 use Rattle.txn_machine.specs.Laws.{IsOpened}
 use Rattle.script_law.specs.Seen.{Txn, Visible}
 use Rattle.script_law.specs.Programs.{Programs, ProgramLaws}
-use Rattle.script_law.specs.RunLines.{RunsScript}
+use Rattle.script_law.specs.RunLines.{RunsScript, all_sessions}
 use Rattle.script_law.specs.Laws.{AreEngines}
 
 -- of kept steps: a change, or a pay
@@ -48,9 +49,11 @@ DoesOf story session a said after = (s : State) × Step story.state session a sa
 abbrev pub IsStopped : Story → Type 0
 IsStopped story = IsSome story.state.stop
 
--- what a script prints that is run over the machine, from an opened database, is serial
+-- What a script prints that is run over the machine, from an opened database, is serial; after its end no transaction is open, unless
+-- the engine is stopped.
 abbrev pub MachineLaw : Type 0
 MachineLaw = (programs : Programs) (tell : EngineRefusal → Refusal) → ProgramLaws programs → AreEngines tell
     → (db : Database) (view : ViewRows) (opening : Opening) → IsOpened db view → (lines : List Said) (out : List ℕ) (after : Story)
     → RunsScript DoesOf programs tell seen_of lines (begun_story (opened_state opening (opened db view))) out after
     → IsSerialFrom (opened_with db) lines out
+    × ((session : ℕ) → Contains all_sessions session → ((seen_of after).open_of session ≡ None) ⊎ IsStopped after)

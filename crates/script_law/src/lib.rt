@@ -4,7 +4,7 @@
 ghost use Rattle.std.specs.Prelude.{ℕ};
 ghost use Rattle.iv_types.specs.declared.refusal.Refusal.{Refusal};
 ghost use Rattle.iv_types.specs.declared.refusal.EngineRefusal.{EngineRefusal};
-ghost use Rattle.script_law.specs.Laws.{ProgramsLaw, TranscriptLaw};
+ghost use Rattle.script_law.specs.Laws.{EndLaw, ProgramsLaw, TranscriptLaw};
 ghost use Rattle.script_law.specs.Machine.{MachineLaw};
 ghost use Rattle.script_law.specs.Programs.{Programs};
 
@@ -34,6 +34,11 @@ pub trait Engine {
 /// What a run of lines prints is a serial transcript.
 pub fn transcript_law<E: Engine>()
     ensures { (programs : Programs) (tell : EngineRefusal → Refusal) → TranscriptLaw E.view E.does E.stands E.halts programs tell }
+{}
+
+/// After the end of the input no transaction is open, unless the engine is stopped.
+pub fn end_law<E: Engine>()
+    ensures { (programs : Programs) (tell : EngineRefusal → Refusal) → EndLaw E.view E.does E.stands E.halts programs tell }
 {}
 
 /// What a script prints that is run over the machine of transactions is a serial transcript.
