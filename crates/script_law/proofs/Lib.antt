@@ -15,3 +15,4 @@ pub mod Inside
 pub mod Outside
 pub mod Right
 pub mod Leaving
+pub mod Cleaning

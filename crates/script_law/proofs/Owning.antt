@@ -20,7 +20,7 @@ use Rattle.txn_machine.specs.Answers as answer
 use Rattle.txn_machine.specs.Answers.{Answer}
 use Rattle.script_law.specs.Seen.{Event, Fails, Idles, event, Txn, txn_after, Visible, open_after, visible_after, committed, IsTruthful, StepLaws}
 use Rattle.script_law.specs.Programs.{Standing, outside_with, Todo, says, asks, Serves, Starts, Programs, ProgramLaws, Grows, objects_of, with_told}
-use Rattle.script_law.specs.RunLines.{Line, seat_run, seat_stepped, idle, waiting, stepping, held as is_held, Seat, Table, set_seat, Outcome, ended, stuck, stepped, next_of, RunsOn, has_ended, is_blocked, goes_on, Tells, Comes, RunsIt, LoadsIt, RefusedOr, Given, Stepped, Cleans, cleaned_all, cleaned_one, clean_fails, CleansLine, pruned, prune_fails, SavesLine, saved, save_fails, Own}
+use Rattle.script_law.specs.RunLines.{Line, seat_run, seat_stepped, idle, waiting, stepping, held as is_held, Seat, Table, set_seat, Outcome, ended, stuck, stepped, next_of, RunsOn, has_ended, is_blocked, goes_on, Tells, Comes, RunsIt, LoadsIt, RefusedOr, Given, Stepped, Cleaned, cleaned_text, Cleans, cleaned_all, cleaned_one, clean_fails, CleansLine, pruned, prune_fails, SavesLine, saved, save_fails, Own}
 use Rattle.script_law.specs.Laws.{AreEngines}
 use Rattle.script_law.proofs.Basics.{IsQuiet, quiet_history, if_same, if_other, base_same, latest_same, outside_ends, inside_goes}
 use Rattle.script_law.proofs.Growing.{same_grows, step_grows}
@@ -354,23 +354,25 @@ module _ {S : Type 0} (view : S → Visible) (Does : S → ℕ → Act → Answe
           (λ n. if_other j 0 (open_after (view s) ((view s).open_of 0) e) ((view s).open_of j) n)
 
   -- `clean` prints a count or a refusal, and all agree on the same
-  pub cleaned : (w : World) (table : Table) (removed : ℕ) (s : S) (piece : List ℕ) (s' : S) → Stands s → Agrees w table (view s) (Halts s) → Cleans Does programs tell removed s piece s'
-      → (Counts w (codes "CLEAN") (λ k. Unit {0}) piece w ⊎ IsPassedOver w piece w) × Stands s' × Agrees w table (view s') (Halts s')
+  abbrev CleansSo : World → Table → Cleaned → S → Type 0
+  CleansSo w table end s' =
+      (Counts w (codes "CLEAN") (λ k. Unit {0}) (cleaned_text Does programs tell end) w ⊎ IsPassedOver w (cleaned_text Does programs tell end) w) × Stands s' × Agrees w table (view s') (Halts s')
+
+  pub cleaned : (w : World) (table : Table) (removed : ℕ) (s : S) (end : Cleaned) (s' : S) → Stands s → Agrees w table (view s) (Halts s) → Cleans Does programs tell removed s end s' → CleansSo w table end s'
   cleaned w table _ _ _ _ stands h (cleaned_all removed s after does) =
       let x = idle_step w table s after act.Clean (answer.Cleaned 0) stands h does (idles refl) in
       (inl (record { count = removed; told = refl; right = tt; left = refl }), x.0, x.1)
-  cleaned w table _ _ _ _ stands h (cleaned_one removed s mid after piece does more) =
+  cleaned w table _ _ _ _ stands h (cleaned_one removed s mid after end does more) =
       let x = idle_step w table s mid act.Clean (answer.Cleaned 1) stands h does (idles refl) in
-      cleaned w table (removed + 1) mid piece after x.0 x.1 more
+      cleaned w table (removed + 1) mid end after x.0 x.1 more
   cleaned w table _ _ _ _ stands h (clean_fails removed s after why does) =
       let x = idle_step w table s after act.Clean (answer.Refused why) stands h does (fails why refl) in
       (inr (record { why = tell why; engines = engines why; tells = record { told = refl; left = refl } }), x.0, x.1)
 
-  pub cleaned_line : (w : World) (table : Table) (s : S) (piece : List ℕ) (s' : S) → Stands s → Agrees w table (view s) (Halts s) → CleansLine Does programs tell s piece s'
-      → (Counts w (codes "CLEAN") (λ k. Unit {0}) piece w ⊎ IsPassedOver w piece w) × Stands s' × Agrees w table (view s') (Halts s')
-  cleaned_line w table _ _ _ stands h (pruned s mid after piece does more) =
+  pub cleaned_line : (w : World) (table : Table) (s : S) (end : Cleaned) (s' : S) → Stands s → Agrees w table (view s) (Halts s) → CleansLine Does programs tell s end s' → CleansSo w table end s'
+  cleaned_line w table _ _ _ stands h (pruned s mid after end does more) =
       let x = idle_step w table s mid act.Prune answer.Pruned stands h does (idles refl) in
-      cleaned w table 0 mid piece after x.0 x.1 more
+      cleaned w table 0 mid end after x.0 x.1 more
   cleaned_line w table _ _ _ stands h (prune_fails s after why does) =
       let x = idle_step w table s after act.Prune (answer.Refused why) stands h does (fails why refl) in
       (inr (record { why = tell why; engines = engines why; tells = record { told = refl; left = refl } }), x.0, x.1)
@@ -393,8 +395,8 @@ module _ {S : Type 0} (view : S → Visible) (Does : S → ℕ → Act → Answe
   own (loads i read) w table s stands h piece table' s' x = own_loads i w table s stands h read piece table' s' x
   own (steps i) w table s stands h piece table' s' x = own_steps i w table s stands h piece table' s' x
   own cleans w table s stands h piece table' s' x =
-      let y = cleaned_line w table s piece s' stands h x.1 in
-      (y.1, (w, y.0, subst (λ z. Agrees w z (view s') (Halts s')) (sym x.0) y.2))
+      let y = cleaned_line w table s x.1.0 s' stands h x.1.2 in
+      (y.1, (w, subst (λ l. Counts w (codes "CLEAN") (λ k. Unit {0}) l w ⊎ IsPassedOver w l w) (sym x.1.1) y.0, subst (λ z. Agrees w z (view s') (Halts s')) (sym x.0) y.2))
   own checkpoints w table s stands h piece table' s' x =
       let y = saved_line w table s piece s' stands h x.1 in
       (y.1, (w, y.0, subst (λ z. Agrees w z (view s') (Halts s')) (sym x.0) y.2))

@@ -1,7 +1,7 @@
 -- No clause of `run` rests on this module: it serves contracts between crates.
 --
 -- The machine of transactions as its sessions see it.
-use Rattle.std.specs.Prelude.{◌≡◌, ◌⊎◌, ℕ, List, [], ◌∷◌, Option, Some, None, IsSome}
+use Rattle.std.specs.Prelude.{◌≡◌, ◌⊎◌, ℕ, ◌+◌, List, [], ◌∷◌, Option, Some, None, IsSome}
 use Rattle.std.specs.List.{Contains}
 use Rattle.std.specs.Option.{option_map}
 use Rattle.iv_types.specs.declared.refusal.Refusal.{Refusal}
@@ -10,12 +10,14 @@ use Rattle.iv_meaning.specs.Schema.{Schema}
 use Rattle.iv_meaning.specs.Database.{Database}
 use Rattle.iv_meaning.specs.Said.{Said}
 use Rattle.iv_meaning.specs.Serial.{opened_with, IsSerialFrom}
+use Rattle.table_laws.specs.Place.{Place}
 use Rattle.txn_machine.specs.Acts.{Act}
 use Rattle.txn_machine.specs.Answers.{Answer}
 use Rattle.txn_machine.specs.Deltas.{RowChange}
 use Rattle.txn_machine.specs.Keeping.{KeptStep, Put, Pay, Open}
 use Rattle.txn_machine.specs.Stored.{ViewRows}
 use Rattle.txn_machine.specs.Store.{opened, schema_of}
+use Rattle.txn_machine.specs.Ghosts.{IsCleanable}
 use Rattle.txn_machine.specs.Log.{Opening}
 use Rattle.txn_machine.specs.State.{State, opened_state}
 use Rattle.txn_machine.specs.Steps.{Step}
@@ -23,7 +25,7 @@ use Rattle.txn_machine.specs.Alone.{Told, Story, story_after, begun_story}
 use Rattle.txn_machine.specs.Laws.{IsOpened}
 use Rattle.script_law.specs.Seen.{Txn, Visible}
 use Rattle.script_law.specs.Programs.{Programs, ProgramLaws}
-use Rattle.script_law.specs.RunLines.{RunsScript, all_sessions}
+use Rattle.script_law.specs.RunLines.{RunsScript, all_sessions, all_removed, CleansLine}
 use Rattle.script_law.specs.Laws.{AreEngines}
 
 -- of kept steps: a change, or a pay
@@ -48,6 +50,11 @@ DoesOf story session a said after = (s : State) × Step story.state session a sa
 
 abbrev pub IsStopped : Story → Type 0
 IsStopped story = IsSome story.state.stop
+
+-- a `clean` that is answered a count removed so many ghosts, and none is left that could be removed
+abbrev pub CleanLaw : Type 0
+CleanLaw = (programs : Programs) (tell : EngineRefusal → Refusal) (s after : Story) (count : ℕ) → CleansLine DoesOf programs tell s (all_removed count) after
+    → (after.state.cleaner.removed ≡ s.state.cleaner.removed + count) × ((place : Place) → IsCleanable after.state.store place → ⊥)
 
 -- What a script prints that is run over the machine, from an opened database, is serial; after its end no transaction is open, unless
 -- the engine is stopped.

@@ -127,6 +127,11 @@ open_at seat t = elim seat.line [
   | held todo ↦ t
 ]
 
+-- how a `clean` ended: so many ghosts were removed and there is none left, or a step was refused
+pub data Cleaned : Type 0 where
+  all_removed : ℕ → Cleaned
+  removal_refused : EngineRefusal → Cleaned
+
 -- a name and a number, as a line of the engine's own is answered
 abbrev pub counted_line : List ℕ → ℕ → List ℕ
 counted_line word count = word ++ (codes " " ++ (decimal count ++ codes "\n"))
@@ -192,17 +197,20 @@ module _ {S : Type 0} (Does : S → ℕ → Act → Answer → S → Type 0) (pr
     pub table_left : table' ≡ table
     pub left : s' ≡ s
 
-  -- the cleaner's ghosts are removed one by one until there is none; a refusal ends it
-  pub data Cleans : ℕ → S → List ℕ → S → Type 0 where
-    cleaned_all : (removed : ℕ) (s after : S) → Does s 0 act.Clean (answer.Cleaned 0) after → Cleans removed s (counted_line (codes "CLEAN") removed) after
-    cleaned_one : (removed : ℕ) (s mid after : S) (piece : List ℕ) → Does s 0 act.Clean (answer.Cleaned 1) mid → Cleans (removed + 1) mid piece after → Cleans removed s piece after
-    clean_fails : (removed : ℕ) (s after : S) (why : EngineRefusal) → Does s 0 act.Clean (answer.Refused why) after
-        → Cleans removed s (reply_lines 0 (reply.Error (tell why) ∷ [])) after
+  -- ghosts are removed one by one until there is none; a refusal ends it
+  pub data Cleans : ℕ → S → Cleaned → S → Type 0 where
+    cleaned_all : (removed : ℕ) (s after : S) → Does s 0 act.Clean (answer.Cleaned 0) after → Cleans removed s (all_removed removed) after
+    cleaned_one : (removed : ℕ) (s mid after : S) (end : Cleaned) → Does s 0 act.Clean (answer.Cleaned 1) mid → Cleans (removed + 1) mid end after → Cleans removed s end after
+    clean_fails : (removed : ℕ) (s after : S) (why : EngineRefusal) → Does s 0 act.Clean (answer.Refused why) after → Cleans removed s (removal_refused why) after
 
   -- versions are dropped before
-  pub data CleansLine : S → List ℕ → S → Type 0 where
-    pruned : (s mid after : S) (piece : List ℕ) → Does s 0 act.Prune answer.Pruned mid → Cleans 0 mid piece after → CleansLine s piece after
-    prune_fails : (s after : S) (why : EngineRefusal) → Does s 0 act.Prune (answer.Refused why) after → CleansLine s (reply_lines 0 (reply.Error (tell why) ∷ [])) after
+  pub data CleansLine : S → Cleaned → S → Type 0 where
+    pruned : (s mid after : S) (end : Cleaned) → Does s 0 act.Prune answer.Pruned mid → Cleans 0 mid end after → CleansLine s end after
+    prune_fails : (s after : S) (why : EngineRefusal) → Does s 0 act.Prune (answer.Refused why) after → CleansLine s (removal_refused why) after
+
+  abbrev pub cleaned_text : Cleaned → List ℕ
+  cleaned_text (all_removed count) = counted_line (codes "CLEAN") count
+  cleaned_text (removal_refused why) = reply_lines 0 (reply.Error (tell why) ∷ [])
 
   pub data SavesLine : S → List ℕ → S → Type 0 where
     saved : (s after : S) (number : ℕ) → Does s 0 act.Checkpoint (answer.Saved number) after → SavesLine s (counted_line (codes "CHECKPOINT") number) after
@@ -217,7 +225,7 @@ module _ {S : Type 0} (Does : S → ℕ → Act → Answer → S → Type 0) (pr
   Own (loads session read) table s piece table' s' =
       Given session (table session).standing (table session).line read (LoadsIt session) table s piece table' s' ⊎ Tells session (reply.Error refusal.NoMemory) table s piece table' s'
   Own (steps session) table s piece table' s' = Stepped session (table session).line table s piece table' s'
-  Own cleans table s piece table' s' = (table' ≡ table) × CleansLine s piece s'
+  Own cleans table s piece table' s' = (table' ≡ table) × ((end : Cleaned) × (piece ≡ cleaned_text end) × CleansLine s end s')
   Own checkpoints table s piece table' s' = (table' ≡ table) × SavesLine s piece s'
 
   -- ---- sessions that are tried again

@@ -5,7 +5,7 @@ ghost use Rattle.std.specs.Prelude.{ℕ};
 ghost use Rattle.iv_types.specs.declared.refusal.Refusal.{Refusal};
 ghost use Rattle.iv_types.specs.declared.refusal.EngineRefusal.{EngineRefusal};
 ghost use Rattle.script_law.specs.Laws.{EndLaw, ProgramsLaw, TranscriptLaw};
-ghost use Rattle.script_law.specs.Machine.{MachineLaw};
+ghost use Rattle.script_law.specs.Machine.{CleanLaw, MachineLaw};
 ghost use Rattle.script_law.specs.Programs.{Programs};
 
 /// An engine of steps, as its states.
@@ -49,4 +49,9 @@ pub fn machine_law()
 /// The programs of all statements are right: what they tell is what a lone transaction is told.
 pub fn programs_law()
     ensures { ProgramsLaw }
+{}
+
+/// What `clean` counts is what the machine's cleaner removed, and none is left.
+pub fn clean_law()
+    ensures { CleanLaw }
 {}
