@@ -108,6 +108,8 @@ impl Stepper for PlainEngine {
 
     ghost only_now = { λ _ _ no. no };
 
+    ghost longer = { λ _ _ _ _ _ no. no };
+
     ghost counts_in = { λ _. none_below };
 
     fn step(&mut self, step: &Step) -> Answer {

@@ -1,21 +1,23 @@
 -- No clause of `run` rests on this module: it serves contracts between crates.
 --
 -- What a crash during a step may recover.
-use Rattle.std.specs.Prelude.{◌≡◌, ◌⊎◌, ℕ, ◌≤◌, List, None}
+use Rattle.std.specs.Prelude.{◌≡◌, ◌⊎◌, ℕ, ◌≤◌, false, List, None}
 use Rattle.iv_meaning.specs.Database.{Database}
 use Rattle.txn_machine.specs.Answers.{Answer}
 use Rattle.txn_machine.specs.Store.{Effect, committed, run}
 use Rattle.txn_machine.specs.Ghosts.{the_views}
-use Rattle.txn_machine.specs.State.{State}
+use Rattle.txn_machine.specs.State.{State, is_fault}
 use Rattle.txn_machine.specs.Steps.{Says}
 use Rattle.txn_book.specs.declared.step.Step.{Step}
-use Rattle.txn_book.specs.Acts.{act_of}
+use Rattle.txn_book.specs.declared.step.Answer.{Answer as BookAnswer}
+use Rattle.txn_book.specs.Acts.{act_of, answer_of}
 
--- What a step of an engine that is not stopped may leave committed, by any answer that it can have: a Commit or a CREATE that
--- the disk fails may be recovered with its entry or without it.
-pub record MayCommit (s : State) (step : Step) (db : Database) : Type 0 where
+-- What a step of an engine that is not stopped may leave committed: what it was told, or, where the disk fails a Commit or a
+-- CREATE, its entry all the same.
+pub record MayCommit (s : State) (step : Step) (told : BookAnswer) (db : Database) : Type 0 where
   pub runs : s.stop ≡ None
   pub said : Answer
+  pub of_answer : is_fault (answer_of told) ≡ false → said ≡ answer_of told
   pub effects : List Effect
   pub says : Says s step.session (act_of step.act) said effects
   pub is : db ≡ committed (run the_views s.store step.session effects)

@@ -8,6 +8,8 @@ use Rattle.txn_machine.specs.Store.{committed}
 use Rattle.txn_machine.specs.State.{State, is_fault}
 use Rattle.txn_machine.specs.May.{May}
 use Rattle.txn_machine.specs.Steps as machine
+use Rattle.txn_machine.specs.Answers as machine_answer
+use Rattle.iv_types.specs.declared.refusal.EngineRefusal.TheVariants as refusal
 use Rattle.txn_book.specs.declared.step.Step.{Step}
 use Rattle.txn_book.specs.declared.step.Answer.{Answer}
 use Rattle.txn_book.specs.Acts.{act_of, answer_of}
@@ -29,6 +31,10 @@ pub record Moves (Stands : State → Type 0) (MayRecover : Database → Type 0) 
   pub does : machine.Step s step.session (act_of step.act) (answer_of said) after
   pub stands : Stands after
   pub durable : s.stop ≡ None → is_fault (answer_of said) ≡ false → (db : Database) → MayRecover db → db ≡ committed after.store
+
+-- an engine that gives up answers want of memory
+abbrev pub IsWant : Answer → Type 0
+IsWant said = answer_of said ≡ machine_answer.Refused refusal.NoMemory
 
 -- the disk's count of faults rose where the answer tells a fault, and stood else
 pub record CountsFault (said : Answer) (before now : ℕ) : Type 0 where

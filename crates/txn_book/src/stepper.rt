@@ -6,7 +6,7 @@ ghost use Rattle.txn_machine.specs.Store.{committed};
 ghost use Rattle.txn_machine.specs.State.{State};
 ghost use Rattle.txn_machine.specs.Laws.{IsReached};
 ghost use Rattle.txn_book.specs.Acts.{last_refusal};
-ghost use Rattle.txn_book.specs.Moves.{IsAsked, IsAskable, Moves, CountsFault};
+ghost use Rattle.txn_book.specs.Moves.{IsAsked, IsAskable, IsWant, Moves, CountsFault};
 ghost use Rattle.txn_book.specs.Crashes.{MayCommit, Elapses};
 
 use crate::step::{Answer, LastRefusal, Step};
@@ -16,8 +16,8 @@ pub trait Stepper {
     /// Which states the engine is in, by the step relation of many open transactions.
     ghost stands: { Self → State → Type 0 };
 
-    /// Holds where the engine has given up, for want of memory. Nothing is told of it any more. An engine that never gives
-    /// up has `⊥` here.
+    /// Holds where the engine has given up, for want of memory or at what it is not built for, and nothing is told of it any
+    /// more. An engine that never gives up has `⊥` here.
     ghost gave_up: { Self → Type 0 };
 
     /// How often the engine's disk has failed. The count stands still at the end of a `u64`.
@@ -37,8 +37,9 @@ pub trait Stepper {
         requires { gave_up self.old ⊎ IsAskable (stands self.old) step.now }
         ensures moves { (s : State) → stands self.old s → IsAsked s step.now → gave_up self.new ⊎ Moves (stands self.new) (may_recover self.new) s step.now result }
         ensures ended { gave_up self.old → gave_up self.new }
+        ensures gave { gave_up self.new → IsWant result }
         ensures cause { CountsFault result (faults self.old) (faults self.new) }
-        ensures time { (s : State) → stands self.old s → IsAsked s step.now → gave_up self.new ⊎ Elapses (MayCommit s step.now) (moment self.old) (moment self.new) (recovered_since self.old) (recovered_since self.new) };
+        ensures time { (s : State) → stands self.old s → IsAsked s step.now → gave_up self.new ⊎ Elapses (MayCommit s step.now result) (moment self.old) (moment self.new) (recovered_since self.old) (recovered_since self.new) };
 
     /// How many steps were done.
     fn steps_done(&self) -> u64
@@ -63,7 +64,10 @@ pub trait Stepper {
     /// Since this moment there is no other.
     ghost only_now: { (engine : Self) (db : Database) → recovered_since engine (moment engine) db → may_recover engine db };
 
-    /// The count of faults is a `u64`, so it never falls.
+    /// What a crash might have recovered since a moment, it might have since any earlier one.
+    ghost longer: { (engine : Self) (t u : ℕ) (db : Database) → t ≤ u → recovered_since engine u db → recovered_since engine t db };
+
+    /// The count of faults is a `u64`; with `cause` it never falls.
     ghost counts_in: { (engine : Self) → faults engine < 2 ^ 64 };
 }
 
@@ -72,8 +76,9 @@ pub fn do_step<S: Stepper>(engine: &mut S, step: Step) -> Answer
     requires { S.gave_up engine.old ⊎ IsAskable (S.stands engine.old) step }
     ensures moves { (s : State) → S.stands engine.old s → IsAsked s step → S.gave_up engine.new ⊎ Moves (S.stands engine.new) (S.may_recover engine.new) s step result }
     ensures ended { S.gave_up engine.old → S.gave_up engine.new }
+    ensures gave { S.gave_up engine.new → IsWant result }
     ensures cause { CountsFault result (S.faults engine.old) (S.faults engine.new) }
-    ensures time { (s : State) → S.stands engine.old s → IsAsked s step → S.gave_up engine.new ⊎ Elapses (MayCommit s step) (S.moment engine.old) (S.moment engine.new) (S.recovered_since engine.old) (S.recovered_since engine.new) }
+    ensures time { (s : State) → S.stands engine.old s → IsAsked s step → S.gave_up engine.new ⊎ Elapses (MayCommit s step result) (S.moment engine.old) (S.moment engine.new) (S.recovered_since engine.old) (S.recovered_since engine.new) }
 {
     let answer = engine.step(&step);
     step.let_go();
