@@ -16,3 +16,4 @@ pub mod Outside
 pub mod Right
 pub mod Leaving
 pub mod Cleaning
+pub mod Blocking

@@ -16,7 +16,8 @@ use Rattle.txn_machine.specs.Answers.{Answer}
 use Rattle.txn_machine.specs.Deltas.{RowChange}
 use Rattle.txn_machine.specs.Keeping.{KeptStep, Put, Pay, Open}
 use Rattle.txn_machine.specs.Stored.{ViewRows}
-use Rattle.txn_machine.specs.Store.{opened, schema_of}
+use Rattle.txn_machine.specs.Locks.{IsInTheWay}
+use Rattle.txn_machine.specs.Store.{opened, schema_of, locks_of}
 use Rattle.txn_machine.specs.Ghosts.{IsCleanable}
 use Rattle.txn_machine.specs.Log.{Opening}
 use Rattle.txn_machine.specs.State.{State, opened_state}
@@ -24,8 +25,8 @@ use Rattle.txn_machine.specs.Steps.{Step}
 use Rattle.txn_machine.specs.Alone.{Told, Story, story_after, begun_story}
 use Rattle.txn_machine.specs.Laws.{IsOpened}
 use Rattle.script_law.specs.Seen.{Txn, Visible}
-use Rattle.script_law.specs.Programs.{Programs, ProgramLaws}
-use Rattle.script_law.specs.RunLines.{RunsScript, all_sessions, all_removed, CleansLine}
+use Rattle.script_law.specs.Programs.{Todo, Programs, ProgramLaws}
+use Rattle.script_law.specs.RunLines.{waiting, Table, RunsLine, RunsScript, all_sessions, all_removed, CleansLine}
 use Rattle.script_law.specs.Laws.{AreEngines}
 
 -- of kept steps: a change, or a pay
@@ -50,6 +51,16 @@ DoesOf story session a said after = (s : State) × Step story.state session a sa
 
 abbrev pub IsStopped : Story → Type 0
 IsStopped story = IsSome story.state.stop
+
+-- what the session waits for is locked by another session
+abbrev pub IsHindered : Story → ℕ → Type 0
+IsHindered story session = (other : ℕ) × IsInTheWay (locks_of story.state.store) session (story.state.waiting session) other
+
+-- after each line each session whose line waits is hindered so
+abbrev pub HinderedLaw : Type 0
+HinderedLaw = (programs : Programs) (tell : EngineRefusal → Refusal) (said : Said) (table after_table : Table) (s after : Story) (piece : List ℕ)
+    → RunsLine DoesOf programs tell all_sessions said table s piece after_table after → (session : ℕ) → Contains all_sessions session
+    → (todo : Todo) → (after_table session).line ≡ waiting todo → IsHindered after session
 
 -- a `clean` that is answered a count removed so many ghosts, and none is left that could be removed
 abbrev pub CleanLaw : Type 0

@@ -5,7 +5,7 @@ ghost use Rattle.std.specs.Prelude.{ℕ};
 ghost use Rattle.iv_types.specs.declared.refusal.Refusal.{Refusal};
 ghost use Rattle.iv_types.specs.declared.refusal.EngineRefusal.{EngineRefusal};
 ghost use Rattle.script_law.specs.Laws.{EndLaw, ProgramsLaw, TranscriptLaw};
-ghost use Rattle.script_law.specs.Machine.{CleanLaw, MachineLaw};
+ghost use Rattle.script_law.specs.Machine.{CleanLaw, HinderedLaw, MachineLaw};
 ghost use Rattle.script_law.specs.Programs.{Programs};
 
 /// An engine of steps, as its states.
@@ -54,4 +54,9 @@ pub fn programs_law()
 /// What `clean` counts is what the machine's cleaner removed, and none is left.
 pub fn clean_law()
     ensures { CleanLaw }
+{}
+
+/// After each line, what a session whose line waits asks for is locked by another session.
+pub fn hindered_law()
+    ensures { HinderedLaw }
 {}
