@@ -11,11 +11,12 @@ use Rattle.txn_machine.specs.Store.{Store}
 use Rattle.txn_machine.specs.Log.{Opening}
 use Rattle.txn_machine.specs.State.{State}
 use Rattle.txn_machine.specs.Laws.{IsOpened}
-use Rattle.txn_log.specs.Replay.{Deed, Pages, Reading, recovered, closed}
+use Rattle.txn_log.specs.Replay.{Deed, Pages, Reading, recovered}
 use Rattle.txn_log.specs.Fitting.{DoNumbersFall, IsFit}
 use Rattle.txn_log.specs.Meaning.{base_row, view_number, greatest, definitions}
-use Rattle.txn_log.specs.Appended.{Image, IsRead}
+use Rattle.txn_log.specs.Appended.{Image, closed, IsRead}
 use Rattle.txn_log.specs.Moments.{Disk, Keeps, Writes, World, Halted, store_of, disk_of, left_by, Run, opened_world, IsRight, Life}
+use Rattle.txn_log.specs.Refused.{PlacedImage, IsFine, texts_in, unplaced}
 
 -- whatever a crash may leave at any moment is right
 abbrev pub CrashLaw : Type 0
@@ -31,9 +32,11 @@ CheckpointLaw = (p : Pages) → IsOpened p.db p.view → (opening : Opening) (w 
 abbrev pub ReadingLaw : Type 0
 ReadingLaw = (i : Image) (one other : Reading) → IsRead i one → IsRead i other → one ≡ other
 
--- an opening may be stopped and repeated: what its checkpoint publishes is read, is not refused and recovers to the same
+-- an opening may be stopped and repeated: what its checkpoint publishes, with the texts of all definitions, is not refused either and
+-- recovers to the same
 abbrev pub RepeatLaw : Type 0
-RepeatLaw = (r : Reading) → IsRead (record { pages = recovered r; carried = []; after = [] }) (closed r) × IsFit (closed r) × (recovered (closed r) ≡ recovered r)
+RepeatLaw = (i j : PlacedImage) (f : IsFine i) → unplaced j ≡ closed f.reading → j.data_limit ≡ i.data_limit → j.texts ≡ i.texts ++ texts_in i.after
+    → (g : IsFine j) × (recovered g.reading ≡ recovered f.reading)
 
 -- to replay and then reverse gives what an image means: its base rows, its view rows, its number and its definitions
 abbrev pub MeaningLaw : Type 0
