@@ -48,7 +48,7 @@ total_numbered : (objects : Schema) (place : Place) (numbers : List ℤ) → IsS
 total_numbered objects place numbers t e = none-some (view t.of) (ap (numbered objects) (sym e) ∙ t.view_is)
 
 -- what stands under a place, if anything
-by_option : {X : Type 0} {P : Type 0} (o : Option X) → (o ≡ None → P) → ((x : X) → o ≡ Some x → P) → P
+pub by_option : {X : Type 0} {P : Type 0} (o : Option X) → (o ≡ None → P) → ((x : X) → o ≡ Some x → P) → P
 by_option None f g = f refl
 by_option (Some x) f g = g x refl
 

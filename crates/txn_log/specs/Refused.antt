@@ -138,6 +138,7 @@ IsFreshAt p place = (column : ℕ) → stored_number p.view place column ≡ fre
 
 -- the first group, by the number of its view and then by its bytes, whose row is not
 pub record IsFirstWrong (p : Pages) (place : Place) : Type 0 where
+  -- by a column
   pub column : ℕ
   pub wrong : stored_number p.view place column ≢ fresh p.db.schema p.db.rows place column
   pub first : (earlier : Place) → place_cmp earlier place ≡ Less → IsFreshAt p earlier
@@ -181,6 +182,11 @@ OneRefusalLaw = (i : PlacedImage) (one other : Refusal) → IsRefused i one → 
 -- where no rule fails first, none fails
 abbrev pub EitherLaw : Type 0
 EitherLaw = (i : PlacedImage) → ((rule place : ℕ) → IsRefused i (BadImage rule place) → ⊥) → ((r : Reading) → IsSoundAs i r → ⊥) → ⊥
+
+-- where no rule fails and a view's row differs, one is the first
+abbrev pub WrongViewLaw : Type 0
+WrongViewLaw = (i : PlacedImage) (r : Reading) → IsSoundAs i r → (place : Place) → (IsFreshAt (recovered r) place → ⊥)
+    → ((first : Place) → IsRefused i (BadView first) → ⊥) → ⊥
 
 -- the numbers of its records are small
 abbrev pub AreSmall : List Placed → Type 0
