@@ -67,7 +67,7 @@ origin_disk db (Halted s next e) d is = is
 origin_move : (db : Database) (v w : World) → Moves v w → OriginIs db v → OriginIs db w
 origin_move db v w (begins s disk i a said after may d f) is = (is, ap (λ (x : State). x.store.origin) d.left ∙ (origin_all s.store i d.effects ∙ is))
 origin_move db v w (acts after i a s l e es disk) is = ((entry_does s i e).0 ∙ is.0, is.1)
-origin_move db v w (ends after i a s l disk) is = is.1
+origin_move db v w (ends after i a s l disk done) is = is.1
 origin_move db v w (flushes u writes) is = origin_disk db u _ is
 origin_move db v w (acknowledges u none writes) is = origin_disk db u _ is
 origin_move db v w (publishes u xs keeps fall) is = origin_disk db u _ is
@@ -126,7 +126,7 @@ no_effects s i es e = ap (run the_views s i) e
 stop_move : (v w : World) → Moves v w → IsStop v → IsStop w
 stop_move v w (begins s disk i a said after may d f) is = tt
 stop_move v w (acts after i a s l e es disk) is = tt
-stop_move v w (ends after i a s l disk) is = tt
+stop_move v w (ends after i a s l disk done) is = tt
 stop_move v w (flushes u writes) is = stop_disk u _ is
 stop_move v w (acknowledges u none writes) is = stop_disk u _ is
 stop_move v w (publishes u xs keeps fall) is = stop_disk u _ is

@@ -7,7 +7,7 @@ use Rattle.table_laws.specs.Place.{Place}
 use Rattle.iv_meaning.specs.History.{Entry, fold}
 use Rattle.txn_machine.specs.Stored.{stored_number}
 use Rattle.txn_machine.specs.Fresh.{fresh}
-use Rattle.txn_machine.specs.Store.{Store}
+use Rattle.txn_machine.specs.Store.{Store, committed}
 use Rattle.txn_machine.specs.Log.{Opening}
 use Rattle.txn_machine.specs.State.{State}
 use Rattle.txn_machine.specs.Laws.{IsOpened}
@@ -15,13 +15,18 @@ use Rattle.txn_log.specs.Replay.{Deed, Pages, Reading, recovered}
 use Rattle.txn_log.specs.Fitting.{DoNumbersFall, IsFit}
 use Rattle.txn_log.specs.Meaning.{base_row, view_number, greatest, definitions}
 use Rattle.txn_log.specs.Appended.{Image, closed, IsRead}
-use Rattle.txn_log.specs.Moments.{Disk, Keeps, Writes, World, Halted, store_of, disk_of, left_by, Run, opened_world, IsRight, Life}
+use Rattle.txn_log.specs.Moments.{Disk, Keeps, Writes, World, At, Halted, store_of, disk_of, left_by, Run, opened_world, IsRight, Life}
 use Rattle.txn_log.specs.Refused.{PlacedImage, IsFine, texts_in, unplaced}
 
 -- whatever a crash may leave at any moment is right
 abbrev pub CrashLaw : Type 0
 CrashLaw = (p : Pages) → IsOpened p.db p.view → (opening : Opening) (w : World) → Run (opened_world opening p) w → (k : ℕ)
     → IsRight (store_of w) (left_by w k) (disk_of w).acknowledged
+
+-- and between two steps it has all that is committed: a step that is answered has lost nothing
+abbrev pub CommittedLaw : Type 0
+CommittedLaw = (p : Pages) → IsOpened p.db p.view → (opening : Opening) (s : State) (d : Disk) → Run (opened_world opening p) (At s d)
+    → (k : ℕ) (r : Reading) → IsRead (left_by (At s d) k) r → (recovered r).db ≡ committed s.store
 
 -- whatever its moment, a machine that has not stopped finds what a checkpoint carries
 abbrev pub CheckpointLaw : Type 0

@@ -1,10 +1,15 @@
 //! Laws of crashes. Each function is there for its contract.
 ghost use Rattle.txn_log.specs.Groups.{FlushLaw};
-ghost use Rattle.txn_log.specs.Laws.{CheckpointLaw, CrashLaw, LivesLaw, MeaningLaw, ReadingLaw, RecoveredViewsLaw, RepeatLaw, StopLaw};
+ghost use Rattle.txn_log.specs.Laws.{CheckpointLaw, CommittedLaw, CrashLaw, LivesLaw, MeaningLaw, ReadingLaw, RecoveredViewsLaw, RepeatLaw, StopLaw};
 
 /// Whatever a crash may leave at any moment recovers to the database at a commit number, with every acknowledged commit.
 pub fn crash_law()
     ensures { CrashLaw }
+{}
+
+/// Between two steps a crash loses nothing that is committed.
+pub fn committed_law()
+    ensures { CommittedLaw }
 {}
 
 /// What a checkpoint is to carry can be found at every moment.
