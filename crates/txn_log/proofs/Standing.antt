@@ -1,5 +1,6 @@
 -- Entries stand for one database and its view rows.
 use Rattle.std.specs.Prelude.{◌≡◌, ℕ, suc, ℤ, pos, List, [], ◌∷◌, ◌++◌, map, length, get_or, Option, Some, None}
+use Rattle.std.specs.List.{concat}
 use Rattle.std.specs.FinMap.{get}
 use mathlib.Core.Path.{refl, sym, ap, subst, ◌∙◌}
 use mathlib.Core.Logic.{inl, inr}
@@ -83,7 +84,7 @@ in_row p h place numbers e column = subst IsHuge (ap (number_in_row column) e) (
 
 -- ---- one of both
 
-module _ (es : List Entry) (texts : List (List ℕ)) (p q : Pages) (one : AreProper p) (other : AreProper q) (schema : p.db.schema ≡ q.db.schema) (h : StandFor es texts p) (k : StandFor es texts q) where
+module _ (es : List Entry) (texts : List (List (List ℕ))) (p q : Pages) (one : AreProper p) (other : AreProper q) (schema : p.db.schema ≡ q.db.schema) (h : StandFor es texts p) (k : StandFor es texts q) where
   row_found : (place : Place) (row : Row) → get p.db.rows place ≡ Some row → get q.db.rows place ≡ Some row
   row_found place row e =
       let entry : Entry = (place, row_bytes (kinds_of_table (numbered p.db.schema place.0)) row) in
@@ -122,7 +123,7 @@ module _ (es : List Entry) (texts : List (List ℕ)) (p q : Pages) (one : ArePro
 
 pub one_stored : OneStatement → OneStoredLaw
 one_stored alone es texts p q ps qs one other number h k =
-    let schema : p.db.schema ≡ q.db.schema = creates_once alone [] texts p.db.schema q.db.schema ps qs in
+    let schema : p.db.schema ≡ q.db.schema = creates_once alone [] (map concat texts) p.db.schema q.db.schema ps.1 qs.1 in
     let rows : p.db.rows ≡ q.db.rows = same_table place_cmp_total place_cmp-IsAntisymmetric p.db.rows q.db.rows (λ place.
     both_find (get p.db.rows place) (get q.db.rows place) (row_found es texts p q one other schema h k place) (row_found es texts q p other one (sym schema) k h place)) in
     let totals : p.view ≡ q.view = same_table place_cmp_total place_cmp-IsAntisymmetric p.view q.view (λ place.

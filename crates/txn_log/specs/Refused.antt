@@ -20,6 +20,7 @@ use Rattle.txn_log.specs.Replay.{Deed, Event, Pages, Reading, replay, on_pages, 
 use Rattle.txn_log.specs.Fitting.{InRange, BackStands, BackFits, Stands, IsKnown, CarriedBelow, AreBelow, number_of, AllBack}
 use Rattle.txn_log.specs.Meaning.{definitions}
 use Rattle.txn_log.specs.Appended.{Numbered, written, Image, Says}
+use Rattle.txn_log.specs.Stored.{parts_entries}
 use Rattle.txn_log.specs.Moments.{World, Run, opened_world, left_by}
 
 -- a record and the place of its first byte on the device
@@ -32,8 +33,8 @@ pub record PlacedImage : Type 0 where
   pub pages : Pages
   pub carried : List Placed
   pub after : List Placed
-  -- the texts of the pages' definitions, in order
-  pub texts : List (List ℕ)
+  -- the texts of the pages' definitions, in order, each in its parts
+  pub texts : List (List (List ℕ))
   -- the most bytes that entries may take
   pub data_limit : Option ℕ
 
@@ -60,7 +61,8 @@ texts_in (r ∷ rs) = texts_in rs ++ text_in r.entry.of
 -- the bytes of all entries that the image leaves: of rows with their indexes, of view rows, ghosts too, and of definitions
 abbrev pub data_left : PlacedImage → Pages → ℕ
 data_left i p =
-    sum (map (λ e. row_entries p.db.schema e.0 e.1) (maps.entries p.db.rows)) + view_entries p.view + sum (map definition_entries (i.texts ++ texts_in i.after))
+    sum (map (λ e. row_entries p.db.schema e.0 e.1) (maps.entries p.db.rows)) + view_entries p.view
+    + sum (map parts_entries i.texts) + sum (map definition_entries (texts_in i.after))
 
 -- where the record of this number stands
 abbrev pub place_by : ℕ → List Placed → ℕ
