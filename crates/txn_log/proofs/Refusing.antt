@@ -19,10 +19,13 @@ use Rattle.txn_log.specs.Replay.{What, Wrote, Added, Deed, Event, Kept, Ghost, C
 use Rattle.txn_log.specs.Fitting.{InRange, WhatStands, BackStands, BackFits, Stands, IsKnown, AllDeeds, DoNumbersFall, number_of, AllFit, AllBack}
 use Rattle.txn_log.specs.Meaning.{definitions}
 use Rattle.txn_log.specs.Appended.{Numbered, written, Image, Says, AllSay, IsRead}
-use Rattle.txn_log.specs.Refused.{Placed, PlacedImage, data_left, most_number, Anyhow, entries_of, place_by, CarriedStands, CarriedAs, CarriedBreaks, Passes, SaidAs, BreaksBy, RecordBreaks, BackBreaks, PassesAs, ReversesAs, IsFreshAt, IsFirstWrong, Refusal, BadImage, BadView, IsRefused, carried, further, reversal, sums, entries, view, IsFine, EitherLaw, AreSmall, unplaced}
+use Rattle.txn_log.specs.Refused.{Placed, PlacedImage, data_left, most_number, Anyhow, IsPlaced, place_by, CarriedStands, CarriedAs, CarriedBreaks, Passes, SaidAs, BreaksBy, RecordBreaks, BackBreaks, PassesAs, ReversesAs, IsFreshAt, IsFirstWrong, Refusal, BadImage, BadView, IsRefused, carried, further, reversal, sums, entries, view, IsFine, EitherLaw, AreSmall}
 use Rattle.txn_machine.specs.Store.{Store}
 use Rattle.txn_log.specs.Moments.{IsRight}
 use Rattle.txn_log.proofs.Once.{same_deed, says_once}
+
+same_entry : (m n : Numbered) → Some m ≡ Some n → m ≡ n
+same_entry m n e = cc
 
 -- ---- carried records
 
@@ -33,7 +36,7 @@ carried_once objects [] (d ∷ ds) es h k = absurd h
 carried_once objects (r ∷ rs) [] es h k = absurd h
 carried_once objects (r ∷ rs) (d ∷ ds) [] h k = absurd k
 carried_once objects (r ∷ rs) (d ∷ ds) (e ∷ es) h k =
-    let first : d ≡ e = same_deed d e (sym h.0.0 ∙ k.0.0) in
+    let first : d ≡ e = same_deed d e (same_entry (written d) (written e) (sym h.0.0 ∙ k.0.0)) in
     let rest : ds ≡ es = carried_once objects rs ds es h.1 k.1 in
     λ x. first x ∷ rest x
 
@@ -75,6 +78,10 @@ what_anyhow s es (Commit n t k) h = h
 what_anyhow s es (Abort n t) h = h
 what_anyhow s es (Defined n k o) h = h
 
+-- a record says one thing
+one_event : OneStatement → (objects : Schema) (r : Placed) (e f : Event) (m n : Numbered) → r.entry ≡ Some m → r.entry ≡ Some n → Says objects m e → Says objects n f → e ≡ f
+one_event alone objects r e f m n a b h k = says_once alone objects n e f (subst (λ x. Says objects x e) (same_entry m n (sym a ∙ b)) h) k
+
 module _ (alone : OneStatement) (p : Pages) (ds : List Deed) where
   said_once : (rs : List Placed) (es fs : List Event) → SaidAs p ds rs es → SaidAs p ds rs fs → es ≡ fs
   said_once [] [] [] h k = refl
@@ -84,7 +91,7 @@ module _ (alone : OneStatement) (p : Pages) (ds : List Deed) where
   said_once (r ∷ rs) (e ∷ es) [] h k = absurd k
   said_once (r ∷ rs) (e ∷ es) (f ∷ fs) h k =
       let rest : es ≡ fs = said_once rs es fs h.1 k.1 in
-      let first : e ≡ f = says_once alone (definitions p.db.schema fs) r.entry e f (subst (λ gs. Says (definitions p.db.schema gs) r.entry e) rest h.0.0) k.0.0 in
+      let first : e ≡ f = one_event alone (definitions p.db.schema fs) r e f h.0.0 k.0.0 h.0.1 k.0.1 (subst (λ gs. Says (definitions p.db.schema gs) h.0.0 e) rest h.0.2) k.0.2 in
       λ x. first x ∷ rest x
 
   record_never : (rs : List Placed) (es : List Event) → SaidAs p ds rs es → (rule place : ℕ) → RecordBreaks p ds rs rule place → ⊥
@@ -94,10 +101,10 @@ module _ (alone : OneStatement) (p : Pages) (ds : List Deed) where
   record_never (r ∷ rs) (e ∷ es) h rule place (inr b) =
       let same : es ≡ b.1 = said_once rs es b.1 h.1 b.2 in
       let full : Passes p ds InRange b.1 r e = subst (λ gs. Passes p ds InRange gs r e) same h.0 in
-      let some : Passes p ds Anyhow b.1 r e = (full.0, what_anyhow (replay (on_pages p ds) b.1) b.1 e full.1, full.2, full.3) in
+      let some : Passes p ds Anyhow b.1 r e = (full.0, full.1, full.2, what_anyhow (replay (on_pages p ds) b.1) b.1 e full.3, full.4, full.5) in
       elim b.3 [
         | inl c ↦ c.1 e some
-        | inr c ↦ c.3 (subst (Passes p ds InRange b.1 r) (says_once alone (definitions p.db.schema b.1) r.entry e c.1 full.0 c.2.0) full)
+        | inr c ↦ c.3 (subst (Passes p ds InRange b.1 r) (one_event alone (definitions p.db.schema b.1) r e c.1 full.0 c.2.0 full.1 c.2.1 full.2 c.2.2) full)
       ]
 
   record_once : (rs : List Placed) (m n a b : ℕ) → RecordBreaks p ds rs m a → RecordBreaks p ds rs n b → (m ≡ n) × (a ≡ b)
@@ -295,36 +302,39 @@ says_number objects r (Commit n t k) h = sym (ap (λ (q : Numbered). q.number) h
 says_number objects r (Abort n t) h = sym (ap (λ (q : Numbered). q.number) h)
 says_number objects r (Defined n k o) h = sym (ap (λ (q : Numbered). q.number) h.2)
 
-carried_fit : (objects : Schema) (rs : List Placed) (ds : List Deed) → entries_of rs ≡ map written ds → AllDeeds (IsKnown objects) ds → DoNumbersFall ds → AreSmall rs → CarriedAs objects rs ds
+carried_fit : (objects : Schema) (rs : List Placed) (ds : List Deed) → map (λ r. r.entry) rs ≡ map Some (map written ds) → AllDeeds (IsKnown objects) ds → DoNumbersFall ds → AreSmall (map written ds) → CarriedAs objects rs ds
 carried_fit objects [] [] e known fall small = tt
 carried_fit objects [] (d ∷ ds) e known fall small = absurd (cc)
 carried_fit objects (r ∷ rs) [] e known fall small = absurd (cc)
-carried_fit objects (r ∷ rs) (d ∷ ds) e known fall small =
-    let first : r.entry ≡ written d = cc in
-    ((first, known.0, fall.0, subst (λ (q : Numbered). q.number ≤ most_number) first small.0), carried_fit objects rs ds (cc) known.1 fall.1 small.1)
+carried_fit objects (r ∷ rs) (d ∷ ds) e known fall small = ((cc, known.0, fall.0, small.0), carried_fit objects rs ds (cc) known.1 fall.1 small.1)
 
-records_fit : (p : Pages) (ds : List Deed) (rs : List Placed) (es : List Event) → AllSay p.db.schema (entries_of rs) es → AllFit (on_pages p ds) es → AreSmall rs → SaidAs p ds rs es
-records_fit p ds [] [] say fit small = tt
-records_fit p ds [] (e ∷ es) say fit small = absurd say
-records_fit p ds (r ∷ rs) [] say fit small = absurd say
-records_fit p ds (r ∷ rs) (e ∷ es) say fit small = (
-  (say.0, fit.0, fit.1, subst (λ n. n ≤ most_number) (sym (says_number (definitions p.db.schema es) r.entry e say.0)) small.0),
-  records_fit p ds rs es say.1 fit.2 small.1,
+records_fit : (p : Pages) (ds : List Deed) (rs : List Placed) (ns : List Numbered) (es : List Event) → map (λ r. r.entry) rs ≡ map Some ns → AllSay p.db.schema ns es → AllFit (on_pages p ds) es → AreSmall ns
+    → SaidAs p ds rs es
+records_fit p ds [] [] [] e say fit small = tt
+records_fit p ds [] [] (x ∷ es) e say fit small = absurd say
+records_fit p ds [] (n ∷ ns) es e say fit small = absurd (cc)
+records_fit p ds (r ∷ rs) [] es e say fit small = absurd (cc)
+records_fit p ds (r ∷ rs) (n ∷ ns) [] e say fit small = absurd say
+records_fit p ds (r ∷ rs) (n ∷ ns) (x ∷ es) e say fit small = (
+  (n, cc, say.0, fit.0, fit.1, subst (λ m. m ≤ most_number) (sym (says_number (definitions p.db.schema es) n x say.0)) small.0),
+  records_fit p ds rs ns es (cc) say.1 fit.2 small.1,
 )
 
-pub right_fine : (s : Store) (left : Image) (acknowledged : ℕ) → IsRight s left acknowledged → (i : PlacedImage) → unplaced i ≡ left → i.data_limit ≡ None → AreSmall i.carried → AreSmall i.after → IsFine i
+pub right_fine : (s : Store) (left : Image) (acknowledged : ℕ) → IsRight s left acknowledged → (i : PlacedImage) → IsPlaced i left → i.data_limit ≡ None → AreSmall left.carried → AreSmall left.after → IsFine i
 right_fine s left acknowledged right i same free few many =
     let r : Reading = right.reading in
-    let read : IsRead (unplaced i) r = subst (λ (x : Image). IsRead x r) (sym same) right.is_read in
-    let known : AllDeeds (IsKnown i.pages.db.schema) r.carried = subst (λ (p : Pages). AllDeeds (IsKnown p.db.schema) r.carried) read.pages right.fits.known in
-    let records : AllFit (on_pages i.pages r.carried) r.after = subst (λ (p : Pages). AllFit (on_pages p r.carried) r.after) read.pages right.fits.records in record {
+    let read : IsRead left r = right.is_read in
+    let pages : r.pages ≡ i.pages = read.pages ∙ sym same.pages in
+    let say : AllSay i.pages.db.schema left.after r.after = subst (λ (p : Pages). AllSay p.db.schema left.after r.after) (sym same.pages) read.after in
+    let known : AllDeeds (IsKnown i.pages.db.schema) r.carried = subst (λ (p : Pages). AllDeeds (IsKnown p.db.schema) r.carried) pages right.fits.known in
+    let records : AllFit (on_pages i.pages r.carried) r.after = subst (λ (p : Pages). AllFit (on_pages p r.carried) r.after) pages right.fits.records in record {
       reading = r;
       sound = record {
         reverses = record {
           passes = record {
-            pages = read.pages;
-            carried = carried_fit i.pages.db.schema i.carried r.carried read.carried known right.fits.fall few;
-            after = records_fit i.pages r.carried i.after r.after read.after records many;
+            pages = pages;
+            carried = carried_fit i.pages.db.schema i.carried r.carried (same.carried ∙ ap (map Some) read.carried) known right.fits.fall (subst AreSmall read.carried few);
+            after = records_fit i.pages r.carried i.after left.after r.after same.after say records many;
           };
           back = right.fits.back;
         };

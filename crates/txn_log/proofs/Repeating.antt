@@ -2,16 +2,15 @@
 use Rattle.std.specs.Prelude.{◌≡◌, ℕ, zero, suc, ◌+◌, ◌-◌, ◌*◌, ◌/◌, ◌≤◌, List, [], ◌∷◌, ◌++◌, map, length, take, drop, min}
 use Rattle.std.specs.List.{sum}
 use Rattle.std.specs.FinMap as maps
-use mathlib.Core.Path.{refl, sym, ap, subst}
+use mathlib.Core.Path.{refl, sym, subst}
 use Rattle.std.proofs.Common.{arith}
 use Rattle.std.proofs.lemmas.List.{length-take, length-drop}
 use Rattle.std.proofs.lemmas.List.Sums.{sum_by-cons}
 use Rattle.txn_machine.specs.Log.{Within, row_entries, view_entries, definition_entries, part_bytes, entry_bytes}
 use Rattle.txn_log.specs.Replay.{Pages, Reading, recovered}
-use Rattle.txn_log.specs.Appended.{Image}
 use Rattle.txn_log.specs.Laws.{RepeatLaw}
 use Rattle.txn_log.specs.Stored.{parts_entries, first_parts, in_parts}
-use Rattle.txn_log.specs.Refused.{Placed, PlacedImage, IsFine, entries_of, texts_in}
+use Rattle.txn_log.specs.Refused.{Placed, PlacedImage, IsFine, texts_in}
 
 -- ---- the bytes of definitions
 
@@ -48,7 +47,7 @@ both_cost (parts ∷ texts) more =
 
 -- ---- an image without records
 
-none_placed : (rs : List Placed) → entries_of rs ≡ [] → rs ≡ []
+none_placed : (rs : List Placed) → map (λ r. r.entry) rs ≡ [] → rs ≡ []
 none_placed [] e = refl
 none_placed (r ∷ rs) e = absurd (cc)
 
@@ -77,8 +76,8 @@ bare_fine i f =
 pub repeats : RepeatLaw
 unfolding bare
 repeats i j f same limit texts =
-    let pages : j.pages ≡ recovered f.reading = ap (λ (x : Image). x.pages) same in
-    let carried : j.carried ≡ [] = none_placed j.carried (ap (λ (x : Image). x.carried) same) in
-    let after : j.after ≡ [] = none_placed j.after (ap (λ (x : Image). x.after) same) in
+    let pages : j.pages ≡ recovered f.reading = same.pages in
+    let carried : j.carried ≡ [] = none_placed j.carried same.carried in
+    let after : j.after ≡ [] = none_placed j.after same.after in
     let is : j ≡ bare i f.reading = λ x. record { pages = pages x; carried = carried x; after = after x; texts = texts x; data_limit = limit x } in
     subst (λ (k : PlacedImage). (g : IsFine k) × (recovered g.reading ≡ recovered f.reading)) (sym is) (bare_fine i f)

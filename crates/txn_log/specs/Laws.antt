@@ -17,7 +17,7 @@ use Rattle.txn_log.specs.Meaning.{base_row, view_number, greatest, definitions}
 use Rattle.txn_log.specs.Appended.{Image, closed, IsRead}
 use Rattle.txn_log.specs.Moments.{Disk, Keeps, Writes, World, At, Halted, store_of, disk_of, left_by, Run, opened_world, IsRight, Life}
 use Rattle.txn_log.specs.Stored.{in_parts}
-use Rattle.txn_log.specs.Refused.{PlacedImage, IsFine, texts_in, unplaced}
+use Rattle.txn_log.specs.Refused.{PlacedImage, IsFine, IsPlaced, texts_in}
 
 -- whatever a crash may leave at any moment is right
 abbrev pub CrashLaw : Type 0
@@ -41,7 +41,7 @@ ReadingLaw = (i : Image) (one other : Reading) → IsRead i one → IsRead i oth
 -- an opening may be stopped and repeated: what its checkpoint publishes, with the texts of all definitions, is not refused either and
 -- recovers to the same
 abbrev pub RepeatLaw : Type 0
-RepeatLaw = (i j : PlacedImage) (f : IsFine i) → unplaced j ≡ closed f.reading → j.data_limit ≡ i.data_limit → j.texts ≡ i.texts ++ map in_parts (texts_in i.after)
+RepeatLaw = (i j : PlacedImage) (f : IsFine i) → IsPlaced j (closed f.reading) → j.data_limit ≡ i.data_limit → j.texts ≡ i.texts ++ map in_parts (texts_in i.after)
     → (g : IsFine j) × (recovered g.reading ≡ recovered f.reading)
 
 -- to replay and then reverse gives what an image means: its base rows, its view rows, its number and its definitions

@@ -3,7 +3,7 @@
 -- Which images are refused for their records and what they leave, and at which place. The rules are tried in order: each carried record
 -- by rule 13; each further record, and then each last reversal, by rules 13 and 14; the sums of views evaluated afresh by rule 14;
 -- the bytes of all entries by rule 15; and then each view against what it is, evaluated afresh.
-use Rattle.std.specs.Prelude.{◌≡◌, ◌≢◌, ◌⊎◌, ℕ, ◌+◌, ◌==◌, ◌≤◌, ◌^◌, List, [], ◌∷◌, ◌++◌, map, Option, None, if◌then◌else◌}
+use Rattle.std.specs.Prelude.{◌≡◌, ◌≢◌, ◌⊎◌, ℕ, ◌+◌, ◌==◌, ◌≤◌, ◌^◌, Bool, false, List, [], ◌∷◌, ◌++◌, map, Option, Some, None, if◌then◌else◌}
 use Rattle.std.specs.List.{sum}
 use Rattle.std.specs.FinMap as maps
 use Rattle.std.specs.declared.cmp.Ordering.TheVariants.{Less}
@@ -23,10 +23,10 @@ use Rattle.txn_log.specs.Appended.{Numbered, written, Image, Says}
 use Rattle.txn_log.specs.Stored.{parts_entries}
 use Rattle.txn_log.specs.Moments.{World, Run, opened_world, left_by}
 
--- a record and the place of its first byte on the device
+-- a record and the place of its first byte on the device; none where its key, group or rows do not decode by the definitions there
 pub record Placed : Type 0 where
   pub place : ℕ
-  pub entry : Numbered
+  pub entry : Option Numbered
 
 -- Lists of records have the latest first.
 pub record PlacedImage : Type 0 where
@@ -38,6 +38,12 @@ pub record PlacedImage : Type 0 where
   -- the most bytes that entries may take
   pub data_limit : Option ℕ
 
+-- the pages and records of an image, at their places
+pub record IsPlaced (i : PlacedImage) (image : Image) : Type 0 where
+  pub pages : i.pages ≡ image.pages
+  pub carried : map (λ r. r.entry) i.carried ≡ map Some image.carried
+  pub after : map (λ r. r.entry) i.after ≡ map Some image.after
+
 -- the greatest number of a record
 abbrev pub most_number : ℕ
 most_number = 2 ^ 62
@@ -46,17 +52,18 @@ most_number = 2 ^ 62
 abbrev pub Anyhow : ViewRows → Place → Type 0
 Anyhow stored place = Unit {0}
 
-abbrev pub entries_of : List Placed → List Numbered
-entries_of rs = map (λ r. r.entry) rs
-
 -- the texts of the definitions among records, in order
 abbrev pub text_in : Record → List (List ℕ)
 text_in (Definition number session text) = text ∷ []
 text_in _ = []
 
+abbrev pub text_at : Option Numbered → List (List ℕ)
+text_at None = []
+text_at (Some n) = text_in n.of
+
 abbrev pub texts_in : List Placed → List (List ℕ)
 texts_in [] = []
-texts_in (r ∷ rs) = texts_in rs ++ text_in r.entry.of
+texts_in (r ∷ rs) = texts_in rs ++ text_at r.entry
 
 -- the bytes of all entries that the image leaves: of rows with their indexes, of view rows, ghosts too, and of definitions
 abbrev pub data_left : PlacedImage → Pages → ℕ
@@ -64,16 +71,20 @@ data_left i p =
     sum (map (λ e. row_entries p.db.schema e.0 e.1) (maps.entries p.db.rows)) + view_entries p.view
     + sum (map parts_entries i.texts) + sum (map definition_entries (texts_in i.after))
 
+abbrev pub has_number : ℕ → Option Numbered → Bool
+has_number number None = false
+has_number number (Some n) = n.number == number
+
 -- where the record of this number stands
 abbrev pub place_by : ℕ → List Placed → ℕ
 place_by number [] = 0
-place_by number (r ∷ rs) = if r.entry.number == number then r.place else place_by number rs
+place_by number (r ∷ rs) = if has_number number r.entry then r.place else place_by number rs
 
 -- ---- carried records
 
 -- a Write or a Delta of a table or view that is there, behind these
 abbrev pub CarriedStands : Schema → List Deed → Placed → Deed → Type 0
-CarriedStands objects ds r d = (r.entry ≡ written d) × IsKnown objects d.what × CarriedBelow d.number ds × (d.number ≤ most_number)
+CarriedStands objects ds r d = (r.entry ≡ Some (written d)) × IsKnown objects d.what × CarriedBelow d.number ds × (d.number ≤ most_number)
 
 abbrev pub CarriedAs : Schema → List Placed → List Deed → Type 0
 CarriedAs objects [] [] = Unit {0}
@@ -93,7 +104,7 @@ module _ (p : Pages) (carried : List Deed) where
   -- this record, where those before it said this, with this condition on numbers
   abbrev pub Passes : (ViewRows → Place → Type 0) → List Event → Placed → Event → Type 0
   Passes Range es r e =
-      Says (definitions p.db.schema es) r.entry e × Stands Range (replay (on_pages p carried) es) es e × AreBelow (number_of e) carried es × (number_of e ≤ most_number)
+      (n : Numbered) × (r.entry ≡ Some n) × Says (definitions p.db.schema es) n e × Stands Range (replay (on_pages p carried) es) es e × AreBelow (number_of e) carried es × (number_of e ≤ most_number)
 
   abbrev pub SaidAs : List Placed → List Event → Type 0
   SaidAs [] [] = Unit {0}
@@ -190,16 +201,12 @@ abbrev pub WrongViewLaw : Type 0
 WrongViewLaw = (i : PlacedImage) (r : Reading) → IsSoundAs i r → (place : Place) → (IsFreshAt (recovered r) place → ⊥)
     → ((first : Place) → IsRefused i (BadView first) → ⊥) → ⊥
 
--- the numbers of its records are small
-abbrev pub AreSmall : List Placed → Type 0
+-- the numbers of these records are small
+abbrev pub AreSmall : List Numbered → Type 0
 AreSmall [] = Unit {0}
-AreSmall (r ∷ rs) = (r.entry.number ≤ most_number) × AreSmall rs
-
--- without places
-abbrev pub unplaced : PlacedImage → Image
-unplaced i = record { pages = i.pages; carried = entries_of i.carried; after = entries_of i.after }
+AreSmall (r ∷ rs) = (r.number ≤ most_number) × AreSmall rs
 
 -- so an image that a crash may leave is refused for nothing, wherever its records stand, but for the bytes of data
 abbrev pub NotRefusedLaw : Type 0
 NotRefusedLaw = (p : Pages) → IsOpened p.db p.view → (opening : Opening) (w : World) → Run (opened_world opening p) w → (k : ℕ)
-    → (i : PlacedImage) → unplaced i ≡ left_by w k → i.data_limit ≡ None → AreSmall i.carried → AreSmall i.after → IsFine i
+    → (i : PlacedImage) → IsPlaced i (left_by w k) → i.data_limit ≡ None → AreSmall (left_by w k).carried → AreSmall (left_by w k).after → IsFine i
