@@ -19,7 +19,7 @@ use Rattle.txn_log.specs.Replay.{What, Wrote, Added, Deed, Event, Kept, Ghost, C
 use Rattle.txn_log.specs.Fitting.{InRange, WhatStands, BackStands, BackFits, Stands, IsKnown, AllDeeds, DoNumbersFall, number_of, AllFit, AllBack}
 use Rattle.txn_log.specs.Meaning.{definitions}
 use Rattle.txn_log.specs.Appended.{Numbered, written, Image, Says, AllSay, IsRead}
-use Rattle.txn_log.specs.Refused.{Placed, PlacedImage, data_left, most_number, Anyhow, IsPlaced, place_by, CarriedStands, CarriedAs, CarriedBreaks, Passes, SaidAs, BreaksBy, RecordBreaks, BackBreaks, PassesAs, ReversesAs, IsFreshAt, IsFirstWrong, Refusal, BadImage, BadView, IsRefused, carried, further, reversal, sums, entries, view, IsFine, EitherLaw, AreSmall}
+use Rattle.txn_log.specs.Refused.{Placed, PlacedImage, data_left, most_number, Anyhow, IsPlaced, place_by, CarriedStands, CarriedAs, CarriedBreaks, Passes, SaidAs, BreaksBy, RecordBreaks, BackBreaks, PassesAs, ReversesAs, IsFreshAt, IsFirstWrong, ImageFault, BadImage, BadView, IsRefused, carried, further, reversal, sums, entries, view, IsFine, EitherLaw, AreSmall}
 use Rattle.txn_machine.specs.Store.{Store}
 use Rattle.txn_log.specs.Moments.{IsRight}
 use Rattle.txn_log.proofs.Once.{same_deed, says_once}
@@ -220,7 +220,7 @@ module _ (alone : OneStatement) (i : PlacedImage) where
       by_order Greater e = absurd (k.wrong (h.first b (place_cmp_total.antisymm b a ∙ ap ordering_reverse e) k.column))
 
   -- causes in the order in which they are tried
-  pub ordered : (one other : Refusal) → IsRefused i one → IsRefused i other → one ≡ other
+  pub ordered : (one other : ImageFault) → IsRefused i one → IsRefused i other → one ≡ other
   ordered one other (carried a h) (carried b k) = ap (BadImage 13) (carried_place i.pages.db.schema i.carried a b h k)
   ordered one other (carried a h) (further ds said rule place k) = absurd (carried_never i.pages.db.schema i.carried ds said a h)
   ordered one other (carried a h) (reversal r p rule place k) = absurd (no_carried r p a h)
@@ -264,7 +264,7 @@ module _ (alone : OneStatement) (i : PlacedImage) where
   ordered one other (view r p g v a h) (view q o f w b k) =
       ap BadView (one_view (recovered q) a b (subst (λ (x : Reading). IsFirstWrong (recovered x) a) (passes_once r q p.passes o.passes) h) k)
 
-  pub fine_never : (why : Refusal) → IsFine i → IsRefused i why → ⊥
+  pub fine_never : (why : ImageFault) → IsFine i → IsRefused i why → ⊥
   fine_never why f (carried a h) = no_carried f.reading f.sound.reverses.passes a h
   fine_never why f (further ds said m a h) = no_record f.reading f.sound.reverses.passes ds said m a h
   fine_never why f (reversal r p m a h) = no_back f.reading f.sound.reverses r p m a h

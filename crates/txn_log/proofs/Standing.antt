@@ -22,7 +22,7 @@ use Rattle.iv_meaning.specs.Sound.{IsRow}
 use Rattle.txn_machine.specs.Stored.{IsStoredRow}
 use Rattle.txn_machine.proofs.Columns.{number_in_row}
 use Rattle.txn_log.specs.Replay.{Pages}
-use Rattle.txn_log.specs.Stored.{Entry, total_bytes, StandFor, AllCreate, AreProper, OneStoredLaw}
+use Rattle.txn_log.specs.Stored.{PageEntry, total_bytes, StandFor, AllCreate, AreProper, OneStoredLaw}
 use Rattle.txn_log.proofs.Once.{created}
 
 -- ---- definitions
@@ -84,10 +84,10 @@ in_row p h place numbers e column = subst IsHuge (ap (number_in_row column) e) (
 
 -- ---- one of both
 
-module _ (es : List Entry) (texts : List (List (List ℕ))) (p q : Pages) (one : AreProper p) (other : AreProper q) (schema : p.db.schema ≡ q.db.schema) (h : StandFor es texts p) (k : StandFor es texts q) where
+module _ (es : List PageEntry) (texts : List (List (List ℕ))) (p q : Pages) (one : AreProper p) (other : AreProper q) (schema : p.db.schema ≡ q.db.schema) (h : StandFor es texts p) (k : StandFor es texts q) where
   row_found : (place : Place) (row : Row) → get p.db.rows place ≡ Some row → get q.db.rows place ≡ Some row
   row_found place row e =
-      let entry : Entry = (place, row_bytes (kinds_of_table (numbered p.db.schema place.0)) row) in
+      let entry : PageEntry = (place, row_bytes (kinds_of_table (numbered p.db.schema place.0)) row) in
       let r : IsRow p.db.schema place row = one.sound.rows place row e in
       let s : IsRow q.db.schema place row = subst (λ objects. IsRow objects place row) schema r in
       elim ((k entry).0 ((h entry).1 (inl (inl (row, e, refl))))) [
@@ -104,7 +104,7 @@ module _ (es : List Entry) (texts : List (List (List ℕ))) (p q : Pages) (one :
 
   total_found : (place : Place) (numbers : List ℤ) → get p.view place ≡ Some numbers → get q.view place ≡ Some numbers
   total_found place numbers e =
-      let entry : Entry = (place, total_bytes numbers) in
+      let entry : PageEntry = (place, total_bytes numbers) in
       let t : IsStoredRow p.db.schema place numbers = one.stored place numbers e in
       let u : IsStoredRow q.db.schema place numbers = subst (λ objects. IsStoredRow objects place numbers) schema t in
       elim ((k entry).0 ((h entry).1 (inl (inr (numbers, e, refl))))) [

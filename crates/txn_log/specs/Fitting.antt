@@ -1,7 +1,7 @@
 -- No clause of `run` rests on this module: it serves contracts between crates.
 --
--- Which images are not refused for their records: each record fits what stands where it is replayed, and what is left can be taken
--- back. Lists of records have the latest first.
+-- When the records of an image fit: each fits what stands where it is replayed, and what is left can be taken back. Lists of records
+-- have the latest first. The bounds on record numbers and on the bytes of data stand apart, where images are refused.
 use Rattle.std.specs.Prelude.{◌≡◌, ℕ, ◌+◌, pos, true, List, [], ◌∷◌, length, Some, None, IsSome, ◌<◌}
 use Rattle.std.specs.FinMap.{get}
 use Rattle.table_laws.specs.Place.{Place}

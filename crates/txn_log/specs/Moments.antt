@@ -113,7 +113,7 @@ with_disk (At s d) e = At s e
 with_disk (Amid after session a s l es d) e = Amid after session a s l es e
 with_disk (Halted s next d) e = Halted s next e
 
--- what open transactions keep; a machine that stopped writes nothing
+-- what open transactions keep; a machine that a fault of the disk stopped writes nothing
 abbrev pub Keeps : World → List Deed → Type 0
 Keeps (At s d) xs = AreCarried (txn_at s.store s.log) xs
 Keeps (Amid after session a s l es d) xs = AreCarried (txn_at s l) xs
@@ -171,7 +171,7 @@ opened_world opening p = At (opened_state opening (opened p.db p.view)) (opened_
 abbrev pub left_by : World → ℕ → Image
 left_by w k = image_of (disk_of w) (drop k (disk_of w).waiting)
 
--- The image can be read and is not refused, and what it recovers to is the database at a commit number, which is at least that of
+-- The image can be read and its records fit, and what it recovers to is the database at a commit number, which is at least that of
 -- each acknowledged commit, with its views' rows as they are evaluated afresh: one that an engine can be opened on.
 pub record IsRight (s : Store) (i : Image) (acknowledged : ℕ) : Type 0 where
   pub reading : Reading

@@ -156,11 +156,11 @@ pub record IsFirstWrong (p : Pages) (place : Place) : Type 0 where
   pub wrong : stored_number p.view place column ≢ fresh p.db.schema p.db.rows place column
   pub first : (earlier : Place) → place_cmp earlier place ≡ Less → IsFreshAt p earlier
 
-pub data Refusal : Type 0 where
-  BadImage : (rule place : ℕ) → Refusal
-  BadView : Place → Refusal
+pub data ImageFault : Type 0 where
+  BadImage : (rule place : ℕ) → ImageFault
+  BadView : Place → ImageFault
 
-pub data IsRefused (i : PlacedImage) : Refusal → Type 0 where
+pub data IsRefused (i : PlacedImage) : ImageFault → Type 0 where
   carried : (place : ℕ) → CarriedBreaks i.pages.db.schema i.carried place → IsRefused i (BadImage 13 place)
   further : (ds : List Deed) → CarriedAs i.pages.db.schema i.carried ds → (rule place : ℕ) → RecordBreaks i.pages ds i.after rule place → IsRefused i (BadImage rule place)
   reversal : (r : Reading) → PassesAs i r → (rule place : ℕ)
@@ -186,11 +186,11 @@ pub record IsFine (i : PlacedImage) : Type 0 where
 
 -- an image that is fine is not refused
 abbrev pub NeverBothLaw : Type 0
-NeverBothLaw = (i : PlacedImage) (why : Refusal) → IsFine i → IsRefused i why → ⊥
+NeverBothLaw = (i : PlacedImage) (why : ImageFault) → IsFine i → IsRefused i why → ⊥
 
 -- an image is refused for one cause, at one place
 abbrev pub OneRefusalLaw : Type 0
-OneRefusalLaw = (i : PlacedImage) (one other : Refusal) → IsRefused i one → IsRefused i other → one ≡ other
+OneRefusalLaw = (i : PlacedImage) (one other : ImageFault) → IsRefused i one → IsRefused i other → one ≡ other
 
 -- where no rule fails first, none fails
 abbrev pub EitherLaw : Type 0
@@ -206,7 +206,8 @@ abbrev pub AreSmall : List Numbered → Type 0
 AreSmall [] = Unit {0}
 AreSmall (r ∷ rs) = (r.number ≤ most_number) × AreSmall rs
 
--- so an image that a crash may leave is refused for nothing, wherever its records stand, but for the bytes of data
+-- so an image that a crash may leave is refused for nothing, wherever its records stand, where their numbers are small. Rule 15 is left
+-- out: no limit is set on the bytes of data.
 abbrev pub NotRefusedLaw : Type 0
 NotRefusedLaw = (p : Pages) → IsOpened p.db p.view → (opening : Opening) (w : World) → Run (opened_world opening p) w → (k : ℕ)
     → (i : PlacedImage) → IsPlaced i (left_by w k) → i.data_limit ≡ None → AreSmall (left_by w k).carried → AreSmall (left_by w k).after → IsFine i

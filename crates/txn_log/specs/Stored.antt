@@ -20,18 +20,18 @@ use Rattle.txn_log.specs.Appended.{Creates}
 use Rattle.txn_log.specs.Moments.{World, Run, opened_world, store_of, pages_now}
 
 -- an entry is its index and its key, and its value
-abbrev pub Entry : Type 0
-Entry = Place × List ℕ
+abbrev pub PageEntry : Type 0
+PageEntry = Place × List ℕ
 
 -- a row under its key
-abbrev pub IsRowEntry : Pages → Entry → Type 0
+abbrev pub IsRowEntry : Pages → PageEntry → Type 0
 IsRowEntry p e = (row : Row) × (get p.db.rows e.0 ≡ Some row) × (e.1 ≡ row_bytes (kinds_of_table (numbered p.db.schema e.0.0)) row)
 
 -- the count and the sums of a group, sixteen bytes each
 abbrev pub total_bytes : List ℤ → List ℕ
 total_bytes numbers = row_bytes (map (λ n. Huge) numbers) (map Number numbers)
 
-abbrev pub IsTotalEntry : Pages → Entry → Type 0
+abbrev pub IsTotalEntry : Pages → PageEntry → Type 0
 IsTotalEntry p e = (numbers : List ℤ) × (get p.view e.0 ≡ Some numbers) × (e.1 ≡ total_bytes numbers)
 
 -- the parts of a definition's text: those before the last are full
@@ -41,7 +41,7 @@ AreParts (part ∷ []) = length part ≤ part_bytes
 AreParts (part ∷ parts) = (length part ≡ part_bytes) × AreParts parts
 
 -- a part of a definition, under the object's number and its own
-pub record IsPartEntry (texts : List (List (List ℕ))) (e : Entry) : Type 0 where
+pub record IsPartEntry (texts : List (List (List ℕ))) (e : PageEntry) : Type 0 where
   pub index : e.0.0 ≡ 0
   pub before : ℕ
   pub parts : List (List ℕ)
@@ -64,8 +64,8 @@ abbrev pub in_parts : List ℕ → List (List ℕ)
 in_parts text = first_parts ((length text + (part_bytes - 1)) / part_bytes) text
 
 -- the entries are those of these pages, with the texts of their definitions in these parts, and no others
-abbrev pub StandFor : List Entry → List (List (List ℕ)) → Pages → Type 0
-StandFor es texts p = (e : Entry) → Contains es e ↔ ((IsRowEntry p e ⊎ IsTotalEntry p e) ⊎ IsPartEntry texts e)
+abbrev pub StandFor : List PageEntry → List (List (List ℕ)) → Pages → Type 0
+StandFor es texts p = (e : PageEntry) → Contains es e ↔ ((IsRowEntry p e ⊎ IsTotalEntry p e) ⊎ IsPartEntry texts e)
 
 -- each text makes the object that comes next
 abbrev pub AllCreate : Schema → List (List ℕ) → Schema → Type 0
@@ -86,7 +86,7 @@ pub record AreProper (p : Pages) : Type 0 where
 
 -- entries with texts stand for one database and its view rows
 abbrev pub OneStoredLaw : Type 0
-OneStoredLaw = (es : List Entry) (texts : List (List (List ℕ))) (p q : Pages) → Define texts p.db.schema → Define texts q.db.schema → AreProper p → AreProper q
+OneStoredLaw = (es : List PageEntry) (texts : List (List (List ℕ))) (p q : Pages) → Define texts p.db.schema → Define texts q.db.schema → AreProper p → AreProper q
     → p.db.number ≡ q.db.number → StandFor es texts p → StandFor es texts q → p ≡ q
 
 -- what a checkpoint publishes is proper, at every moment

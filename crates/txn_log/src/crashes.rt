@@ -47,7 +47,7 @@ pub fn stop_law()
     ensures { StopLaw }
 {}
 
-/// What a crash in a flush leaves of the log's blocks is a cut.
+/// The log's blocks with the one that a flush writes and without it are both cuts. That a crash leaves one of the two is for the disk.
 pub fn flush_law()
     ensures { FlushLaw }
 {}

@@ -21,7 +21,7 @@ pub fn wrong_view_law()
     ensures { WrongViewLaw }
 {}
 
-/// What a crash may leave is not refused.
+/// What a crash may leave is not refused, where record numbers are at most 2^62 and the bytes of data have no limit.
 pub fn not_refused_law()
     ensures { NotRefusedLaw }
 {}
