@@ -16,7 +16,7 @@ use Rattle.txn_machine.specs.Records.{Record, Definition}
 use Rattle.txn_machine.specs.Log.{Within, Above, row_entries, view_entries, definition_entries}
 use Rattle.txn_machine.specs.Laws.{AreInRange, IsOpened}
 use Rattle.txn_machine.specs.Log.{Opening}
-use Rattle.txn_log.specs.Replay.{Deed, Event, Pages, Reading, replay, on_pages, replayed, recovered, rows_without, view_without}
+use Rattle.txn_log.specs.Replay.{What, Deed, Event, Undo, Pages, Reading, replay, on_pages, replayed, recovered, rows_without, view_without}
 use Rattle.txn_log.specs.Fitting.{InRange, BackStands, BackFits, Stands, IsKnown, CarriedBelow, AreBelow, number_of, AllBack}
 use Rattle.txn_log.specs.Meaning.{definitions}
 use Rattle.txn_log.specs.Appended.{Numbered, written, Image, Says}
@@ -100,27 +100,42 @@ CarriedBreaks objects (r ∷ rs) place =
 
 -- ---- the records after the redo place
 
-module _ (p : Pages) (carried : List Deed) where
-  -- this record, where those before it said this, with this condition on numbers
-  abbrev pub Passes : (ViewRows → Place → Type 0) → List Event → Placed → Event → Type 0
-  Passes Range es r e =
-      (n : Numbered) × (r.entry ≡ Some n) × Says (definitions p.db.schema es) n e × Stands Range (replay (on_pages p carried) es) es e × AreBelow (number_of e) carried es × (number_of e ≤ most_number)
+-- a record can be reversed with any numbers
+abbrev pub BackAnyhow : Rows → ViewRows → What → Type 0
+BackAnyhow = BackStands Anyhow
+
+-- or that is not tried
+abbrev pub Untried : Rows → ViewRows → What → Type 0
+Untried rows stored w = Unit {0}
+
+-- an Undo that cannot reverse fails at the record that it names, which is one of these; any other record at its own place
+abbrev pub fails_at : List Placed → Placed → Event → ℕ
+fails_at rs r (Undo n t m) = place_by m rs
+fails_at rs r _ = r.place
+
+-- behind these carried records
+module _ (p : Pages) (first : List Placed) (carried : List Deed) where
+  -- this record, where those before it said this, with these conditions on numbers and on what an Undo reverses
+  abbrev pub Passes : (ViewRows → Place → Type 0) → (Rows → ViewRows → What → Type 0) → List Event → Placed → Event → Type 0
+  Passes Range Back es r e =
+      (n : Numbered) × (r.entry ≡ Some n) × Says (definitions p.db.schema es) n e × Stands Range Back (replay (on_pages p carried) es) es e × AreBelow (number_of e) carried es × (number_of e ≤ most_number)
 
   abbrev pub SaidAs : List Placed → List Event → Type 0
   SaidAs [] [] = Unit {0}
-  SaidAs (r ∷ rs) (e ∷ es) = Passes InRange es r e × SaidAs rs es
+  SaidAs (r ∷ rs) (e ∷ es) = Passes InRange BackFits es r e × SaidAs rs es
   SaidAs _ _ = ⊥
 
-  -- it fails rule 13, or it fails rule 14 alone
-  abbrev pub BreaksBy : ℕ → List Event → Placed → Type 0
-  BreaksBy rule es r =
-      ((rule ≡ 13) × ((e : Event) → Passes Anyhow es r e → ⊥))
-      ⊎ ((rule ≡ 14) × (e : Event) × Passes Anyhow es r e × (Passes InRange es r e → ⊥))
+  -- by itself it fails rule 13; or it is an Undo and what it reverses fails it; or rule 14 alone fails
+  abbrev pub BreaksBy : ℕ → ℕ → List Placed → List Event → Placed → Type 0
+  BreaksBy rule place rs es r =
+      ((rule ≡ 13) × (place ≡ r.place) × ((e : Event) → Passes Anyhow Untried es r e → ⊥))
+      ⊎ ((rule ≡ 13) × (e : Event) × (place ≡ fails_at (rs ++ first) r e) × Passes Anyhow Untried es r e × (Passes Anyhow BackAnyhow es r e → ⊥))
+      ⊎ ((rule ≡ 14) × (e : Event) × (place ≡ fails_at (rs ++ first) r e) × Passes Anyhow BackAnyhow es r e × (Passes InRange BackFits es r e → ⊥))
 
   -- the first that fails one
   abbrev pub RecordBreaks : List Placed → ℕ → ℕ → Type 0
   RecordBreaks [] rule place = ⊥
-  RecordBreaks (r ∷ rs) rule place = RecordBreaks rs rule place ⊎ ((place ≡ r.place) × (es : List Event) × SaidAs rs es × BreaksBy rule es r)
+  RecordBreaks (r ∷ rs) rule place = RecordBreaks rs rule place ⊎ ((es : List Event) × SaidAs rs es × BreaksBy rule place rs es r)
 
 -- ---- the last reversals
 
@@ -129,7 +144,7 @@ module _ (at : ℕ → ℕ) where
   BackBreaks [] rows stored rule place = ⊥
   BackBreaks (x ∷ xs) rows stored rule place =
       ((place ≡ at x.number)
-      × (((rule ≡ 13) × (BackStands Anyhow rows stored x.what → ⊥)) ⊎ ((rule ≡ 14) × BackStands Anyhow rows stored x.what × (BackFits rows stored x.what → ⊥))))
+      × (((rule ≡ 13) × (BackAnyhow rows stored x.what → ⊥)) ⊎ ((rule ≡ 14) × BackAnyhow rows stored x.what × (BackFits rows stored x.what → ⊥))))
       ⊎ (BackFits rows stored x.what × BackBreaks xs (rows_without x.what rows) (view_without x.what stored) rule place)
 
 -- ---- all of it
@@ -138,7 +153,7 @@ module _ (at : ℕ → ℕ) where
 pub record PassesAs (i : PlacedImage) (r : Reading) : Type 0 where
   pub pages : r.pages ≡ i.pages
   pub carried : CarriedAs i.pages.db.schema i.carried r.carried
-  pub after : SaidAs i.pages r.carried i.after r.after
+  pub after : SaidAs i.pages i.carried r.carried i.after r.after
 
 -- and what is left can be taken back
 pub record ReversesAs (i : PlacedImage) (r : Reading) : Type 0 where
@@ -162,7 +177,7 @@ pub data ImageFault : Type 0 where
 
 pub data IsRefused (i : PlacedImage) : ImageFault → Type 0 where
   carried : (place : ℕ) → CarriedBreaks i.pages.db.schema i.carried place → IsRefused i (BadImage 13 place)
-  further : (ds : List Deed) → CarriedAs i.pages.db.schema i.carried ds → (rule place : ℕ) → RecordBreaks i.pages ds i.after rule place → IsRefused i (BadImage rule place)
+  further : (ds : List Deed) → CarriedAs i.pages.db.schema i.carried ds → (rule place : ℕ) → RecordBreaks i.pages i.carried ds i.after rule place → IsRefused i (BadImage rule place)
   reversal : (r : Reading) → PassesAs i r → (rule place : ℕ)
       → BackBreaks (λ n. place_by n (i.after ++ i.carried)) (replayed r).live (replayed r).db.rows (replayed r).view rule place → IsRefused i (BadImage rule place)
   sums : (r : Reading) → ReversesAs i r → (AreInRange (recovered r).db.schema (recovered r).db.rows → ⊥) → IsRefused i (BadImage 14 0)
