@@ -1,4 +1,4 @@
--- A checkpoint can always be made; and the steps of a run of the machine are moves, with records that wait.
+-- A checkpoint can always be made; and the steps of a run of the machine are moves, each with a flush of its own.
 use Rattle.std.specs.Prelude.{◌≡◌, ℕ, Bool, true, false, cond, List, [], ◌∷◌, ◌++◌, Option, Some, None}
 use mathlib.Core.Path.{refl, sym, ap, subst, ◌∙◌}
 use mathlib.Core.Logic.{inl, inr}
