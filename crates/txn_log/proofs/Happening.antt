@@ -176,7 +176,7 @@ module _ (printed : PrintsAgain) where
   good_move : (v w : World) → Moves v w → IsGoodWorld v → IsGoodWorld w
   good_move v w (begins s disk i a said after may d f) is = begins_good s disk i a said after may d f is
   good_move v w (acts after i a s l e es disk) is = (effect_followed s l disk i a e is.0 is.1.0 is.2.0, is.1.1, is.2.1, is.3, is.4)
-  good_move v w (ends after i a s l disk) is =
+  good_move v w (ends after i a s l disk done) is =
       subst (λ (t : Store). IsFollowed t after.log disk) (sym is.3) (same_followed s l after.log disk is.4 is.0)
   good_move v w (flushes u writes) is = disk_good u (flushed_all (disk_of u)) (λ s l e. flush_followed s l (disk_of u)) is
   good_move v w (acknowledges u none writes) is = disk_good u (record (disk_of u) { acknowledged = (committed (store_of u)).number })

@@ -18,6 +18,9 @@ pub mod Once
 pub mod Printed
 pub mod Living
 pub mod Refusing
+pub mod Settling
+pub mod Differing
+pub mod Repeating
 pub mod Lifting
 pub mod Shopping
 pub mod Saving

@@ -1,20 +1,26 @@
--- A checkpoint can always be made; and the steps of a run of the machine are moves, with records that wait.
+-- A checkpoint can always be made; and the steps of a run of the machine are moves, each with a flush of its own.
 use Rattle.std.specs.Prelude.{◌≡◌, ℕ, Bool, true, false, cond, List, [], ◌∷◌, ◌++◌, Option, Some, None}
-use mathlib.Core.Path.{refl, sym, subst, ◌∙◌}
+use mathlib.Core.Path.{refl, sym, ap, subst, ◌∙◌}
 use mathlib.Core.Logic.{inl, inr}
+use Rattle.std.proofs.lemmas.Bool.{false≢true}
+use Rattle.std.proofs.lemmas.Option.{none-some}
 use Rattle.table_laws.proofs.Tables.{by_bool}
+use Rattle.txn_machine.specs.Acts as act
 use Rattle.txn_machine.specs.Acts.{Act}
-use Rattle.txn_machine.specs.Store.{Store, Effect, does}
+use Rattle.txn_machine.specs.Answers.{Answer}
+use Rattle.txn_machine.specs.Store.{Store, committed, Effect, does}
+use Rattle.txn_machine.specs.Store as stores
 use Rattle.txn_machine.specs.Ghosts.{the_views}
 use Rattle.txn_machine.specs.Records.{Record}
 use Rattle.txn_machine.specs.Log.{Log, Opening, logs, record_of}
 use Rattle.txn_machine.specs.State.{State, is_fault}
 use Rattle.txn_machine.specs.Steps as machine
-use Rattle.txn_machine.specs.Steps.{Step, Did}
+use Rattle.txn_machine.specs.Steps.{Step, Does, Did}
+use Rattle.txn_machine.specs.May.{May}
 use Rattle.txn_machine.specs.Laws.{IsOpened}
 use Rattle.txn_log.specs.Replay.{Deed, Event, Kept, Ghost, Clean, Undo, Commit, Abort, Defined, Pages, Stored, spares, keep_where, replay, on_pages}
 use Rattle.txn_log.specs.Fitting.{CarriedBelow, DoNumbersFall, AreBelow, AllFit}
-use Rattle.txn_log.specs.Moments.{Txn, txn_at, AreCarried, Disk, with_record, World, At, Amid, Halted, Keeps, Writes, begins, acts, ends, told, Run, here, then_move, opened_world}
+use Rattle.txn_log.specs.Moments.{Txn, txn_at, AreCarried, Disk, with_record, World, At, Amid, Halted, Keeps, Writes, begins, acts, ends, flushes, acknowledges, flushed_all, told, Run, here, then_move, opened_world}
 use Rattle.txn_log.proofs.Memory.{Memory}
 use Rattle.txn_log.proofs.Finding.{keep_true, keep_false}
 use Rattle.txn_log.proofs.Following.{PrintsAgain}
@@ -96,65 +102,135 @@ same_record : (r : Option Record) (n : ℕ) (d : Disk) → SameDisk d (with_reco
 same_record None n d = record { pages = refl; carried = refl; flushed = refl; acknowledged = refl }
 same_record (Some r) n d = record { pages = refl; carried = refl; flushed = refl; acknowledged = refl }
 
-abbrev pub Goes : World → State → Disk → Type 0
-Goes w after d = (e : Disk) × Run w (At after e) × SameDisk d e
+-- all effects of a step are done, and what they append waits
+record AllDone (after : State) (i : ℕ) (a : Act) (s : Store) (l : Log) (es : List Effect) (d : Disk) : Type 0 where
+  store : Store
+  log : Log
+  disk : Disk
+  run : Run (Amid after i a s l es d) (Amid after i a store log [] disk)
+  same : SameDisk d disk
+  store_is : store ≡ stores.run the_views s i es
 
-effects_go : (after : State) (i : ℕ) (a : Act) (s : Store) (l : Log) (es : List Effect) (d : Disk) → Goes (Amid after i a s l es d) after d
-effects_go after i a s l [] d = (
-  d,
-  then_move (Amid after i a s l [] d) (Amid after i a s l [] d) (At after d) (here (Amid after i a s l [] d)) (ends after i a s l d),
-  record { pages = refl; carried = refl; flushed = refl; acknowledged = refl },
-)
+effects_go : (after : State) (i : ℕ) (a : Act) (s : Store) (l : Log) (es : List Effect) (d : Disk) → AllDone after i a s l es d
+effects_go after i a s l [] d = record {
+  store = s;
+  log = l;
+  disk = d;
+  run = here (Amid after i a s l [] d);
+  same = record { pages = refl; carried = refl; flushed = refl; acknowledged = refl };
+  store_is = refl;
+}
 effects_go after i a s l (e ∷ es) d =
     let next : Disk = with_record (record_of s i a l e) l.next d in
     let w : World = Amid after i a (does the_views s i e) (logs s i a e l) es next in
     let u : World = Amid after i a s l (e ∷ es) d in
-    let rest : Goes w after next = effects_go after i a (does the_views s i e) (logs s i a e l) es next in (
-      rest.0,
-      run_both u w (At after rest.0) (then_move u u w (here u) (acts after i a s l e es d)) rest.1,
-      same_both d next rest.0 (same_record (record_of s i a l e) l.next d) rest.2,
-    )
+    let rest : AllDone after i a (does the_views s i e) (logs s i a e l) es next = effects_go after i a (does the_views s i e) (logs s i a e l) es next in record {
+      store = rest.store;
+      log = rest.log;
+      disk = rest.disk;
+      run = run_both u w (Amid after i a rest.store rest.log [] rest.disk) (then_move u u w (here u) (acts after i a s l e es d)) rest.run;
+      same = same_both d next rest.disk (same_record (record_of s i a l e) l.next d) rest.same;
+      store_is = rest.store_is;
+    }
 
-step_goes : (s : State) (i : ℕ) (d : Did) (after : State) (disk : Disk) → Step s d.session d.act d.said after → is_fault d.said ≡ false → Goes (At s disk) after disk
-step_goes s i d after disk h f = elim h.does [
+-- within a step, before what it appended is flushed
+pub record GoesIn (s : State) (d : Disk) (i : ℕ) (a : Act) (after : State) : Type 0 where
+  pub store : Store
+  pub log : Log
+  pub disk : Disk
+  pub run : Run (At s d) (Amid after i a store log [] disk)
+  pub same : SameDisk d disk
+  pub store_is : store ≡ after.store
+
+does_in : (s : State) (d : Disk) (i : ℕ) (a : Act) (said : Answer) (after : State) → May s i a → Does s i a said after → is_fault said ≡ false → GoesIn s d i a after
+does_in s d i a said after may does f =
+    let w : World = Amid after i a s.store s.log does.effects d in
+    let all : AllDone after i a s.store s.log does.effects d = effects_go after i a s.store s.log does.effects d in record {
+      store = all.store;
+      log = all.log;
+      disk = all.disk;
+      run = run_both (At s d) w (Amid after i a all.store all.log [] all.disk) (then_move (At s d) (At s d) w (here (At s d)) (begins s d i a said after may does f)) all.run;
+      same = all.same;
+      store_is = all.store_is ∙ sym (ap (λ (x : State). x.store) does.left);
+    }
+
+-- the step of an engine that is not stopped
+pub step_in : (s : State) (d : Disk) (i : ℕ) (a : Act) (said : Answer) (after : State) → s.stop ≡ None → Step s i a said after → is_fault said ≡ false → GoesIn s d i a after
+step_in s d i a said after runs h f = elim h.does [
+  | inl does ↦ does_in s d i a said after h.may does f
+  | inr t ↦ absurd (none-some t.stop (sym runs ∙ t.stopped))
+]
+
+-- what is stored is flushed and acknowledged
+abbrev pub settled : Store → Disk → Disk
+settled s d = record (flushed_all d) { acknowledged = (committed s).number }
+
+abbrev pub is_saving : Act → Bool
+is_saving act.Checkpoint = true
+is_saving _ = false
+
+-- a step that is no checkpoint ends
+pub ends_go : (after : State) (i : ℕ) (a : Act) (s : Store) (l : Log) (d : Disk) → is_saving a ≡ false → Run (Amid after i a s l [] d) (At after (settled s d))
+ends_go after i a s l d other =
+    let w : World = Amid after i a s l [] d in
+    let f : World = Amid after i a s l [] (flushed_all d) in
+    let g : World = Amid after i a s l [] (settled s d) in
+    then_move w g (At after (settled s d)) (then_move w f g (then_move w w f (here w) (flushes w tt)) (acknowledges f refl tt))
+    (ends after i a s l (settled s d) (record { acknowledged = refl; published = λ e. absurd (false≢true (sym other ∙ ap is_saving e)) }))
+
+-- and what is committed is acknowledged
+abbrev pub Goes : World → State → Type 0
+Goes w after = (e : Disk) × Run w (At after e) × (e.acknowledged ≡ (committed after.store).number)
+
+step_goes : (s : State) (d : Did) (after : State) (disk : Disk) → disk.acknowledged ≡ (committed s.store).number → Step s d.session d.act d.said after → is_fault d.said ≡ false → is_saving d.act ≡ false → Goes (At s disk) after
+step_goes s d after disk had h f other = elim h.does [
   | inl does ↦
-      let w : World = Amid after d.session d.act s.store s.log does.effects disk in
-      let rest : Goes w after disk = effects_go after d.session d.act s.store s.log does.effects disk in
-      (rest.0, run_both (At s disk) w (At after rest.0) (then_move (At s disk) (At s disk) w (here (At s disk)) (begins s disk d.session d.act d.said after h.may does f)) rest.1, rest.2)
+      let in_it : GoesIn s disk d.session d.act after = does_in s disk d.session d.act d.said after h.may does f in (
+        settled in_it.store in_it.disk,
+        run_both (At s disk) (Amid after d.session d.act in_it.store in_it.log [] in_it.disk) (At after (settled in_it.store in_it.disk)) in_it.run
+            (ends_go after d.session d.act in_it.store in_it.log in_it.disk other),
+        ap (λ (x : Store). (committed x).number) in_it.store_is,
+      )
   | inr t ↦ (
     disk,
     then_move (At s disk) (At s disk) (At after disk) (here (At s disk)) (told s disk d.session d.said after t),
-    record { pages = refl; carried = refl; flushed = refl; acknowledged = refl },
+    had ∙ sym (ap (λ (x : State). (committed x.store).number) t.left),
   )
 ]
 
-abbrev pub NoFaults : List Did → Type 0
-NoFaults [] = Unit {0}
-NoFaults (d ∷ ds) = (is_fault d.said ≡ false) × NoFaults ds
+-- none is answered by a fault, and none is a checkpoint
+abbrev pub AreOrdinary : List Did → Type 0
+AreOrdinary [] = Unit {0}
+AreOrdinary (d ∷ ds) = (is_fault d.said ≡ false) × (is_saving d.act ≡ false) × AreOrdinary ds
 
 -- as a test
-abbrev pub no_faults : List Did → Bool
-no_faults [] = true
-no_faults (d ∷ ds) = cond (is_fault d.said) false (no_faults ds)
+abbrev pub are_ordinary : List Did → Bool
+are_ordinary [] = true
+are_ordinary (d ∷ ds) = cond (is_fault d.said) false (cond (is_saving d.act) false (are_ordinary ds))
 
-pub faultless : (ds : List Did) → no_faults ds ≡ true → NoFaults ds
-faultless [] h = tt
-faultless (d ∷ ds) h = elim (is_fault d.said) as (λ b. cond b false (no_faults ds) ≡ true → (b ≡ false) × NoFaults ds) [
-  | true ↦ λ e. absurd (cc)
-  | false ↦ λ e. (refl, faultless ds e)
-] h
+-- where a test comes first
+tests_first : (b c : Bool) → cond b false c ≡ true → (b ≡ false) × (c ≡ true)
+tests_first true c e = absurd (cc)
+tests_first false c e = (refl, e)
 
--- a run of steps of which none is answered by a fault
-pub run_goes : (s : State) (ds : List Did) (after : State) (disk : Disk) → machine.Run s ds after → NoFaults ds → Goes (At s disk) after disk
-run_goes s [] after disk r f = (
+pub ordinary : (ds : List Did) → are_ordinary ds ≡ true → AreOrdinary ds
+ordinary [] h = tt
+ordinary (d ∷ ds) h =
+    let faultless = tests_first (is_fault d.said) (cond (is_saving d.act) false (are_ordinary ds)) h in
+    let other = tests_first (is_saving d.act) (are_ordinary ds) faultless.1 in
+    (faultless.0, other.0, ordinary ds other.1)
+
+-- a run of such steps
+pub run_goes : (s : State) (ds : List Did) (after : State) (disk : Disk) → disk.acknowledged ≡ (committed s.store).number → machine.Run s ds after → AreOrdinary ds → Goes (At s disk) after
+run_goes s [] after disk had r f = (
   disk,
   subst (λ (x : State). Run (At s disk) (At x disk)) (sym r) (here (At s disk)),
-  record { pages = refl; carried = refl; flushed = refl; acknowledged = refl },
+  had ∙ ap (λ (x : State). (committed x.store).number) (sym r),
 )
-run_goes s (d ∷ ds) after disk r f =
-    let first : Goes (At s disk) r.0 disk = step_goes s 0 d r.0 disk r.1 f.0 in
-    let rest : Goes (At r.0 first.0) after first.0 = run_goes r.0 ds after first.0 r.2 f.1 in (
+run_goes s (d ∷ ds) after disk had r f =
+    let first : Goes (At s disk) r.0 = step_goes s d r.0 disk had r.1 f.0 f.1 in
+    let rest : Goes (At r.0 first.0) after = run_goes r.0 ds after first.0 first.2 r.2 f.2 in (
       rest.0,
       run_both (At s disk) (At r.0 first.0) (At after rest.0) first.1 rest.1,
-      same_both disk first.0 rest.0 first.2 rest.2,
+      rest.2,
     )

@@ -1,5 +1,5 @@
 -- What is recovered at the moments of the shop's worked runs.
-use Rattle.std.specs.Prelude.{◌≡◌, ℕ, ◌≤◌, pos, List, [], ◌∷◌, ◌++◌, map, length, drop}
+use Rattle.std.specs.Prelude.{◌≡◌, ℕ, ◌≤◌, pos, List, [], ◌∷◌, map, length, drop}
 use mathlib.Core.Path.{refl, sym, ap, subst, ◌∙◌}
 use mathlib.Core.Logic.{inl, inr}
 use Rattle.std.proofs.Common.{arith}
@@ -14,14 +14,13 @@ use Rattle.txn_machine.specs.Store.{Store, committed, opened, Commits, does}
 use Rattle.txn_machine.specs.Log.{unlimited}
 use Rattle.txn_machine.specs.State.{State, opened_state}
 use Rattle.txn_machine.specs.Example.{sale, shop_database, one_sale}
-use Rattle.txn_machine.proofs.Moving.{state_now}
-use Rattle.txn_machine.proofs.Reached.{Holds'}
 use Rattle.txn_machine.proofs.ShopOpening.{shop_opened}
 use Rattle.txn_machine.proofs.Playing.{Turn, begins, lacks, makes, pays, commits, Plain, said_of, after, state_of, start, played, base, number_of, fresh_in}
 use Rattle.txn_machine.proofs.Tabled.{InOrder, with_sales, committed_is, base_sorted, fresh_is, origin_is}
 use Rattle.std.proofs.lemmas.Bool.Decides.{leb_tells}
 use Rattle.iv_types.specs.declared.refusal.EngineRefusal.TheVariants as refusal
 use Rattle.txn_machine.specs.Acts as act
+use Rattle.txn_machine.specs.Acts.{Act}
 use Rattle.txn_machine.specs.Answers as answer
 use Rattle.txn_machine.specs.Ghosts.{the_views}
 use Rattle.txn_machine.specs.Log.{record_of}
@@ -31,21 +30,17 @@ use Rattle.txn_machine.proofs.MovesAlone.{in_order}
 use Rattle.txn_machine.proofs.Played.{run_to, sound}
 use Rattle.txn_machine.proofs.Replays.{turn, putting}
 use Rattle.txn_log.specs.Replay.{Pages, recovered}
-use Rattle.txn_log.specs.Appended.{written, Image, AllSay}
-use Rattle.txn_log.specs.Moments.{Disk, with_record, fails_commit, World, At, Halted, store_of, disk_of, left_by, flushed_all, Run, here, then_move, flushes, acknowledges, opened_disk, IsRight}
-use Rattle.txn_log.specs.Worked.{shop, opened_shop, Leads, Total, total_place, HasTotals, Shows, inserting_steps, inserted_steps, one_total, StopInCommit, FaultInCommit}
+use Rattle.txn_log.specs.Appended.{Image, IsRead}
+use Rattle.txn_log.specs.Moments.{Disk, with_record, fails_commit, World, At, Amid, Halted, store_of, disk_of, image_of, left_by, flushed_all, Run, here, then_move, flushes, opened_disk, IsRight}
+use Rattle.txn_log.specs.Worked.{shop, opened_shop, Leads, Total, total_place, HasTotals, Shows, inserting_steps, one_total, StopInCommit, FaultInCommit}
 use Rattle.txn_log.proofs.Happening.{good_run, good_opened, followed_world, cut_right}
-use Rattle.txn_log.proofs.Lifting.{run_both, faultless, Goes, run_goes}
+use Rattle.txn_log.proofs.Lifting.{run_both, ordinary, Goes, GoesIn, run_goes, step_in, settled, ends_go}
+use Rattle.txn_log.proofs.Settling.{right_exact}
 use Rattle.txn_log.proofs.Printed.{prints_again}
 
 -- what is recovered where all that is committed is acknowledged
 abbrev pub Settled : World → Type 0
 Settled w = (disk_of w).acknowledged ≡ (committed (store_of w)).number
-
-right_exact : (s : Store) (i : Image) (acknowledged : ℕ) → Holds' s → acknowledged ≡ (committed s).number → (right : IsRight s i acknowledged) → (recovered right.reading).db ≡ committed s
-right_exact s i a g e right =
-    let n : (recovered right.reading).db.number ≡ (committed s).number = (let low = right.has_all in let high = right.not_more in omega arith) in
-    right.db ∙ (ap (state_at s.origin s.history) n ∙ state_now s.origin s.history g.history)
 
 -- the totals of a list of sales
 abbrev pub TotalsIn : List (Place × Row) → List Total → Type 0
@@ -79,43 +74,17 @@ pub none_left : {X : Type 0} (xs : List X) → drop (length xs) xs ≡ []
 none_left [] = refl
 none_left (x ∷ xs) = none_left xs
 
+-- without what waits, the image is the same
+pub same_shown : (v w : World) (number : ℕ) (image : left_by v 0 ≡ left_by w (length (disk_of w).waiting)) → Shows v 0 number [] [] → Shows w (length (disk_of w).waiting) number [] []
+same_shown v w number image h = record { reading = h.reading; is_read = subst (λ (i : Image). IsRead i h.reading) image h.is_read; db = h.db; view = tt }
+
+-- in a step, where nothing waited as it began
+pub before_flush : (s : State) (d : Disk) (i : ℕ) (a : Act) (t : State) (go : GoesIn s (flushed_all d) i a t) (number : ℕ) → Shows (At s (flushed_all d)) 0 number [] []
+    → Shows (Amid t i a go.store go.log [] go.disk) (length go.disk.waiting) number [] []
+before_flush s d i a t go number h = same_shown (At s (flushed_all d)) (Amid t i a go.store go.log [] go.disk) number
+    (λ x. image_of (record { pages = sym go.same.pages x; carried = sym go.same.carried x; flushed = sym go.same.flushed x; waiting = []; acknowledged = 0 }) (sym (none_left go.disk.waiting) x)) h
+
 -- ---- a stop in a commit
-
-abbrev inserted : Plain
-inserted = played start (turn 1 (begins Serial) ∷ putting 1 one_sale (turn 1 lacks ∷ turn 1 makes ∷ turn 1 pays ∷ turn 1 commits ∷ []))
-
-inserted_leads : Leads inserted_steps (state_of inserted)
-inserted_leads = run_to (turn 1 (begins Serial) ∷ putting 1 one_sale (turn 1 lacks ∷ turn 1 makes ∷ turn 1 pays ∷ turn 1 commits ∷ [])) tt
-
-pub stop_in_commit : StopInCommit
-stop_in_commit =
-    let s : State = state_of inserted in
-    let goes : Goes opened_shop s (opened_disk shop) = run_goes (opened_state unlimited (opened shop_database empty)) inserted_steps s (opened_disk shop) inserted_leads (faultless inserted_steps refl) in
-    let d : Disk = goes.0 in
-    let f : Disk = flushed_all d in
-    let g : Disk = record f { acknowledged = (committed s.store).number } in
-    let w : World = At s d in
-    let after : Run w (At s g) = then_move w (At s f) (At s g) (then_move w w (At s f) (here w) (flushes w tt)) (acknowledges (At s f) refl tt) in record {
-      committed = s;
-      leads = inserted_leads;
-      waiting = d;
-      before = goes.1;
-      shows_before = record {
-        reading = record { pages = shop; carried = []; after = [] };
-        is_read = record {
-          pages = sym goes.2.pages;
-          carried = ap (map written) goes.2.carried;
-          after = subst (λ xs. AllSay d.pages.db.schema xs []) (sym (ap (λ xs. xs ++ d.flushed) (none_left d.waiting) ∙ goes.2.flushed)) tt;
-        };
-        db = origin_is;
-        view = tt;
-      };
-      flushed = g;
-      after = after;
-      shows_after = settled_shows (At s g) (run_both opened_shop w (At s g) goes.1 after) inserted (committed_is inserted) refl (one_sale ∷ []) refl one_total (refl, refl, tt);
-    }
-
--- ---- a fault in a commit
 
 abbrev pub inserting_turns : List Turn
 inserting_turns = turn 1 (begins Serial) ∷ putting 1 one_sale (turn 1 lacks ∷ turn 1 makes ∷ turn 1 pays ∷ [])
@@ -123,11 +92,48 @@ inserting_turns = turn 1 (begins Serial) ∷ putting 1 one_sale (turn 1 lacks �
 abbrev pub not_committed : Plain
 not_committed = played start inserting_turns
 
+abbrev inserted_turns : List Turn
+inserted_turns = turn 1 (begins Serial) ∷ putting 1 one_sale (turn 1 lacks ∷ turn 1 makes ∷ turn 1 pays ∷ turn 1 commits ∷ [])
+
+abbrev inserted : Plain
+inserted = played start inserted_turns
+
+pub inserting_goes : Goes opened_shop (state_of not_committed)
+inserting_goes =
+    run_goes (opened_state unlimited (opened shop_database empty)) inserting_steps (state_of not_committed) (opened_disk shop) refl (run_to inserting_turns tt) (ordinary inserting_steps refl)
+
+pub stop_in_commit : StopInCommit
+stop_in_commit =
+    let s : State = state_of not_committed in
+    let t : State = state_of inserted in
+    let goes : Goes opened_shop s = inserting_goes in
+    let f : Disk = flushed_all goes.0 in
+    let at : Run opened_shop (At s f) = then_move opened_shop (At s goes.0) (At s f) goes.1 (flushes (At s goes.0) tt) in
+    let step : Step s 1 act.Commit (answer.Committed 3) t = sound not_committed 1 (in_order not_committed tt) (omega arith) commits tt in
+    let go : GoesIn s f 1 act.Commit t = step_in s f 1 act.Commit (answer.Committed 3) t refl step refl in
+    let w : World = Amid t 1 act.Commit go.store go.log [] go.disk in
+    let g : Disk = settled go.store go.disk in
+    let before : Run opened_shop w = run_both opened_shop (At s f) w at go.run in
+    let after : Run w (At t g) = ends_go t 1 act.Commit go.store go.log go.disk refl in record {
+      committed = t;
+      leads = run_to inserted_turns tt;
+      store = go.store;
+      log = go.log;
+      waiting = go.disk;
+      before = before;
+      shows_before = before_flush s goes.0 1 act.Commit t go 2 (settled_shows (At s f) at not_committed (committed_is not_committed) goes.2 [] refl [] tt 0);
+      flushed = g;
+      after = after;
+      shows_after = settled_shows (At t g) (run_both opened_shop w (At t g) before after) inserted (committed_is inserted) (ap (λ (x : Store). (committed x).number) go.store_is) (one_sale ∷ []) refl one_total (refl, refl, tt);
+    }
+
+-- ---- a fault in a commit
+
 pub fault_in_commit : FaultInCommit
 fault_in_commit =
     let s : State = state_of not_committed in
     let leads : Leads inserting_steps s = run_to inserting_turns tt in
-    let goes : Goes opened_shop s (opened_disk shop) = run_goes (opened_state unlimited (opened shop_database empty)) inserting_steps s (opened_disk shop) leads (faultless inserting_steps refl) in
+    let goes : Goes opened_shop s = inserting_goes in
     let step : Step s 1 act.Commit (said_of not_committed 1 commits) (state_of (after not_committed 1 commits)) =
     sound not_committed 1 (in_order not_committed tt) (omega arith) commits tt in
     let stopped : State = counted s 1 act.Commit (answer.Refused refusal.DiskFault) s.store [] s.definitions (log_after s 1 act.Commit (answer.Refused refusal.DiskFault) []) in
@@ -138,7 +144,7 @@ fault_in_commit =
     run_both opened_shop (At s goes.0) (Halted stopped next disk) goes.1 (then_move (At s goes.0) (At s goes.0) (Halted stopped next disk) (here (At s goes.0)) (fails_commit s goes.0 1 stopped step.may fails)) in
     let w : World = Halted stopped next disk in
     let good = followed_world w (good_run prints_again opened_shop w run (good_opened prints_again unlimited shop shop_opened)) in
-    let had : disk.acknowledged ≡ 2 = goes.2.acknowledged in
+    let had : disk.acknowledged ≡ 2 = goes.2 ∙ ap (λ (db : Database). db.number) (committed_is not_committed) in
     let right : (k : ℕ) → IsRight next (left_by w k) disk.acknowledged = λ k. cut_right next good.0 disk good.1 k in
     let early : (k : ℕ) → (recovered (right k).reading).db.number ≤ 2 → Shows w k 2 [] [] = λ k h.
     let number : (recovered (right k).reading).db.number ≡ 2 = (let low : disk.acknowledged ≤ (recovered (right k).reading).db.number = (right k).has_all in omega arith) in record {

@@ -1,5 +1,6 @@
 -- Entries stand for one database and its view rows.
 use Rattle.std.specs.Prelude.{◌≡◌, ℕ, suc, ℤ, pos, List, [], ◌∷◌, ◌++◌, map, length, get_or, Option, Some, None}
+use Rattle.std.specs.List.{concat}
 use Rattle.std.specs.FinMap.{get}
 use mathlib.Core.Path.{refl, sym, ap, subst, ◌∙◌}
 use mathlib.Core.Logic.{inl, inr}
@@ -21,7 +22,7 @@ use Rattle.iv_meaning.specs.Sound.{IsRow}
 use Rattle.txn_machine.specs.Stored.{IsStoredRow}
 use Rattle.txn_machine.proofs.Columns.{number_in_row}
 use Rattle.txn_log.specs.Replay.{Pages}
-use Rattle.txn_log.specs.Stored.{Entry, total_bytes, StandFor, AllCreate, AreProper, OneStoredLaw}
+use Rattle.txn_log.specs.Stored.{PageEntry, total_bytes, StandFor, AllCreate, AreProper, OneStoredLaw}
 use Rattle.txn_log.proofs.Once.{created}
 
 -- ---- definitions
@@ -48,7 +49,7 @@ total_numbered : (objects : Schema) (place : Place) (numbers : List ℤ) → IsS
 total_numbered objects place numbers t e = none-some (view t.of) (ap (numbered objects) (sym e) ∙ t.view_is)
 
 -- what stands under a place, if anything
-by_option : {X : Type 0} {P : Type 0} (o : Option X) → (o ≡ None → P) → ((x : X) → o ≡ Some x → P) → P
+pub by_option : {X : Type 0} {P : Type 0} (o : Option X) → (o ≡ None → P) → ((x : X) → o ≡ Some x → P) → P
 by_option None f g = f refl
 by_option (Some x) f g = g x refl
 
@@ -83,10 +84,10 @@ in_row p h place numbers e column = subst IsHuge (ap (number_in_row column) e) (
 
 -- ---- one of both
 
-module _ (es : List Entry) (texts : List (List ℕ)) (p q : Pages) (one : AreProper p) (other : AreProper q) (schema : p.db.schema ≡ q.db.schema) (h : StandFor es texts p) (k : StandFor es texts q) where
+module _ (es : List PageEntry) (texts : List (List (List ℕ))) (p q : Pages) (one : AreProper p) (other : AreProper q) (schema : p.db.schema ≡ q.db.schema) (h : StandFor es texts p) (k : StandFor es texts q) where
   row_found : (place : Place) (row : Row) → get p.db.rows place ≡ Some row → get q.db.rows place ≡ Some row
   row_found place row e =
-      let entry : Entry = (place, row_bytes (kinds_of_table (numbered p.db.schema place.0)) row) in
+      let entry : PageEntry = (place, row_bytes (kinds_of_table (numbered p.db.schema place.0)) row) in
       let r : IsRow p.db.schema place row = one.sound.rows place row e in
       let s : IsRow q.db.schema place row = subst (λ objects. IsRow objects place row) schema r in
       elim ((k entry).0 ((h entry).1 (inl (inl (row, e, refl))))) [
@@ -103,7 +104,7 @@ module _ (es : List Entry) (texts : List (List ℕ)) (p q : Pages) (one : ArePro
 
   total_found : (place : Place) (numbers : List ℤ) → get p.view place ≡ Some numbers → get q.view place ≡ Some numbers
   total_found place numbers e =
-      let entry : Entry = (place, total_bytes numbers) in
+      let entry : PageEntry = (place, total_bytes numbers) in
       let t : IsStoredRow p.db.schema place numbers = one.stored place numbers e in
       let u : IsStoredRow q.db.schema place numbers = subst (λ objects. IsStoredRow objects place numbers) schema t in
       elim ((k entry).0 ((h entry).1 (inl (inr (numbers, e, refl))))) [
@@ -122,7 +123,7 @@ module _ (es : List Entry) (texts : List (List ℕ)) (p q : Pages) (one : ArePro
 
 pub one_stored : OneStatement → OneStoredLaw
 one_stored alone es texts p q ps qs one other number h k =
-    let schema : p.db.schema ≡ q.db.schema = creates_once alone [] texts p.db.schema q.db.schema ps qs in
+    let schema : p.db.schema ≡ q.db.schema = creates_once alone [] (map concat texts) p.db.schema q.db.schema ps.1 qs.1 in
     let rows : p.db.rows ≡ q.db.rows = same_table place_cmp_total place_cmp-IsAntisymmetric p.db.rows q.db.rows (λ place.
     both_find (get p.db.rows place) (get q.db.rows place) (row_found es texts p q one other schema h k place) (row_found es texts q p other one (sym schema) k h place)) in
     let totals : p.view ≡ q.view = same_table place_cmp_total place_cmp-IsAntisymmetric p.view q.view (λ place.

@@ -17,7 +17,7 @@ use Rattle.txn_machine.proofs.Replays.{turn, inserting, putting, taking_back}
 use Rattle.txn_log.specs.Moments.{Disk, World, At, flushed_all, Run, here, then_move, flushes, acknowledges, opened_disk, pages_now, published}
 use Rattle.txn_log.specs.Worked.{shop, opened_shop, Leads, Total, Shows}
 use Rattle.txn_log.specs.Day.{both_shops, of_shop, old_sale, new_sale, day_steps, day_rows, day_totals, StopAfter, StopAfterDay}
-use Rattle.txn_log.proofs.Lifting.{run_both, no_faults, faultless, Goes, run_goes}
+use Rattle.txn_log.proofs.Lifting.{run_both, are_ordinary, ordinary, Goes, run_goes}
 use Rattle.txn_log.proofs.Shopping.{TotalsIn, settled_shows}
 use Rattle.txn_log.proofs.Saving.{saved_plain, saves_does, may_save, saves_goes}
 
@@ -45,17 +45,17 @@ day_turns =
 saved_committed : (p : Plain) (n : ℕ) → committed (state_of (saved_plain p n)).store ≡ with_sales (number_of p) (base p)
 saved_committed p n = committed_is (saved_plain p n)
 
-saved_runs : (p : Plain) (steps : List Did) (number : ℕ) (rows : List Row) (totals : List Total) → Leads steps (state_of p) → no_faults steps ≡ true → (state_of p).stop ≡ None → number ≡ number_of p
+saved_runs : (p : Plain) (steps : List Did) (number : ℕ) (rows : List Row) (totals : List Total) → Leads steps (state_of p) → are_ordinary steps ≡ true → (state_of p).stop ≡ None → number ≡ number_of p
     → map (λ row. ((1, key_of sale row), row)) rows ≡ base p → TotalsIn (base p) totals → StopAfter steps number rows totals
 saved_runs p steps number rows totals leads clear runs number_is rows_are totals_are =
     let s : State = state_of p in
-    let goes : Goes opened_shop s (opened_disk shop) = run_goes (opened_state unlimited (opened shop_database empty)) steps s (opened_disk shop) leads (faultless steps clear) in
+    let goes : Goes opened_shop s = run_goes (opened_state unlimited (opened shop_database empty)) steps s (opened_disk shop) refl leads (ordinary steps clear) in
     let f : Disk = flushed_all goes.0 in
     let g : Disk = record f { acknowledged = (committed s.store).number } in
     let w : World = At s goes.0 in
     let run : Run opened_shop (At s g) = run_both opened_shop w (At s g) goes.1 (then_move w (At s f) (At s g) (then_move w w (At s f) (here w) (flushes w tt)) (acknowledges (At s f) refl tt)) in
     let committed_number : number ≡ (committed s.store).number = number_is ∙ sym (ap (λ (db : Database). db.number) (committed_is p)) in
-    let saves = saves_goes p number g runs committed_number run in
+    let saves = saves_goes p number g runs committed_number refl run in
     let t : State = state_of (saved_plain p number) in
     let e : Disk = published (pages_now s.store) saves.0 g in
     let saved_run : Run opened_shop (At t e) = run_both opened_shop (At s g) (At t e) run saves.1 in

@@ -9,7 +9,7 @@ use Rattle.iv_meaning.specs.Binding.{bind}
 use Rattle.iv_meaning.specs.Statement.{create}
 use Rattle.txn_machine.specs.Records as log
 use Rattle.txn_machine.specs.Records.{Record}
-use Rattle.txn_log.specs.Replay.{What, Wrote, Added, Deed, Event, Kept, Ghost, Clean, Undo, Commit, Abort, Defined, Pages, Reading}
+use Rattle.txn_log.specs.Replay.{What, Wrote, Added, Deed, Event, Kept, Ghost, Clean, Undo, Commit, Abort, Defined, Pages, Reading, recovered}
 use Rattle.txn_log.specs.Meaning.{definitions}
 
 -- a record with its number
@@ -34,6 +34,10 @@ pub record Image : Type 0 where
   pub carried : List Numbered
   -- those after the redo place
   pub after : List Numbered
+
+-- the one that the checkpoint at the end of an opening publishes
+abbrev pub closed : Reading → Image
+closed r = record { pages = recovered r; carried = []; after = [] }
 
 -- ---- how they are read
 

@@ -14,7 +14,7 @@ use Rattle.iv_meaning.specs.Database.{Row, key_of}
 use Rattle.txn_machine.specs.Log.{part_bytes}
 use Rattle.txn_log.specs.Fitting.{IsGroup}
 use Rattle.txn_log.specs.Appended.{Creates}
-use Rattle.txn_log.specs.Stored.{Entry, total_bytes, AllCreate}
+use Rattle.txn_log.specs.Stored.{PageEntry, total_bytes, AllCreate}
 
 -- ---- an image as it is found
 
@@ -34,12 +34,12 @@ pub record Header : Type 0 where
 pub record Page : Type 0 where
   pub place : ℕ
   pub formed : Bool
-  pub entries : List Entry
+  pub entries : List PageEntry
 
 -- an entry and the place of its page
 pub record Found : Type 0 where
   pub page : ℕ
-  pub entry : Entry
+  pub entry : PageEntry
 
 pub record Device : Type 0 where
   pub bytes : ℕ
@@ -78,7 +78,7 @@ placed_from place (b ∷ bs) = (place, b) ∷ placed_from (place + 1) bs
 
 -- ---- entries
 
-abbrev pub found_in : ℕ → List Entry → List Found
+abbrev pub found_in : ℕ → List PageEntry → List Found
 found_in place [] = []
 found_in place (e ∷ es) = record { page = place; entry = e } ∷ found_in place es
 
@@ -131,7 +131,7 @@ abbrev pub MakesNext : List (ℕ × List ℕ) → ℕ × List ℕ → Type 0
 MakesNext earlier t = (objects : Schema) × AllCreate [] (reverse (texts_found earlier)) objects × (o : Object) × Creates objects t.1 o
 
 -- a definition's part, a row under its key, or the numbers of a group
-abbrev pub EntryStands : Schema → Entry → Type 0
+abbrev pub EntryStands : Schema → PageEntry → Type 0
 EntryStands objects e =
     (e.0.0 ≡ 0)
     ⊎ ((t : TableDef) × (row : Row) × (numbered objects e.0.0 ≡ Some (table t)) × FitAll (kinds_of t) row × (e.1 ≡ row_bytes (kinds_of t) row) × (e.0.1 ≡ key_of t row))

@@ -1,7 +1,7 @@
 -- No clause of `run` rests on this module: it serves contracts between crates.
 --
--- Which images are not refused for their records: each record fits what stands where it is replayed, and what is left can be taken
--- back. Lists of records have the latest first.
+-- When the records of an image fit: each fits what stands where it is replayed, and what is left can be taken back. Lists of records
+-- have the latest first. The bounds on record numbers and on the bytes of data stand apart, where images are refused.
 use Rattle.std.specs.Prelude.{◌≡◌, ℕ, ◌+◌, pos, true, List, [], ◌∷◌, length, Some, None, IsSome, ◌<◌}
 use Rattle.std.specs.FinMap.{get}
 use Rattle.table_laws.specs.Place.{Place}
@@ -66,20 +66,23 @@ module _ (Range : ViewRows → Place → Type 0) where
   BackStands rows view (Wrote c) = get rows c.key ≡ c.after
   BackStands rows view (Added d) = IsSome (get view (place_of d)) × Range (add_to view (negated d)) (place_of d)
 
+-- And with a condition on what an Undo reverses.
+module _ (Back : Rows → ViewRows → What → Type 0) where
   -- an Undo names the transaction's latest kept record, and that can be reversed
   pub record UndoStands (s : Stored) (t m : ℕ) : Type 0 where
     pub latest : Deed
     pub earlier : List Deed
     pub is_latest : own t s.live ≡ latest ∷ earlier
     pub number : latest.number ≡ m
-    pub back : BackStands s.db.rows s.view latest.what
+    pub back : Back s.db.rows s.view latest.what
 
+module _ (Range : ViewRows → Place → Type 0) (Back : Rows → ViewRows → What → Type 0) where
   -- the record fits what stands there, where these came before it
   abbrev pub Stands : Stored → List Event → Event → Type 0
-  Stands s rs (Kept x) = (survives rs x.transaction x.number ≡ true) × IsKnown s.db.schema x.what × WhatStands s x.what
+  Stands s rs (Kept x) = (survives rs x.transaction x.number ≡ true) × IsKnown s.db.schema x.what × WhatStands Range s x.what
   Stands s rs (Ghost n p columns) = IsGroup s.db.schema p × (get s.view p ≡ None)
   Stands s rs (Clean n p) = IsGroup s.db.schema p × IsSome (get s.view p) × ((column : ℕ) → stored_number s.view p column ≡ pos 0)
-  Stands s rs (Undo n t m) = UndoStands s t m
+  Stands s rs (Undo n t m) = UndoStands Back s t m
   Stands s rs (Commit n t k) = (survives rs t n ≡ true) × (k ≡ s.db.number + 1)
   Stands s rs (Abort n t) = survives rs t n ≡ true
   Stands s rs (Defined n k o) = (k ≡ s.db.number + 1) × IsAccepted s.db o
@@ -91,10 +94,10 @@ abbrev pub BackFits : Rows → ViewRows → What → Type 0
 BackFits = BackStands InRange
 
 abbrev pub UndoFits : Stored → ℕ → ℕ → Type 0
-UndoFits = UndoStands InRange
+UndoFits = UndoStands BackFits
 
 abbrev pub RecordFits : Stored → List Event → Event → Type 0
-RecordFits = Stands InRange
+RecordFits = Stands InRange BackFits
 
 abbrev pub number_of : Event → ℕ
 number_of (Kept x) = x.number

@@ -10,8 +10,8 @@ abbrev pub after_of : List (List Numbered) → List Numbered
 after_of [] = []
 after_of (g ∷ gs) = after_of gs ++ reverse g
 
--- A crash in a flush leaves the groups or one more, which has all that waited. Both are cuts: without all of the waiting records,
--- and with all of them.
+-- The groups, and those with one more that has all that waited, are both cuts: without all of the waiting records, and with all of
+-- them. That a crash in a flush leaves the one or the other is for the disk.
 abbrev pub FlushLaw : Type 0
 FlushLaw = (d : Disk) (gs : List (List Numbered)) (rs : List Numbered) → d.flushed ≡ after_of gs → d.waiting ≡ reverse rs
     → (drop (length d.waiting) d.waiting ++ d.flushed ≡ after_of gs)

@@ -113,7 +113,7 @@ with_disk (At s d) e = At s e
 with_disk (Amid after session a s l es d) e = Amid after session a s l es e
 with_disk (Halted s next d) e = Halted s next e
 
--- what open transactions keep; a machine that stopped writes nothing
+-- what open transactions keep; a machine that a fault of the disk stopped writes nothing
 abbrev pub Keeps : World → List Deed → Type 0
 Keeps (At s d) xs = AreCarried (txn_at s.store s.log) xs
 Keeps (Amid after session a s l es d) xs = AreCarried (txn_at s l) xs
@@ -123,14 +123,19 @@ abbrev pub Writes : World → Type 0
 Writes (Halted s next d) = ⊥
 Writes _ = Unit {0}
 
+-- what is committed is acknowledged, and a Checkpoint has published what is stored
+pub record IsDone (a : Act) (s : Store) (d : Disk) : Type 0 where
+  pub acknowledged : d.acknowledged ≡ (committed s).number
+  pub published : a ≡ act.Checkpoint → (d.pages ≡ pages_now s) × (d.flushed ≡ []) × (d.waiting ≡ [])
+
 pub data Moves : World → World → Type 0 where
-  -- a step begins that is not answered by a fault, does its effects one after another, and ends
+  -- a step begins that is not answered by a fault, does its effects one after another, and ends once its answer is so on the disk
   begins : (s : State) (disk : Disk) (session : ℕ) (a : Act) (said : Answer) (after : State) → May s session a → (d : Does s session a said after) → is_fault said ≡ false
       → Moves (At s disk) (Amid after session a s.store s.log d.effects disk)
   acts : (after : State) (session : ℕ) (a : Act) (s : Store) (l : Log) (e : Effect) (es : List Effect) (disk : Disk)
       → Moves (Amid after session a s l (e ∷ es) disk)
       (Amid after session a (does the_views s session e) (logs s session a e l) es (with_record (record_of s session a l e) l.next disk))
-  ends : (after : State) (session : ℕ) (a : Act) (s : Store) (l : Log) (disk : Disk) → Moves (Amid after session a s l [] disk) (At after disk)
+  ends : (after : State) (session : ℕ) (a : Act) (s : Store) (l : Log) (disk : Disk) → IsDone a s disk → Moves (Amid after session a s l [] disk) (At after disk)
   -- what waits is flushed
   flushes : (w : World) → Writes w → Moves w (with_disk w (flushed_all (disk_of w)))
   -- what is on the disk is acknowledged
@@ -166,7 +171,7 @@ opened_world opening p = At (opened_state opening (opened p.db p.view)) (opened_
 abbrev pub left_by : World → ℕ → Image
 left_by w k = image_of (disk_of w) (drop k (disk_of w).waiting)
 
--- The image can be read and is not refused, and what it recovers to is the database at a commit number, which is at least that of
+-- The image can be read and its records fit, and what it recovers to is the database at a commit number, which is at least that of
 -- each acknowledged commit, with its views' rows as they are evaluated afresh: one that an engine can be opened on.
 pub record IsRight (s : Store) (i : Image) (acknowledged : ℕ) : Type 0 where
   pub reading : Reading

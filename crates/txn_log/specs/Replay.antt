@@ -164,10 +164,6 @@ reversed s = record { db = record s.db { rows = all_rows_back s.live s.db.rows }
 abbrev pub recovered : Reading → Pages
 recovered i = reversed (replayed i)
 
--- the image that the checkpoint at the end of an opening publishes
-abbrev pub closed : Reading → Reading
-closed i = record { pages = recovered i; carried = []; after = [] }
-
 -- ---- image meaning, by sums over the records
 
 abbrev pub amount_of : Place → ℕ → What → ℤ

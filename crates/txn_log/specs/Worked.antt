@@ -12,14 +12,14 @@ use Rattle.txn_machine.specs.Acts as act
 use Rattle.txn_machine.specs.Answers as answer
 use Rattle.txn_machine.specs.Stored.{ViewRows, stored_number}
 use Rattle.txn_machine.specs.Store.{Store, opened}
-use Rattle.txn_machine.specs.Log.{unlimited}
+use Rattle.txn_machine.specs.Log.{Log, unlimited}
 use Rattle.txn_machine.specs.State.{State, opened_state}
 use Rattle.txn_machine.specs.Steps as machine
 use Rattle.txn_machine.specs.Steps.{Did}
 use Rattle.txn_machine.specs.Example.{sale, by_shop, shop_database, one_sale, other_sale, starts, inserts_first, inserts, commits}
 use Rattle.txn_log.specs.Replay.{Pages, Reading, recovered}
 use Rattle.txn_log.specs.Appended.{IsRead}
-use Rattle.txn_log.specs.Moments.{Disk, World, At, Halted, Run, opened_world, left_by}
+use Rattle.txn_log.specs.Moments.{Disk, World, At, Amid, Halted, Run, opened_world, left_by}
 
 abbrev pub shop : Pages
 shop = record { db = shop_database; view = empty }
@@ -67,15 +67,18 @@ inserted_steps = starts 1 2 (inserts_first 1 one_sale (commits 1 3 []))
 abbrev pub one_total : List Total
 one_total = record { shop = 7; count = 1; total = 10 } ∷ []
 
--- Until the gate of the block is open no image has the sale; with it each has.
+-- While the records of its block wait, the image without them has no sale; as the commit is answered, each has it.
 pub record StopInCommit : Type 0 where
   pub committed : State
   pub leads : Leads inserted_steps committed
+  -- in its step, done in memory
+  pub store : Store
+  pub log : Log
   pub waiting : Disk
-  pub before : Run opened_shop (At committed waiting)
-  pub shows_before : Shows (At committed waiting) (length waiting.waiting) 2 [] []
+  pub before : Run opened_shop (Amid committed 1 act.Commit store log [] waiting)
+  pub shows_before : Shows (Amid committed 1 act.Commit store log [] waiting) (length waiting.waiting) 2 [] []
   pub flushed : Disk
-  pub after : Run (At committed waiting) (At committed flushed)
+  pub after : Run (Amid committed 1 act.Commit store log [] waiting) (At committed flushed)
   pub shows_after : (k : ℕ) → Shows (At committed flushed) k 3 (one_sale ∷ []) one_total
 
 -- and where the disk fails to open it, an image has the sale or has not
@@ -110,12 +113,14 @@ pub record StopAfterCheckpoint : Type 0 where
   pub checkpoint : Run (At inserted waiting) (At saved published)
   pub has_sale : get published.pages.db.rows (1, key_of sale one_sale) ≡ Some one_sale
   pub shows_published : (k : ℕ) → Shows (At saved published) k 2 [] []
-  -- the other commit: until its block's gate is open, and with it
+  -- the other commit: while its records wait, and as it is answered
   pub committed : State
   pub more : machine.Run saved other_steps committed
+  pub store : Store
+  pub log : Log
   pub unflushed : Disk
-  pub commits : Run (At saved published) (At committed unflushed)
-  pub shows_before : Shows (At committed unflushed) (length unflushed.waiting) 2 [] []
+  pub commits : Run (At saved published) (Amid committed 2 act.Commit store log [] unflushed)
+  pub shows_before : Shows (Amid committed 2 act.Commit store log [] unflushed) (length unflushed.waiting) 2 [] []
   pub flushed : Disk
-  pub after : Run (At committed unflushed) (At committed flushed)
+  pub after : Run (Amid committed 2 act.Commit store log [] unflushed) (At committed flushed)
   pub shows_after : (k : ℕ) → Shows (At committed flushed) k 3 (other_sale ∷ []) other_total

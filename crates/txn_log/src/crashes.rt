@@ -1,10 +1,15 @@
 //! Laws of crashes. Each function is there for its contract.
 ghost use Rattle.txn_log.specs.Groups.{FlushLaw};
-ghost use Rattle.txn_log.specs.Laws.{CheckpointLaw, CrashLaw, LivesLaw, MeaningLaw, ReadingLaw, RecoveredViewsLaw, RepeatLaw, StopLaw};
+ghost use Rattle.txn_log.specs.Laws.{CheckpointLaw, CommittedLaw, CrashLaw, LivesLaw, MeaningLaw, ReadingLaw, RecoveredViewsLaw, RepeatLaw, StopLaw};
 
 /// Whatever a crash may leave at any moment recovers to the database at a commit number, with every acknowledged commit.
 pub fn crash_law()
     ensures { CrashLaw }
+{}
+
+/// Between two steps a crash loses nothing that is committed.
+pub fn committed_law()
+    ensures { CommittedLaw }
 {}
 
 /// What a checkpoint is to carry can be found at every moment.
@@ -42,7 +47,7 @@ pub fn stop_law()
     ensures { StopLaw }
 {}
 
-/// What a crash in a flush leaves of the log's blocks is a cut.
+/// The log's blocks with the one that a flush writes and without it are both cuts. That a crash leaves one of the two is for the disk.
 pub fn flush_law()
     ensures { FlushLaw }
 {}

@@ -1,5 +1,5 @@
 //! Laws of the images that are refused. Each function is there for its contract.
-ghost use Rattle.txn_log.specs.Refused.{EitherLaw, NeverBothLaw, NotRefusedLaw, OneRefusalLaw};
+ghost use Rattle.txn_log.specs.Refused.{EitherLaw, NeverBothLaw, NotRefusedLaw, OneRefusalLaw, WrongViewLaw};
 
 /// An image of which no rule fails and whose views are as evaluated afresh is not refused.
 pub fn never_both_law()
@@ -16,7 +16,12 @@ pub fn either_law()
     ensures { EitherLaw }
 {}
 
-/// What a crash may leave is not refused.
+/// An image of which no rule fails and with a view's row that is not as evaluated afresh is refused by BadView.
+pub fn wrong_view_law()
+    ensures { WrongViewLaw }
+{}
+
+/// What a crash may leave is not refused, where record numbers are at most 2^62 and the bytes of data have no limit.
 pub fn not_refused_law()
     ensures { NotRefusedLaw }
 {}

@@ -2,7 +2,7 @@
 ghost use Rattle.txn_log.specs.Day.{StopAfterDay};
 ghost use Rattle.txn_log.specs.Worked.{FaultInCommit, StopAfterCheckpoint, StopInCommit};
 
-/// A stop in a commit: the sale is recovered exactly where its block's gate is open.
+/// A stop in a commit: without its records, which wait, the sale is not recovered, and as the commit is answered it is.
 pub fn stop_in_commit()
     ensures { StopInCommit }
 {}
