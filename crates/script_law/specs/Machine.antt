@@ -1,7 +1,7 @@
 -- No clause of `run` rests on this module: it serves contracts between crates.
 --
 -- The machine of transactions as its sessions see it.
-use Rattle.std.specs.Prelude.{◌≡◌, ◌⊎◌, ℕ, ◌+◌, List, [], ◌∷◌, Option, Some, None, IsSome}
+use Rattle.std.specs.Prelude.{◌≡◌, ◌⊎◌, ℕ, ◌+◌, ◌==◌, not, length, List, [], ◌∷◌, Option, Some, None, IsSome}
 use Rattle.std.specs.List.{Contains}
 use Rattle.std.specs.Option.{option_map}
 use Rattle.iv_types.specs.declared.refusal.Refusal.{Refusal}
@@ -36,7 +36,7 @@ kept_seen (Put c owed ∷ ks) = Some c ∷ kept_seen ks
 kept_seen (Pay d ∷ ks) = None ∷ kept_seen ks
 
 abbrev pub txn_seen : Schema → List Told → Open → Txn
-txn_seen objects told o = record { mode = o.mode; number = o.number; objects = objects; told = told; kept = kept_seen o.kept }
+txn_seen objects told o = record { mode = o.mode; number = o.number; objects = objects; told = told; kept = kept_seen o.kept; owed = length o.owed; is_back = not (o.back == 0) }
 
 abbrev pub seen_of : Story → Visible
 seen_of story = record {
