@@ -22,7 +22,7 @@ use Rattle.txn_machine.specs.Acts.{Act}
 use Rattle.txn_machine.specs.Answers as answer
 use Rattle.txn_machine.specs.Answers.{Answer}
 use Rattle.txn_machine.specs.Deltas.{RowChange}
-use Rattle.script_law.specs.Seen.{Event, Fails, Ends, Commits, event, is_stop, Txn, IsTruthful, kept_of, changes, in_order, new_txn, MayAsk}
+use Rattle.script_law.specs.Seen.{Event, Fails, Ends, Commits, event, is_stop, Txn, IsTruthful, kept_of, changes, in_order, new_txn, MayWant}
 use Rattle.script_law.specs.Programs.{Standing, outside_with, Todo, says, asks, Job, IsDone, passed_outside, began, IsClosed, is_alone, is_refused, is_passed, creates, denies, Closes, IsOut, IsLone, Grows, objects_of, new_open, is_begin, Serves, OpensFirst, Starts, BeginsSo, MayCome, Proceeds, next_txn}
 use Rattle.script_law.specs.Works.{Work, alone_on, is_work, Works, WorkLaws}
 use Rattle.script_law.specs.Sessions.{Frame, undo, runs, stays_out, ends_with, outside_frame, fails_defs, begins_with, creates_with, start_outside, commit_next, end_next, begun_next, defs_next, schema_next}
@@ -212,7 +212,7 @@ module _ (works : Works) (laws : WorkLaws works) (statement : StatementTree) (nu
     opens_first : (b : Bool) (t : Option Txn) → IsOut b t → Grows copy (objects_of (record { statement = statement; before = None; number = number; copy = copy }) t) → OpensFirst b j t (begins_with works mode copy next)
     opens_first b t out g = (may b t out, λ said m. by b t out g said m)
       where
-        may : (b : Bool) (t : Option Txn) → IsOut b t → IsTrue b ⊎ MayAsk t (act.Begin mode)
+        may : (b : Bool) (t : Option Txn) → IsOut b t → IsTrue b ⊎ MayWant t (act.Begin mode)
         may b None out = inr tt
         may b (Some t) (inl e) = absurd (cc)
         may b (Some t) (inr e) = inl e
@@ -231,7 +231,7 @@ module _ (works : Works) (laws : WorkLaws works) (statement : StatementTree) (nu
       → Serves b j t (creates_with works copy statement)
   creates_serve b t out g nb = (may b t out, λ said m. by b t out g said m)
     where
-      may : (b : Bool) (t : Option Txn) → IsOut b t → IsTrue b ⊎ MayAsk t (act.Schema statement)
+      may : (b : Bool) (t : Option Txn) → IsOut b t → IsTrue b ⊎ MayWant t (act.Schema statement)
       may b None out = inr tt
       may b (Some t) (inl e) = absurd (cc)
       may b (Some t) (inr e) = inl e

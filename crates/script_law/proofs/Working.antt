@@ -127,7 +127,7 @@ module _ (j : Job) (works : Works) where
   -- so many kept steps are taken back, and then the program goes on; this is so of what is left each time
   pub undo_serves : (Holds : List (Option RowChange) → Txn → Type 0)
       → ((t : Txn) (k : Option RowChange) (later rest : List (Option RowChange)) → t.kept ≡ k ∷ rest → Holds (k ∷ later) t
-        → Holds later (record t { told = taken_back t.kept t.told; kept = but_latest t.kept; owed = owed_again t.kept t.owed; is_back = is_pay t.kept }))
+      → Holds later (record t { told = taken_back t.kept t.told; kept = but_latest t.kept; owed = owed_again t.kept t.owed; is_back = is_pay t.kept }))
       → (start first : Txn) (next : Todo) (fail : EngineRefusal → Todo)
       → ((t : Txn) → Since first t [] 0 → Holds [] t → ((db : Database) → IsTruthful db t → IsTruthful db start) → Serves false j (Some t) next)
       → ((t : Txn) (later : List (Option RowChange)) (n : ℕ) (why : EngineRefusal) → Since first t later n → IsTrue (is_stop (Fails why)) → Serves true j (Some t) (fail why))
@@ -139,8 +139,8 @@ module _ (j : Job) (works : Works) where
   undo_serves Holds lasts start first next fail goes stops (suc n) t (k ∷ later) h so from = (
     inr (λ e. let x = sym h.kept_is ∙ e in cc),
     by (undo_serves Holds lasts start first next fail goes stops n
-      (record t { told = taken_back t.kept t.told; kept = but_latest t.kept; owed = owed_again t.kept t.owed; is_back = is_pay t.kept }) later (since_back first t k later n h)
-      (lasts t k later (later ++ first.kept) h.kept_is so) (λ db all. from db (back_told t.kept t db all))),
+        (record t { told = taken_back t.kept t.told; kept = but_latest t.kept; owed = owed_again t.kept t.owed; is_back = is_pay t.kept }) later (since_back first t k later n h)
+        (lasts t k later (later ++ first.kept) h.kept_is so) (λ db all. from db (back_told t.kept t db all))),
   )
     where
       by : Serves false j (Some (record t { told = taken_back t.kept t.told; kept = but_latest t.kept; owed = owed_again t.kept t.owed; is_back = is_pay t.kept })) (undo works n next fail)
@@ -199,18 +199,18 @@ module _ (j : Job) (works : Works) where
       -- all that is owed is paid, and then the program goes on
       pays_serves : (ds : List GroupDelta) (next : ℕ → Todo) (n : ℕ) (t : Txn) (later : List (Option RowChange)) → Since first t later n → t.mode ≡ Serial → EndsInChange later → t.owed ≡ length ds → t.is_back ≡ false
           → ((t' : Txn) (later' : List (Option RowChange)) (n' : ℕ) → Since first t' later' n' → EndsInChange later' → t'.owed ≡ 0 → changes later' ≡ changes later → ((db : Database) → IsTruthful db t' → IsTruthful db t)
-            → Serves false j (Some t') (next n'))
+          → Serves false j (Some t') (next n'))
           → Serves false j (Some t) (pays works copy mode frame ds next n)
       pays_serves [] next n t later h serial ends owes not_back goes = goes t later n h ends owes refl (λ db all. all)
       pays_serves (d ∷ ds) next n t later h serial ends owes not_back goes = (
         inr (record { mode_is = serial; owes = λ e. let x = sym owes ∙ e in cc; not_back = not_back }),
         by (pays_serves ds next (n + 1) (record t { kept = None ∷ t.kept; owed = t.owed - 1 }) (None ∷ later) (since_pay t later n h) serial (settles_pay later ends) (ap (λ m. m - 1) owes ∙ less_one (length ds)) not_back
-          (λ t' later' n' h' ends' none same truth. goes t' later' n' h' ends' none same (λ db all. let x = truth db all in record { sound = x.sound; schema = x.schema; told = x.told }))),
+            (λ t' later' n' h' ends' none same truth. goes t' later' n' h' ends' none same (λ db all. let x = truth db all in record { sound = x.sound; schema = x.schema; told = x.told }))),
       )
         where
           by : Serves false j (Some (record t { kept = None ∷ t.kept; owed = t.owed - 1 })) (pays works copy mode frame ds next (n + 1)) → (said : Answer) → MayCome false (Some t) act.Pay said
               → Proceeds j (Some t) (event act.Pay said) (paid_next (pays works copy mode frame ds next (n + 1)) (failed works copy mode frame n (Some d)) said)
-                (Serves (false || is_stop (event act.Pay said)) j (next_txn (Some t) (event act.Pay said)) (paid_next (pays works copy mode frame ds next (n + 1)) (failed works copy mode frame n (Some d)) said))
+              (Serves (false || is_stop (event act.Pay said)) j (next_txn (Some t) (event act.Pay said)) (paid_next (pays works copy mode frame ds next (n + 1)) (failed works copy mode frame n (Some d)) said))
           by rest (answer.Paid left) m = rest
           by rest (answer.Refused why) m = fails_serves t later n (Some d) why h (settled_by later t ends)
           by rest (answer.Blocked sessions) m = tt
@@ -317,13 +317,13 @@ module _ (j : Job) (works : Works) where
         where
           by_mode : (m : Mode) → mode ≡ m
               → ((rows : List Row) (cs : List RowChange) → ((db : Database) → with_changes cs db ≡ with_changes (changes later) (begun_on first db))
-                → Serves false j (Some (record t { told = Found index interval rows cs ∷ t.told })) (runs works copy mode frame (f rows) n))
+              → Serves false j (Some (record t { told = Found index interval rows cs ∷ t.told })) (runs works copy mode frame (f rows) n))
               → Serves false j (Some t) (asks (reads_by m index interval lock) (rows_next (λ rows. runs works copy mode frame (f rows) n) (failed works copy mode frame n None)))
           by_mode Serial e rest = (inr (record { mode_is = serial_by t later n p.since e; owes_nothing = p.ready }), by)
             where
               by : (said : Answer) → MayCome false (Some t) (act.Fetch index interval lock) said
                   → Proceeds j (Some t) (event (act.Fetch index interval lock) said) (rows_next (λ rows. runs works copy mode frame (f rows) n) (failed works copy mode frame n None) said)
-                    (Serves (false || is_stop (event (act.Fetch index interval lock) said)) j (next_txn (Some t) (event (act.Fetch index interval lock) said)) (rows_next (λ rows. runs works copy mode frame (f rows) n) (failed works copy mode frame n None) said))
+                  (Serves (false || is_stop (event (act.Fetch index interval lock) said)) j (next_txn (Some t) (event (act.Fetch index interval lock) said)) (rows_next (λ rows. runs works copy mode frame (f rows) n) (failed works copy mode frame n None) said))
               by (answer.Rows rows) m = rest rows (changes t.kept) (λ db. on_way t later n db p.since)
               by (answer.Refused why) m = fails_serves t later n None why p.since p.settles
               by (answer.Blocked sessions) m = tt
@@ -332,28 +332,28 @@ module _ (j : Job) (works : Works) where
             where
               by : (said : Answer) → MayCome false (Some t) (act.Peek index interval) said
                   → Proceeds j (Some t) (event (act.Peek index interval) said) (rows_next (λ rows. runs works copy mode frame (f rows) n) (failed works copy mode frame n None) said)
-                    (Serves (false || is_stop (event (act.Peek index interval) said)) j (next_txn (Some t) (event (act.Peek index interval) said)) (rows_next (λ rows. runs works copy mode frame (f rows) n) (failed works copy mode frame n None) said))
+                  (Serves (false || is_stop (event (act.Peek index interval) said)) j (next_txn (Some t) (event (act.Peek index interval) said)) (rows_next (λ rows. runs works copy mode frame (f rows) n) (failed works copy mode frame n None) said))
               by (answer.Rows rows) m = let x = p.reads (mode_is ∙ e) in rest rows [] (λ db. none_changed t later db x.1 x.2)
               by (answer.Refused why) m = fails_serves t later n None why p.since p.settles
               by _ m = absurd m.can
       runs_serves (puts table key new f) n t later p = (
         inr (record { mode_is = serial_now table key new f t later n p; owes_nothing = p.ready }),
         by (λ before owed. pays_serves owed (λ m. runs works copy mode frame (f before) m) (n + 1) _ _ (put_since table key new t later n before (length owed) p.since) (serial_now table key new f t later n p)
-          (settles_put (record { key = (table, key); before = before; after = new }) later t p.settles) refl refl
-          (λ t' later' n' h' ends none same truth. runs_serves (f before) n' t' later' (put_point table key new f t later n before (length owed) t' later' n' p h' ends none same truth))),
+            (settles_put (record { key = (table, key); before = before; after = new }) later t p.settles) refl refl
+            (λ t' later' n' h' ends none same truth. runs_serves (f before) n' t' later' (put_point table key new f t later n before (length owed) t' later' n' p h' ends none same truth))),
       )
         where
           by : ((before : Option Row) (owed : List GroupDelta)
-                → Serves false j (Some (record t {
-                  told = WasThere (table, key) new before (changes t.kept) ∷ t.told;
-                  kept = Some (record { key = (table, key); before = before; after = new }) ∷ t.kept;
-                  owed = length owed;
-                  is_back = false;
-                })) (pays works copy mode frame owed (λ m. runs works copy mode frame (f before) m) (n + 1)))
+              → Serves false j (Some (record t {
+                told = WasThere (table, key) new before (changes t.kept) ∷ t.told;
+                kept = Some (record { key = (table, key); before = before; after = new }) ∷ t.kept;
+                owed = length owed;
+                is_back = false;
+              })) (pays works copy mode frame owed (λ m. runs works copy mode frame (f before) m) (n + 1)))
               → (said : Answer) → MayCome false (Some t) (act.Put table key new) said
               → Proceeds j (Some t) (event (act.Put table key new) said) (changed_next (λ before owed. pays works copy mode frame owed (λ m. runs works copy mode frame (f before) m) (n + 1)) (failed works copy mode frame n None) said)
-                (Serves (false || is_stop (event (act.Put table key new) said)) j (next_txn (Some t) (event (act.Put table key new) said))
-                  (changed_next (λ before owed. pays works copy mode frame owed (λ m. runs works copy mode frame (f before) m) (n + 1)) (failed works copy mode frame n None) said))
+              (Serves (false || is_stop (event (act.Put table key new) said)) j (next_txn (Some t) (event (act.Put table key new) said))
+              (changed_next (λ before owed. pays works copy mode frame owed (λ m. runs works copy mode frame (f before) m) (n + 1)) (failed works copy mode frame n None) said))
           by rest (answer.Changed before owed) m = rest before owed
           by rest (answer.Refused why) m = fails_serves t later n None why p.since p.settles
           by rest (answer.Blocked sessions) m = tt

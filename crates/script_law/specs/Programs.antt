@@ -19,7 +19,7 @@ use Rattle.txn_machine.specs.Acts.{Act}
 use Rattle.txn_machine.specs.Answers as answer
 use Rattle.txn_machine.specs.Answers.{Answer}
 use Rattle.txn_machine.specs.Deltas.{RowChange}
-use Rattle.script_law.specs.Seen.{Event, Waits, LacksRow, Fails, Begins, Learns, Ends, Commits, Creates, Denies, event, is_stop, CanCome, Txn, IsTruthful, kept_of, changes, in_order, txn_after, new_txn, IsReadyIn, MayAsk}
+use Rattle.script_law.specs.Seen.{Event, Waits, LacksRow, Fails, Begins, Learns, Ends, Commits, Creates, Denies, event, is_stop, CanCome, Txn, IsTruthful, kept_of, changes, in_order, txn_after, new_txn, IsReadyIn, MayWant}
 
 -- ---- programs
 
@@ -231,10 +231,10 @@ pub record MayCome (stopped : Bool) (t : Option Txn) (a : Act) (said : Answer) :
 abbrev pub Serves : Bool → Job → Option Txn → Todo → Type 0
 Serves stopped j t (says replies standing) = IsDone stopped j t replies standing
 Serves stopped j t (asks a f) =
-    (IsTrue stopped ⊎ MayAsk t a)
+    (IsTrue stopped ⊎ MayWant t a)
     × ((said : Answer) → MayCome stopped t a said → Proceeds j t (event a said) (f said) (Serves (stopped || is_stop (event a said)) j (next_txn t (event a said)) (f said)))
 Serves stopped j t (ghosts f) =
-    (IsTrue stopped ⊎ MayAsk t act.Pay)
+    (IsTrue stopped ⊎ MayWant t act.Pay)
     × ((said : Answer) → MayCome stopped t act.Pay said
     → Proceeds j t (event act.Pay said) (f said) (Serves (stopped || is_stop (event act.Pay said)) j (next_txn t (event act.Pay said)) (f said)))
 
@@ -248,7 +248,7 @@ BeginsSo j e stopped t More = More (stopped || is_stop e) t
 -- its first step opens a transaction
 abbrev pub OpensFirst : Bool → Job → Option Txn → Todo → Type 0
 OpensFirst stopped j t (asks (act.Begin mode) f) =
-    (IsTrue stopped ⊎ MayAsk t (act.Begin mode))
+    (IsTrue stopped ⊎ MayWant t (act.Begin mode))
     × ((said : Answer) → MayCome stopped t (act.Begin mode) said → BeginsSo j (event (act.Begin mode) said) stopped t (λ stopped' t'. Serves stopped' j t' (f said)))
 OpensFirst stopped j t todo = ⊥
 

@@ -187,23 +187,23 @@ pub record OwesSome (t : Txn) : Type 0 where
   pub owes : t.owed ≢ 0
   pub not_back : t.is_back ≡ false
 
-abbrev pub MayAskIn : Txn → Act → Type 0
-MayAskIn t act.Defs = Unit {0}
-MayAskIn t (act.Fetch index interval lock) = IsReadyIn Serial t
-MayAskIn t (act.Peek index interval) = IsReadyIn Snapshot t
-MayAskIn t (act.Put table key new) = IsReadyIn Serial t
-MayAskIn t act.Pay = OwesSome t
-MayAskIn t act.UndoOne = t.kept ≢ []
-MayAskIn t act.End = t.kept ≡ []
-MayAskIn t act.Commit = IsReadyIn t.mode t
-MayAskIn t a = ⊥
+abbrev pub MayWantIn : Txn → Act → Type 0
+MayWantIn t act.Defs = Unit {0}
+MayWantIn t (act.Fetch index interval lock) = IsReadyIn Serial t
+MayWantIn t (act.Peek index interval) = IsReadyIn Snapshot t
+MayWantIn t (act.Put table key new) = IsReadyIn Serial t
+MayWantIn t act.Pay = OwesSome t
+MayWantIn t act.UndoOne = t.kept ≢ []
+MayWantIn t act.End = t.kept ≡ []
+MayWantIn t act.Commit = IsReadyIn t.mode t
+MayWantIn t a = ⊥
 
-abbrev pub MayAsk : Option Txn → Act → Type 0
-MayAsk None (act.Begin mode) = Unit {0}
-MayAsk None act.Defs = Unit {0}
-MayAsk None (act.Schema statement) = Unit {0}
-MayAsk None a = ⊥
-MayAsk (Some t) a = MayAskIn t a
+abbrev pub MayWant : Option Txn → Act → Type 0
+MayWant None (act.Begin mode) = Unit {0}
+MayWant None act.Defs = Unit {0}
+MayWant None (act.Schema statement) = Unit {0}
+MayWant None a = ⊥
+MayWant (Some t) a = MayWantIn t a
 
 -- ---- states
 
