@@ -7,7 +7,7 @@ use Rattle.iv_meaning.specs.Schema.{Schema}
 use Rattle.iv_meaning.specs.Database.{Database}
 use Rattle.iv_meaning.specs.Serial.{World, Open, Unfinished, none, waits, loaded, base_of, WasAlone}
 use Rattle.txn_machine.specs.Deltas.{RowChange}
-use Rattle.script_law.specs.Seen.{Event, Begins, Finds, FindsThen, Changes, Pays, TakesBack, Ends, Commits, Txn, taken_back, but_latest, txn_after, Visible, visible_after, history_after, open_after, committed, base, IsTruthful}
+use Rattle.script_law.specs.Seen.{Event, Begins, Finds, FindsThen, Changes, Pays, TakesBack, Ends, Commits, Txn, taken_back, but_latest, owed_again, is_pay, txn_after, Visible, visible_after, history_after, open_after, committed, base, IsTruthful}
 use Rattle.script_law.specs.Programs.{Standing, outside_with, Todo, Job, Serves, Starts, IsOf, IsAt, IsOut, Grows, next_txn}
 use Rattle.script_law.specs.RunLines.{Line, idle, waiting, stepping, held, Seat, Table, set_seat}
 use Rattle.script_law.proofs.Basics.{if_same, if_other, base_same, IsQuiet}
@@ -133,7 +133,7 @@ close i w table v H seat w' v' H' h c = record {
 -- ---- within a statement
 
 -- what was told before a step is so where all is
-before_back : (kept : List (Option RowChange)) (t : Txn) (db : Database) → IsTruthful db (record t { told = taken_back kept t.told; kept = but_latest kept }) → IsTruthful db t
+before_back : (kept : List (Option RowChange)) (t : Txn) (db : Database) → IsTruthful db (record t { told = taken_back kept t.told; kept = but_latest kept; owed = owed_again kept t.owed; is_back = is_pay kept }) → IsTruthful db t
 before_back [] t db h = record { sound = h.sound; schema = h.schema; told = h.told }
 before_back (Some c ∷ ks) t db h = record { sound = h.sound; schema = h.schema; told = h.told.1 }
 before_back (None ∷ ks) t db h = record { sound = h.sound; schema = h.schema; told = h.told }
@@ -148,7 +148,7 @@ within_after (Some o) (Some t) (Finds index interval rows) q h =
     record { mode_is = h.mode_is; number_is = h.number_is; told = λ db all. h.told db (record { sound = all.sound; schema = all.schema; told = all.told.1 }) }
 within_after (Some o) (Some t) (FindsThen index interval rows) q h =
     record { mode_is = h.mode_is; number_is = h.number_is; told = λ db all. h.told db (record { sound = all.sound; schema = all.schema; told = all.told.1 }) }
-within_after (Some o) (Some t) (Changes place new before) q h =
+within_after (Some o) (Some t) (Changes place new before owed) q h =
     record { mode_is = h.mode_is; number_is = h.number_is; told = λ db all. h.told db (record { sound = all.sound; schema = all.schema; told = all.told.1 }) }
 within_after (Some o) (Some t) Pays q h =
     record { mode_is = h.mode_is; number_is = h.number_is; told = λ db all. h.told db (record { sound = all.sound; schema = all.schema; told = all.told }) }

@@ -57,7 +57,7 @@ abbrev FirstStep : Bool → Job → Option Txn → Act → (Answer → Todo) →
 FirstStep stopped j t a f = (said : Answer) → MayCome stopped t a said → BeginsSo j (event a said) stopped t (λ stopped' t'. Serves stopped' j t' (f said))
 
 opens_asks : (stopped : Bool) (j : Job) (t : Option Txn) (a : Act) (f : Answer → Todo) → OpensFirst stopped j t (asks a f) → (mode : Mode) × (a ≡ act.Begin mode) × FirstStep stopped j t (act.Begin mode) f
-opens_asks stopped j t (act.Begin mode) f h = (mode, refl, h)
+opens_asks stopped j t (act.Begin mode) f h = (mode, refl, h.1)
 opens_asks stopped j t _ f h = absurd h
 
 -- how a Begin can come
@@ -203,7 +203,7 @@ module _ {S : Type 0} (view : S → Visible) (Does : S → ℕ → Act → Answe
             (denied i w table statement number held (view s) (Halts s) (Halts mid) lasts st.others st.held_grows shut is nb why so.0 so.1))
 
     asked : (f : Answer → Todo) → Serves st.stopped the_job now (asks a f) → StepResult (asks a f) (asked_next e said f) e mid
-    asked f serves = by (came the_job now e (f said) (Serves (st.stopped || is_stop e) the_job (next_txn now e) (f said)) (serves said may_come))
+    asked f serves = by (came the_job now e (f said) (Serves (st.stopped || is_stop e) the_job (next_txn now e) (f said)) (serves.1 said may_come))
       where
         by : Came the_job now e (f said) (Serves (st.stopped || is_stop e) the_job (next_txn now e) (f said)) → StepResult (asks a f) (asked_next e said f) e mid
         by (blocked others' x) = was_blocked others' x (same_stays (asks a f) (inr (others', x)) serves)
@@ -218,7 +218,7 @@ module _ {S : Type 0} (view : S → Visible) (Does : S → ℕ → Act → Answe
   ghosted s mid answer.Ghosted does st f serves = goes tt (quiet_stays s mid act.Ghost answer.Ghosted does st (asks act.Pay f) tt
       (subst (λ x. x) (λ k. Serves (sym (or_false st.stopped) k) the_job (sym (idle_same ((view s).open_of i)) k) (asks act.Pay f)) serves))
   ghosted s mid (answer.Refused why) does st f serves = goes tt (quiet_stays s mid act.Ghost (answer.Refused why) does st (f (answer.Refused why)) tt
-      (serves (answer.Refused why) (record { can = tt; stop = λ x. (laws.stays s mid i act.Ghost (answer.Refused why) does (st.known x)).1; known = fails_known ((view s).open_of i) why })))
+      (serves.1 (answer.Refused why) (record { can = tt; stop = λ x. (laws.stays s mid i act.Ghost (answer.Refused why) does (st.known x)).1; known = fails_known ((view s).open_of i) why })))
   ghosted s mid _ does st f serves = absurd (laws.answers s mid i act.Ghost _ st.stands does)
 
   step_result : (todo : Todo) (a : Act) (s mid : S) (said : Answer) → act_of todo ≡ Some a → Does s i a said mid → Stays s todo → StepResult todo (next_of todo said) (event a said) mid

@@ -26,14 +26,14 @@ use Rattle.txn_machine.specs.Answers as answer
 use Rattle.txn_machine.specs.Answers.{Answer}
 use Rattle.txn_machine.specs.Deltas.{RowChange}
 use Rattle.txn_machine.specs.Alone.{with_changes}
-use Rattle.script_law.specs.Seen.{Event, Fails, Ends, Commits, event, is_stop, is_deadlock_event, Txn, IsTruthful, kept_of, changes, in_order}
-use Rattle.script_law.specs.Programs.{Standing, outside_with, Todo, says, asks, Job, IsDone, passed_inside, told, IsClosed, commits, rolls_back as closes_back, loses, Closes, Fits, IsOf, IsAt, Grows, AreMarks, AreSaved, oldest, lone, names_of, marked_names, with_told, stays_inside, Serves, Starts, MayCome, Proceeds, next_txn}
+use Rattle.script_law.specs.Seen.{Event, Fails, Ends, Commits, event, is_stop, is_deadlock_event, Txn, IsTruthful, kept_of, changes, in_order, IsReadyIn}
+use Rattle.script_law.specs.Programs.{Standing, outside_with, Todo, says, asks, Job, IsDone, passed_inside, told, IsClosed, commits, rolls_back as closes_back, loses, Closes, Fits, IsOf, IsAt, Grows, AreWhole, AreMarks, AreSaved, oldest, lone, names_of, marked_names, with_told, stays_inside, Serves, Starts, MayCome, Proceeds, next_txn}
 use Rattle.script_law.specs.Works.{Work, done, refuses, fetches, puts, alone_on, OnlyReads, is_work, Works, WorkLaws}
 use Rattle.script_law.specs.Sessions.{Frame, reads_by, undo, failed, runs, keeps_standing, rolls_back, inside_frame, from_marked, returns_to, start_inside, refused_marked, commit_next, end_next, undo_next, rows_next, changed_next}
 use Rattle.script_law.proofs.Changing.{changes_append, in_order_append, kept_makes}
 use Rattle.script_law.proofs.Refusing.{inside_accepted, told_as}
 use Rattle.script_law.proofs.Lone.{oldest_of, oldest_more, marks_more, saved_more, marked_from, from_both, refused_same, StandsFine, fine_alone}
-use Rattle.script_law.proofs.Working.{Since, since_first, since_none, begun_on, undo_serves, ComesTo, FrameServes, Point, runs_serves}
+use Rattle.script_law.proofs.Working.{Since, since_first, since_none, begun_on, Settles, settles_back, undo_serves, ComesTo, FrameServes, Point, runs_serves}
 
 now_so : {X : Type 0} → IsTrue false ⊎ X → X
 now_so (inl e) = absurd (cc)
@@ -59,7 +59,7 @@ or_true false c e = e
 
 -- a step where the engine is known to be stopped
 pub halted : (j : Job) (t : Option Txn) (a : Act) (f : Answer → Todo) → ((why : EngineRefusal) → is_stop (Fails why) ≡ true → Serves true j t (f (answer.Refused why))) → Serves true j t (asks a f)
-halted j t a f h said m = by said (only_stops a said (m.stop refl))
+halted j t a f h = (inl refl, λ said m. by said (only_stops a said (m.stop refl)))
   where
     same : (t : Option Txn) (why : EngineRefusal) → next_txn t (Fails why) ≡ t
     same None why = refl
@@ -133,6 +133,7 @@ module _ (works : Works) (laws : WorkLaws works) (b : Bool) (o : Open) (t : Txn)
     fits = inl refl;
     counts = inl refl;
     marks = inl refl;
+    ready = inl refl;
     snapshot = inl refl;
   }
 
@@ -158,7 +159,7 @@ module _ (works : Works) (laws : WorkLaws works) (b : Bool) (o : Open) (t : Txn)
       at.is at.mode_is at.copy_is
       (λ db truth. inside_accepted o.mode statement (ran db) (not_refused e db truth) ∙ ap (λ x. accepted x (ran db)) is)
       (λ db truth. ap (λ l. name ∷ l) (at.names db truth))
-      (marked at.fits at.counts) at.counts (marks_now at.marks at.counts) at.snapshot)
+      (marked at.fits at.counts) at.counts (marks_now at.marks at.counts) at.ready at.snapshot)
     where
       whole : (n : ℕ) → length t.kept ≡ n → oldest n t.kept ≡ t.kept
       whole n many = ap (λ m. oldest m t.kept) (sym many) ∙ oldest_of [] t.kept
@@ -183,7 +184,7 @@ module _ (works : Works) (laws : WorkLaws works) (b : Bool) (o : Open) (t : Txn)
       marks_now : IsTrue b ⊎ AreMarks t.kept standing.saved → IsTrue b ⊎ (length t.kept ≡ standing.kept) → IsTrue b ⊎ AreMarks t.kept ((name, standing.kept) ∷ standing.saved)
       marks_now (inl e) c = inl e
       marks_now (inr m) (inl e) = inl e
-      marks_now (inr m) (inr c) = inr ([], t.kept, refl, c, m)
+      marks_now (inr m) (inr c) = inr ([], t.kept, refl, c, inl refl, m)
 
   -- ---- refused without a step
 
@@ -193,7 +194,7 @@ module _ (works : Works) (laws : WorkLaws works) (b : Bool) (o : Open) (t : Txn)
       (told_as b o t standing statement (reply.Error why ∷ []) (λ db. (lone o db).1) at.is at.mode_is at.copy_is
       (λ db truth. inside_accepted o.mode statement (ran db) (not_refused e db truth) ∙ accepted_work statement (ran db) w
       ∙ ap (λ m. told_of m (ran db)) (laws.denies o.mode statement w standing.copy why is (ran db).db ((fine_ran db truth).0.1 ∙ truth.schema ∙ sym at.copy_is)))
-      at.names at.fits at.counts at.marks at.snapshot)
+      at.names at.fits at.counts at.marks at.ready at.snapshot)
 
 -- ---- where the engine is known to be stopped
 
@@ -224,7 +225,7 @@ module _ (works : Works) (laws : WorkLaws works) (o : Open) (t : Txn) (standing 
       (λ db truth. inside_accepted o.mode statement (lone o db).1 (not_refused works laws true o t standing at statement number e db truth) ∙ accepted_work statement (lone o db).1 w
       ∙ ap (λ m. told_of m (lone o db).1) (laws.lists o.mode statement w standing.copy listed count is (lone o db).1.db
       ((fine_ran works laws true o t standing at statement number db truth).0.1 ∙ truth.schema ∙ sym at.copy_is)))
-      at.names (inl refl) (inl refl) (inl refl) (inl refl))
+      at.names (inl refl) (inl refl) (inl refl) (inl refl) (inl refl))
 
   work_halted : is_work statement ≡ true → refused_marked o.mode standing.saved statement ≡ None → (mode : Mode) → o.mode ≡ mode → (w : Work) → works.work o.mode standing.copy statement ≡ w
       → Serves true j (Some t) (runs works standing.copy mode (inside_frame works standing) w 0)
@@ -259,6 +260,9 @@ module _ (works : Works) (laws : WorkLaws works) (o : Open) (t : Txn) (standing 
   marks_now : AreMarks t.kept standing.saved
   marks_now = now_so at.marks
 
+  ready_now : IsReadyIn o.mode t
+  ready_now = now_so at.ready
+
   snapshot_now : o.mode ≡ Snapshot → t.kept ≡ []
   snapshot_now m = now_so at.snapshot m
 
@@ -266,8 +270,8 @@ module _ (works : Works) (laws : WorkLaws works) (o : Open) (t : Txn) (standing 
   stop_after t' why h e = keeps_stops works laws false o t standing at statement number t' why h e
 
   -- all is taken back that was kept since
-  undone_at : (t' : Txn) → Since t t' [] 0 → IsAt false o t' standing
-  undone_at t' h = record {
+  undone_at : (t' : Txn) → Since t t' [] 0 → t'.owed ≡ 0 → IsAt false o t' standing
+  undone_at t' h none = record {
     is = of_comes works laws false o t standing at statement number t' (comes_of t t' [] 0 h);
     mode_is = at.mode_is;
     copy_is = at.copy_is ∙ sym h.objects_is;
@@ -281,16 +285,17 @@ module _ (works : Works) (laws : WorkLaws works) (o : Open) (t : Txn) (standing 
         });
     counts = inr (ap length h.kept_is ∙ counts_now);
     marks = inr (subst (λ l. AreMarks l standing.saved) (sym h.kept_is) marks_now);
+    ready = inr (record { mode_is = h.mode_is ∙ at.is.mode_is; owes_nothing = none });
     snapshot = inr (λ m. h.kept_is ∙ snapshot_now m);
   }
 
   -- the whole transaction is taken back and ends
   rolls_serves : (next : Todo) → ((t' : Txn) → Comes t t' → t'.kept ≡ [] → Closes job_now (Some t') Ends next) → (n : ℕ) (t' : Txn) (later : List (Option RowChange)) → Since (record t { kept = [] }) t' later n
       → Serves false job_now (Some t') (rolls_back works standing n next)
-  rolls_serves next closes n t' later h = undo_serves job_now works t' (record t { kept = [] }) (asks act.End (end_next next (keeps_standing works standing))) (keeps_standing works standing)
-      (λ t'' h'' from. by t'' (comes_none t t'' [] 0 h'') h''.kept_is)
+  rolls_serves next closes n t' later h = undo_serves job_now works (λ l x. Unit {0}) (λ x k l m e u. tt) t' (record t { kept = [] }) (asks act.End (end_next next (keeps_standing works standing))) (keeps_standing works standing)
+      (λ t'' h'' u from. (inr h''.kept_is, by t'' (comes_none t t'' [] 0 h'') h''.kept_is))
       (λ t'' later'' n'' why h'' e. stop_after t'' why (comes_none t t'' later'' n'' h'') e)
-      n t' later h (λ db all. all)
+      n t' later h tt (λ db all. all)
     where
       by : (t'' : Txn) → Comes t t'' → t''.kept ≡ [] → (said : Answer) → MayCome false (Some t'') act.End said
           → Proceeds job_now (Some t'') (event act.End said) (end_next next (keeps_standing works standing) said) (Serves (false || is_stop (event act.End said)) job_now (next_txn (Some t'') (event act.End said)) (end_next next (keeps_standing works standing) said))
@@ -333,10 +338,10 @@ module _ (works : Works) (laws : WorkLaws works) (o : Open) (t : Txn) (standing 
     kept_later : (t' : Txn) (later : List (Option RowChange)) (n : ℕ) → Since t t' later n → kept_of t' ≡ kept_of t ++ in_order (changes later)
     kept_later t' later n h = ap (λ l. in_order (changes l)) h.kept_is ∙ ap in_order (changes_append later t.kept) ∙ in_order_append (changes later) (changes t.kept)
 
-    finishes : (t' : Txn) (later : List (Option RowChange)) (n : ℕ) (listed : List Row) (count : ℕ) → Since t t' later n
+    finishes : (t' : Txn) (later : List (Option RowChange)) (n : ℕ) (listed : List Row) (count : ℕ) → Since t t' later n → t'.owed ≡ 0 → AreWhole later
         → ComesTo job_now works standing.copy o.mode (inside_frame works standing) t at.is.mode_is whole t' (Accepted listed count (in_order (changes later)))
         → (t.mode ≡ Snapshot → later ≡ []) → Serves false job_now (Some t') ((inside_frame works standing).finish listed count n)
-    finishes t' later n listed count h comes reads =
+    finishes t' later n listed count h none whole comes reads =
         told o t' (map reply.Row listed ++ reply.Done count ∷ []) (record standing { kept = n + standing.kept }) refl (work_stays statement w)
         (told_as false o t' (record standing { kept = n + standing.kept }) statement (map reply.Row listed ++ reply.Done count ∷ [])
         (λ db. record (lone_now db) { db = keep_all (in_order (changes later)) (lone_now db).db; kept = (lone_now db).kept ++ in_order (changes later) })
@@ -351,26 +356,27 @@ module _ (works : Works) (laws : WorkLaws works) (o : Open) (t : Txn) (standing 
           saved = subst (λ l. AreSaved db l (lone o db).1.saved standing.saved) (sym h.kept_is) (saved_more db later t.kept (lone o db).1.saved standing.saved marks_now f.saved);
         }))
         (inr (ap length h.kept_is ∙ length-append later t.kept ∙ (λ k. h.count_is k + counts_now k)))
-        (inr (subst (λ l. AreMarks l standing.saved) (sym h.kept_is) (marks_more later t.kept standing.saved marks_now)))
+        (inr (subst (λ l. AreMarks l standing.saved) (sym h.kept_is) (marks_more later t.kept standing.saved whole marks_now)))
+        (inr (record { mode_is = h.mode_is ∙ at.is.mode_is; owes_nothing = none }))
         (inr (λ m. h.kept_is ∙ (λ k. reads (at.is.mode_is ∙ m) k ++ snapshot_now m k))))
 
-    back_serves : (t' : Txn) (later : List (Option RowChange)) (n : ℕ) (why : Refusal) → Since t t' later n
-        → ((t'' : Txn) → Since t t'' [] 0 → ((db : Database) → IsTruthful db t'' → IsTruthful db t') → IsDone false job_now (Some t'') (reply.Error why ∷ []) standing)
+    back_serves : (t' : Txn) (later : List (Option RowChange)) (n : ℕ) (why : Refusal) → Since t t' later n → Settles later t'
+        → ((t'' : Txn) → Since t t'' [] 0 → t''.owed ≡ 0 → ((db : Database) → IsTruthful db t'' → IsTruthful db t') → IsDone false job_now (Some t'') (reply.Error why ∷ []) standing)
         → Serves false job_now (Some t') ((inside_frame works standing).back n why)
-    back_serves t' later n why h leaf = undo_serves job_now works t' t (says (reply.Error why ∷ []) standing) (keeps_standing works standing)
-        (λ t'' h'' from. leaf t'' h'' from)
+    back_serves t' later n why h so leaf = undo_serves job_now works Settles settles_back t' t (says (reply.Error why ∷ []) standing) (keeps_standing works standing)
+        (λ t'' h'' none from. leaf t'' h'' none from)
         (λ t'' later'' n'' x h'' e. stop_after t'' x (comes_of t t'' later'' n'' h'') e)
-        n t' later h (λ db all. all)
+        n t' later h so (λ db all. all)
 
     frame_serves : FrameServes job_now works standing.copy o.mode (inside_frame works standing) t at.is.mode_is whole
     frame_serves = record {
       finishes = finishes;
-      denied = λ t' later n why h comes. back_serves t' later n why h (λ t'' h'' from.
+      denied = λ t' later n why h so comes. back_serves t' later n why h so (λ t'' h'' none from.
           told o t'' (reply.Error why ∷ []) standing refl (work_stays statement w)
-          (let at'' = undone_at t'' h'' in
+          (let at'' = undone_at t'' h'' none in
           told_as false o t'' standing statement (reply.Error why ∷ []) (λ db. lone_now db) at''.is at''.mode_is at''.copy_is
-          (λ db all. told_so t' (Refused why) h.back comes db (from db all)) at''.names at''.fits at''.counts at''.marks at''.snapshot));
-      passes = λ t' later n why h engines alive. back_serves t' later n why h (λ t'' h'' from. passed_inside o t'' standing why refl engines alive (undone_at t'' h''));
+          (λ db all. told_so t' (Refused why) h.back comes db (from db all)) at''.names at''.fits at''.counts at''.marks at''.ready at''.snapshot));
+      passes = λ t' later n why h so engines alive. back_serves t' later n why h so (λ t'' h'' none from. passed_inside o t'' standing why refl engines alive (undone_at t'' h'' none));
       loses = λ t' later n why h engines dead. rolls_serves (says (reply.Error why ∷ []) (outside_with standing.copy))
           (λ t'' c none. loses o why standing.copy refl engines dead (of_comes works laws false o t standing at statement number t'' c) none (grows_comes works laws false o t standing at statement number t'' c))
           (n + standing.kept) t' (later ++ t.kept) (subst (λ m. Since (record t { kept = [] }) t' (later ++ t.kept) (n + m)) counts_now (since_none t t' later n h));
@@ -380,6 +386,8 @@ module _ (works : Works) (laws : WorkLaws works) (o : Open) (t : Txn) (standing 
     works_serve : Serves false job_now (Some t) (runs works standing.copy o.mode (inside_frame works standing) (works.work o.mode standing.copy statement) 0)
     works_serve = runs_serves job_now works standing.copy o.mode (inside_frame works standing) t at.is.mode_is whole laws frame_serves whole 0 t [] (record {
       since = since_first t;
+      settles = ready_now.owes_nothing;
+      ready = ready_now.owes_nothing;
       leads = λ db all. refl;
       reads = λ m. (subst (λ x. OnlyReads (works.work x standing.copy statement)) (sym (sym at.is.mode_is ∙ m)) (laws.reads statement w (reads_only m) standing.copy), refl, snapshot_now (sym at.is.mode_is ∙ m));
     })
@@ -396,7 +404,7 @@ module _ (works : Works) (laws : WorkLaws works) (o : Open) (t : Txn) (standing 
   commits_serve : (b : Bool) → IsAt b o t standing
       → Serves b (job_of commit) (Some t) (asks act.Commit (commit_next (λ n. says (reply.Commit n ∷ []) (outside_with standing.copy)) (keeps_standing works standing)))
   commits_serve true at = halted (job_of commit) (Some t) act.Commit (commit_next (λ n. says (reply.Commit n ∷ []) (outside_with standing.copy)) (keeps_standing works standing)) (λ why e. stop_at works laws o t standing at commit number why e)
-  commits_serve false at = by
+  commits_serve false at = (inr (record { mode_is = refl; owes_nothing = (now_so at.ready).owes_nothing }), by)
     where
       by : (said : Answer) → MayCome false (Some t) act.Commit said
           → Proceeds (job_of commit) (Some t) (event act.Commit said) (commit_next (λ n. says (reply.Commit n ∷ []) (outside_with standing.copy)) (keeps_standing works standing) said)
@@ -425,14 +433,14 @@ module _ (works : Works) (laws : WorkLaws works) (o : Open) (t : Txn) (standing 
 
     returns_done : (b : Bool) → IsAt b o t standing → (t' : Txn) → Comes t t'
         → (IsTrue b ⊎ ((db : Database) → IsTruthful db t' → Fits t' back_standing db (back_to (from_named name (lone o db).1.saved) (lone o db).1)))
-        → (IsTrue b ⊎ (length t'.kept ≡ p.1)) → (IsTrue b ⊎ AreMarks t'.kept (p ∷ ps)) → (IsTrue b ⊎ (o.mode ≡ Snapshot → t'.kept ≡ []))
+        → (IsTrue b ⊎ (length t'.kept ≡ p.1)) → (IsTrue b ⊎ AreMarks t'.kept (p ∷ ps)) → (IsTrue b ⊎ IsReadyIn o.mode t') → (IsTrue b ⊎ (o.mode ≡ Snapshot → t'.kept ≡ []))
         → IsDone b (job_of (rollback (Some name))) (Some t') (reply.Done 0 ∷ []) back_standing
-    returns_done b at t' c fits counts marks snapshot = told o t' (reply.Done 0 ∷ []) back_standing refl refl
+    returns_done b at t' c fits counts marks ready snapshot = told o t' (reply.Done 0 ∷ []) back_standing refl refl
         (told_as b o t' back_standing (rollback (Some name)) (reply.Done 0 ∷ []) (λ db. back_to (from_named name (lone o db).1.saved) (lone o db).1)
         (of_comes works laws b o t standing at (rollback (Some name)) number t' c) at.mode_is (at.copy_is ∙ sym c.objects_is)
         (λ db all. inside_accepted o.mode (rollback (Some name)) (lone o db).1 (not_refused works laws b o t standing at (rollback (Some name)) number goes db (c.back db all)))
         (λ db all. back_names (from_named name (lone o db).1.saved) (lone o db).1 (names_back b at db (c.back db all)))
-        fits counts marks snapshot)
+        fits counts marks ready snapshot)
 
     -- it fits what the savepoint kept
     fits_back : (earlier : List (Option RowChange)) (t' : Txn) (db : Database) (r : Running) (saved : List Saved) → t'.kept ≡ earlier → length earlier ≡ p.1 → oldest p.1 t.kept ≡ earlier
@@ -457,15 +465,16 @@ module _ (works : Works) (laws : WorkLaws works) (o : Open) (t : Txn) (standing 
 
     returns_go : IsAt false o t standing
         → Serves false (job_of (rollback (Some name))) (Some t) (undo works (standing.kept - p.1) (says (reply.Done 0 ∷ []) back_standing) (keeps_standing works standing))
-    returns_go at = undo_serves (job_of (rollback (Some name))) works t (record t { kept = marks.1 }) (says (reply.Done 0 ∷ []) back_standing) (keeps_standing works standing)
-        (λ t' h from. returns_done false at t' (comes t' [] 0 h)
+    returns_go at = undo_serves (job_of (rollback (Some name))) works Settles settles_back t (record t { kept = marks.1 }) (says (reply.Done 0 ∷ []) back_standing) (keeps_standing works standing)
+        (λ t' h none from. returns_done false at t' (comes t' [] 0 h)
         (inr (λ db all.
         let truth = from db all in
         fits_back marks.1 t' db (lone o db).1 (from_named name (lone o db).1.saved) h.kept_is marks.3 older (names_back false at db truth)
         (subst (AreSaved db t.kept (from_named name (lone o db).1.saved)) is
         ((from_both name (lone o db).1.saved standing.saved (at.names db truth)).stand db t.kept (now_so at.marks) (now_so at.fits db truth).saved))))
         (inr (ap length h.kept_is ∙ marks.3))
-        (inr ([], marks.1, h.kept_is, marks.3, marks.4))
+        (inr ([], marks.1, h.kept_is, marks.3, inl refl, marks.5))
+        (inr (record { mode_is = h.mode_is ∙ at.is.mode_is; owes_nothing = none }))
         (inr (λ m. h.kept_is ∙ end_none marks.0 marks.1 (sym marks.2 ∙ now_so at.snapshot m))))
         (λ t' later n why h e. stop_after works laws o t standing at (rollback (Some name)) number t' why (comes t' later n h) e)
         (standing.kept - p.1) t marks.0 (record {
@@ -475,10 +484,15 @@ module _ (works : Works) (laws : WorkLaws works) (o : Open) (t : Txn) (standing 
           number_is = refl;
           objects_is = refl;
           back = λ db all. record { sound = all.sound; schema = all.schema; told = all.told };
-        }) (λ db all. all)
+        }) (settles_now marks.0 marks.4) (λ db all. all)
       where
         marks : AreMarks t.kept (p ∷ ps)
         marks = subst (AreMarks t.kept) is (marked_from name standing.saved t.kept (now_so at.marks))
+
+        settles_now : (later : List (Option RowChange)) → AreWhole later → Settles later t
+        settles_now [] h = (now_so at.ready).owes_nothing
+        settles_now (k ∷ ks) (inl e) = absurd (cc)
+        settles_now (k ∷ ks) (inr h) = h
 
         older : oldest p.1 t.kept ≡ marks.1
         older = oldest_more [] t.kept marks.0 marks.1 p.1 marks.2 marks.3
@@ -500,7 +514,7 @@ module _ (works : Works) (laws : WorkLaws works) (o : Open) (t : Txn) (standing 
     returns_stopped : IsAt true o t standing
         → Serves true (job_of (rollback (Some name))) (Some t) (undo works (standing.kept - p.1) (says (reply.Done 0 ∷ []) back_standing) (keeps_standing works standing))
     returns_stopped at = returns_halted works laws o t standing at (rollback (Some name)) number (standing.kept - p.1) (says (reply.Done 0 ∷ []) back_standing)
-        (λ e. returns_done true at t (comes_self t) (inl refl) (inl refl) (inl refl) (inl refl))
+        (λ e. returns_done true at t (comes_self t) (inl refl) (inl refl) (inl refl) (inl refl) (inl refl))
 
   returns_serve : (b : Bool) (name : List ℕ) → IsAt b o t standing → refused_marked o.mode standing.saved (rollback (Some name)) ≡ None
       → Serves b (job_of (rollback (Some name))) (Some t) (returns_to works standing (from_marked name standing.saved))

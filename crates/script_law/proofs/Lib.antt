@@ -17,3 +17,4 @@ pub mod Right
 pub mod Leaving
 pub mod Cleaning
 pub mod Blocking
+pub mod Asking

@@ -17,7 +17,7 @@ use Rattle.iv_meaning.specs.Transaction.{Saved, Running, Told, told, done, means
 use Rattle.txn_machine.specs.Deltas.{RowChange}
 use Rattle.txn_machine.specs.ViewLaws.{AreSound}
 use Rattle.script_law.specs.Seen.{changes, in_order}
-use Rattle.script_law.specs.Programs.{names_of, marked_names, oldest, AreMarks, AreSaved}
+use Rattle.script_law.specs.Programs.{names_of, marked_names, oldest, EndsInChange, AreWhole, AreMarks, AreSaved}
 use Rattle.script_law.specs.Works.{Work, refuses, fetches, puts, alone_on, is_work, Works, WorkLaws}
 use Rattle.script_law.specs.Works as work
 use Rattle.script_law.specs.Sessions.{from_marked, refused_marked}
@@ -40,9 +40,19 @@ pub oldest_more : (more kept later earlier : List (Option RowChange)) (n : ℕ) 
 oldest_more more kept later earlier n is many =
     (λ k. oldest (sym many k) (more ++ is k)) ∙ ap (oldest (length earlier)) (sym (append_assoc more later earlier)) ∙ oldest_of (more ++ later) earlier
 
-pub marks_more : (more kept : List (Option RowChange)) (marks : List (List ℕ × ℕ)) → AreMarks kept marks → AreMarks (more ++ kept) marks
-marks_more more kept [] h = tt
-marks_more more kept (p ∷ ps) h = (more ++ h.0, h.1, ap (λ l. more ++ l) h.2 ∙ sym (append_assoc more h.0 h.1), h.3, h.4)
+ends_append : (xs ys : List (Option RowChange)) → EndsInChange ys → EndsInChange (xs ++ ys)
+ends_append [] ys h = h
+ends_append (x ∷ []) [] h = absurd h
+ends_append (x ∷ []) (y ∷ ys) h = h
+ends_append (x ∷ z ∷ xs) ys h = ends_append (z ∷ xs) ys h
+
+whole_append : (xs ys : List (Option RowChange)) → AreWhole xs → AreWhole ys → AreWhole (xs ++ ys)
+whole_append xs ys h (inl e) = subst (λ l. AreWhole (xs ++ l)) (sym e) (subst AreWhole (sym (append-nil xs)) h)
+whole_append xs ys h (inr e) = inr (ends_append xs ys e)
+
+pub marks_more : (more kept : List (Option RowChange)) (marks : List (List ℕ × ℕ)) → AreWhole more → AreMarks kept marks → AreMarks (more ++ kept) marks
+marks_more more kept [] whole h = tt
+marks_more more kept (p ∷ ps) whole h = (more ++ h.0, h.1, ap (λ l. more ++ l) h.2 ∙ sym (append_assoc more h.0 h.1), h.3, whole_append more h.0 whole h.4, h.5)
 
 pub saved_more : (db : Database) (more kept : List (Option RowChange)) (saved : List Saved) (marks : List (List ℕ × ℕ)) → AreMarks kept marks → AreSaved db kept saved marks → AreSaved db (more ++ kept) saved marks
 saved_more db more kept [] [] m h = tt
@@ -62,11 +72,11 @@ same_length (s ∷ ss) (p ∷ ps) e = λ k. ℕ.suc (same_length ss ps (cc) k)
 
 pub marked_from : (name : List ℕ) (marks : List (List ℕ × ℕ)) (kept : List (Option RowChange)) → AreMarks kept marks → AreMarks kept (from_marked name marks)
 marked_from name [] kept h = h
-marked_from name (p ∷ ps) kept h = by (marked_from name ps h.1 h.4) (bytes_eq name p.0)
+marked_from name (p ∷ ps) kept h = by (marked_from name ps h.1 h.5) (bytes_eq name p.0)
   where
     by : AreMarks h.1 (from_marked name ps) → (b : Bool) → AreMarks kept (cond b (p ∷ ps) (from_marked name ps))
     by rest true = h
-    by rest false = subst (λ l. AreMarks l (from_marked name ps)) (sym h.2) (marks_more h.0 h.1 (from_marked name ps) rest)
+    by rest false = subst (λ l. AreMarks l (from_marked name ps)) (sym h.2) (marks_more h.0 h.1 (from_marked name ps) h.4 rest)
 
 -- the savepoints from a name on, in both
 pub record From (name : List ℕ) (saved : List Saved) (marks : List (List ℕ × ℕ)) : Type 0 where
@@ -100,7 +110,7 @@ from_both name (s ∷ ss) (p ∷ ps) e = by (from_both name ss ps (cc)) (bytes_e
         lower db kept m h =
             let older : oldest p.1 kept ≡ m.1 = oldest_more [] kept m.0 m.1 p.1 m.2 m.3 in
             subst (λ l. AreSaved db l (from_named name ss) (from_marked name ps)) (sym m.2)
-            (saved_more db m.0 m.1 (from_named name ss) (from_marked name ps) (marked_from name ps m.1 m.4) (rest.stand db m.1 m.4 (subst (λ l. AreSaved db l ss ps) older h.2)))
+            (saved_more db m.0 m.1 (from_named name ss) (from_marked name ps) (marked_from name ps m.1 m.5) (rest.stand db m.1 m.5 (subst (λ l. AreSaved db l ss ps) older h.2)))
 
 -- a session refuses by its marks what a lone transaction refuses by its savepoints
 pub refused_same : (mode : Mode) (saved : List Saved) (marks : List (List ℕ × ℕ)) (statement : StatementTree) → names_of saved ≡ marked_names marks

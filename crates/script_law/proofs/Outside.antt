@@ -22,7 +22,7 @@ use Rattle.txn_machine.specs.Acts.{Act}
 use Rattle.txn_machine.specs.Answers as answer
 use Rattle.txn_machine.specs.Answers.{Answer}
 use Rattle.txn_machine.specs.Deltas.{RowChange}
-use Rattle.script_law.specs.Seen.{Event, Fails, Ends, Commits, event, is_stop, Txn, IsTruthful, kept_of, changes, in_order, new_txn}
+use Rattle.script_law.specs.Seen.{Event, Fails, Ends, Commits, event, is_stop, Txn, IsTruthful, kept_of, changes, in_order, new_txn, MayWant}
 use Rattle.script_law.specs.Programs.{Standing, outside_with, Todo, says, asks, Job, IsDone, passed_outside, began, IsClosed, is_alone, is_refused, is_passed, creates, denies, Closes, IsOut, IsLone, Grows, objects_of, new_open, is_begin, Serves, OpensFirst, Starts, BeginsSo, MayCome, Proceeds, next_txn}
 use Rattle.script_law.specs.Works.{Work, alone_on, is_work, Works, WorkLaws}
 use Rattle.script_law.specs.Sessions.{Frame, undo, runs, stays_out, ends_with, outside_frame, fails_defs, begins_with, creates_with, start_outside, commit_next, end_next, begun_next, defs_next, schema_next}
@@ -73,10 +73,10 @@ module _ (works : Works) (laws : WorkLaws works) (statement : StatementTree) (w 
   back_serves : (t : Txn) (later : List (Option RowChange)) (n : ℕ) (why : Refusal) → Since first t later n
       → ((t' : Txn) → Since first t' [] 0 → ((db : Database) → IsTruthful db t' → IsTruthful db t) → IsClosed the_job t' Ends (says (reply.Error why ∷ []) (outside_with objects)))
       → Serves false the_job (Some t) (undo works n (ends_with works objects why) (stays_out works objects))
-  back_serves t later n why h closes = undo_serves the_job works t first (ends_with works objects why) (stays_out works objects)
-      (λ t' h' from. by t' h' from)
+  back_serves t later n why h closes = undo_serves the_job works (λ l x. Unit {0}) (λ x k l m e u. tt) t first (ends_with works objects why) (stays_out works objects)
+      (λ t' h' u from. (inr h'.kept_is, by t' h' from))
       (λ t' later' n' x h' e. stays_serves t' later' n' x h')
-      n t later h (λ db all. all)
+      n t later h tt (λ db all. all)
     where
       by : (t' : Txn) → Since first t' [] 0 → ((db : Database) → IsTruthful db t' → IsTruthful db t) → (said : Answer) → MayCome false (Some t') act.End said
           → Proceeds the_job (Some t') (event act.End said) (end_next (says (reply.Error why ∷ []) (outside_with objects)) (stays_out works objects) said)
@@ -94,10 +94,10 @@ module _ (works : Works) (laws : WorkLaws works) (statement : StatementTree) (w 
       outside_by statement db (work_outside statement w)
       ∙ ap (λ x. ended_by x db) (sym right ∙ ap (λ os. alone_on (works.work Serial os statement) db []) truth.schema ∙ comes db all)
 
-  finishes : (t : Txn) (later : List (Option RowChange)) (n : ℕ) (listed : List Row) (count : ℕ) → Since first t later n
+  finishes : (t : Txn) (later : List (Option RowChange)) (n : ℕ) (listed : List Row) (count : ℕ) → Since first t later n → t.owed ≡ 0
       → ComesTo the_job works objects Serial (outside_frame works objects) first refl whole t (Accepted listed count (in_order (changes later)))
       → Serves false the_job (Some t) ((outside_frame works objects).finish listed count n)
-  finishes t later n listed count h comes = by
+  finishes t later n listed count h none comes = (inr (record { mode_is = refl; owes_nothing = none }), by)
     where
       abbrev_next : ℕ → Todo
       abbrev_next = λ m. says (map reply.Row listed ++ reply.Done count ∷ reply.Commit m ∷ []) (outside_with objects)
@@ -123,12 +123,12 @@ module _ (works : Works) (laws : WorkLaws works) (statement : StatementTree) (w 
 
   frame_serves : FrameServes the_job works objects Serial (outside_frame works objects) first refl whole
   frame_serves = record {
-    finishes = λ t later n listed count h comes reads. finishes t later n listed count h comes;
-    denied = λ t later n why h comes. back_serves t later n why h (λ t' h' from.
+    finishes = λ t later n listed count h none whole comes reads. finishes t later n listed count h none comes;
+    denied = λ t later n why h so comes. back_serves t later n why h (λ t' h' from.
         is_refused (reply.Error why ∷ []) objects refl (work_no_begin statement w) h'.mode_is
         (λ db all. let so = outside_so t later n (Refused why) h comes db (from db all) in (sym (ap (λ (x : Transaction). x.replies) so), sym (ap (λ (x : Transaction). x.kept) so)))
         h'.kept_is (grows_now t' [] 0 h'));
-    passes = λ t later n why h engines alive. back_serves t later n why h (λ t' h' from. is_passed why objects refl engines h'.kept_is (grows_now t' [] 0 h'));
+    passes = λ t later n why h so engines alive. back_serves t later n why h (λ t' h' from. is_passed why objects refl engines h'.kept_is (grows_now t' [] 0 h'));
     loses = λ t later n why h engines dead. back_serves t later n why h (λ t' h' from. is_passed why objects refl engines h'.kept_is (grows_now t' [] 0 h'));
     stops = λ t later n why h engines alive. stop_serves t later n why h engines;
   }
@@ -136,6 +136,8 @@ module _ (works : Works) (laws : WorkLaws works) (statement : StatementTree) (w 
   pub work_serves : Serves false the_job (Some first) (runs works objects Serial (outside_frame works objects) whole 0)
   work_serves = runs_serves the_job works objects Serial (outside_frame works objects) first refl whole laws frame_serves whole 0 first [] (record {
     since = since_first first;
+    settles = refl;
+    ready = refl;
     leads = λ db all. refl;
     reads = λ m. absurd (cc);
   })
@@ -189,7 +191,7 @@ module _ (works : Works) (laws : WorkLaws works) (statement : StatementTree) (nu
         failed : (b : Bool) (why : EngineRefusal) → is_stop (Fails why) ≡ b → Serves (is_stop (Fails why)) j (Some (new_txn mode number objects)) (fails_defs works copy why)
         failed true why e = subst (λ c. Serves c j (Some (new_txn mode number objects)) (if c then stays_out works copy why else ends_with works copy (works.tell copy None why))) (sym e)
             (refused_out true (Some (new_txn mode number objects)) copy why (inr refl) g)
-        failed false why e = subst (λ c. Serves c j (Some (new_txn mode number objects)) (if c then stays_out works copy why else ends_with works copy (works.tell copy None why))) (sym e) (end_failed why)
+        failed false why e = subst (λ c. Serves c j (Some (new_txn mode number objects)) (if c then stays_out works copy why else ends_with works copy (works.tell copy None why))) (sym e) (inr refl, end_failed why)
 
         told_all : (said : Answer) → MayCome false (Some (new_txn mode number objects)) act.Defs said
             → Proceeds j (Some (new_txn mode number objects)) (event act.Defs said) (defs_next (λ held. next held number) (fails_defs works copy) said)
@@ -201,15 +203,20 @@ module _ (works : Works) (laws : WorkLaws works) (statement : StatementTree) (nu
         by : (b : Bool) → (defs == length copy) ≡ b
             → Serves false j (Some (new_txn mode number objects)) (cond b (next copy number) (asks act.Defs (defs_next (λ held. next held number) (fails_defs works copy))))
         by true e = subst (λ x. Serves false j (Some (new_txn mode number objects)) (next x number)) (sym (same_copy e)) (goes objects)
-        by false e = told_all
+        by false e = (inr tt, told_all)
 
     -- how the program goes on after its first answer
     abbrev begun_goes : Answer → Todo
     begun_goes said = begun_next (λ n defs. if defs == length copy then next copy n else asks act.Defs (defs_next (λ held. next held n) (fails_defs works copy))) (stays_out works copy) said
 
     opens_first : (b : Bool) (t : Option Txn) → IsOut b t → Grows copy (objects_of (record { statement = statement; before = None; number = number; copy = copy }) t) → OpensFirst b j t (begins_with works mode copy next)
-    opens_first b t out g said m = by b t out g said m
+    opens_first b t out g = (may b t out, λ said m. by b t out g said m)
       where
+        may : (b : Bool) (t : Option Txn) → IsOut b t → IsTrue b ⊎ MayWant t (act.Begin mode)
+        may b None out = inr tt
+        may b (Some t) (inl e) = absurd (cc)
+        may b (Some t) (inr e) = inl e
+
         by : (b : Bool) (t : Option Txn) → IsOut b t → Grows copy (objects_of (record { statement = statement; before = None; number = number; copy = copy }) t) → (said : Answer) → MayCome b t (act.Begin mode) said
             → BeginsSo j (event (act.Begin mode) said) b t (λ b' t'. Serves b' j t' (begun_goes said))
         by true t out g (answer.Begun n defs) m = absurd (let e = m.stop refl in cc)
@@ -222,8 +229,13 @@ module _ (works : Works) (laws : WorkLaws works) (statement : StatementTree) (nu
 
   creates_serve : (b : Bool) (t : Option Txn) → IsOut b t → Grows copy (objects_of (record { statement = statement; before = None; number = number; copy = copy }) t) → is_begin statement ≡ false
       → Serves b j t (creates_with works copy statement)
-  creates_serve b t out g nb said m = by b t out g said m
+  creates_serve b t out g nb = (may b t out, λ said m. by b t out g said m)
     where
+      may : (b : Bool) (t : Option Txn) → IsOut b t → IsTrue b ⊎ MayWant t (act.Schema statement)
+      may b None out = inr tt
+      may b (Some t) (inl e) = absurd (cc)
+      may b (Some t) (inr e) = inl e
+
       by : (b : Bool) (t : Option Txn) → IsOut b t → Grows copy (objects_of (record { statement = statement; before = None; number = number; copy = copy }) t) → (said : Answer) → MayCome b t (act.Schema statement) said
           → Proceeds j t (event (act.Schema statement) said)
           (schema_next (λ n. says (reply.Done 0 ∷ reply.Commit n ∷ []) (outside_with copy)) (λ why. says (reply.Error why ∷ []) (outside_with copy)) (stays_out works copy) said)
@@ -255,6 +267,7 @@ outside_starts works laws b t copy (begin mode) number out g e =
       fits = inr (λ db truth. record { db_is = refl; kept_is = refl; saved = tt });
       counts = inr refl;
       marks = inr tt;
+      ready = inr (record { mode_is = refl; owes_nothing = refl });
       snapshot = inr (λ m. refl);
     })) b t out g)
 outside_starts works laws b t copy (select query order) number out g e =

@@ -12,7 +12,7 @@ use Rattle.iv_meaning.specs.Database.{Database}
 use Rattle.iv_meaning.specs.Statement.{Refused}
 use Rattle.iv_meaning.specs.Transaction.{Saved, Running, Told, outside, inside, alone_from, ended_by, refused_with, refused_outside, refused_inside, accepted, means}
 use Rattle.iv_meaning.specs.Serial.{Open}
-use Rattle.script_law.specs.Seen.{Txn, IsTruthful}
+use Rattle.script_law.specs.Seen.{Txn, IsTruthful, IsReadyIn}
 use Rattle.script_law.specs.Programs.{Standing, AreMarks, Fits, IsOf, IsAt, lone, names_of, marked_names, with_told, stays_inside, is_begin}
 
 -- ---- one statement more, alone
@@ -41,9 +41,9 @@ pub told_as : (stopped : Bool) (o : Open) (t : Txn) (standing : Standing) (state
     → ((db : Database) → IsTruthful db t → inside o.mode statement (lone o db).1 ≡ record { replies = replies; after = left db })
     → ((db : Database) → IsTruthful db t → names_of (left db).saved ≡ marked_names standing.saved)
     → (IsTrue stopped ⊎ ((db : Database) → IsTruthful db t → Fits t standing db (left db)))
-    → (IsTrue stopped ⊎ (length t.kept ≡ standing.kept)) → (IsTrue stopped ⊎ AreMarks t.kept standing.saved) → (IsTrue stopped ⊎ (o.mode ≡ Snapshot → t.kept ≡ []))
+    → (IsTrue stopped ⊎ (length t.kept ≡ standing.kept)) → (IsTrue stopped ⊎ AreMarks t.kept standing.saved) → (IsTrue stopped ⊎ IsReadyIn o.mode t) → (IsTrue stopped ⊎ (o.mode ≡ Snapshot → t.kept ≡ []))
     → IsAt stopped (with_told o statement replies) t standing
-told_as stopped o t standing statement replies left is in_mode copy now names fits counts marks snapshot = record {
+told_as stopped o t standing statement replies left is in_mode copy now names fits counts marks ready snapshot = record {
   is = record {
     mode_is = is.mode_is;
     number_is = is.number_is;
@@ -57,6 +57,7 @@ told_as stopped o t standing statement replies left is in_mode copy now names fi
   fits = elim fits [ inl e ↦ inl e | inr f ↦ inr (λ db truth. subst (Fits t standing db) (sym (same db truth)) (f db truth)) ];
   counts = counts;
   marks = marks;
+  ready = ready;
   snapshot = snapshot;
 }
   where
@@ -74,7 +75,7 @@ told_as stopped o t standing statement replies left is in_mode copy now names fi
 pub told_at : (stopped : Bool) (o : Open) (t : Txn) (standing : Standing) (statement : StatementTree) (replies : List Reply) → IsAt stopped o t standing
     → ((db : Database) → IsTruthful db t → inside o.mode statement (lone o db).1 ≡ record { replies = replies; after = (lone o db).1 })
     → IsAt stopped (with_told o statement replies) t standing
-told_at stopped o t standing statement replies at now = told_as stopped o t standing statement replies (λ db. (lone o db).1) at.is at.mode_is at.copy_is now at.names at.fits at.counts at.marks at.snapshot
+told_at stopped o t standing statement replies at now = told_as stopped o t standing statement replies (λ db. (lone o db).1) at.is at.mode_is at.copy_is now at.names at.fits at.counts at.marks at.ready at.snapshot
 
 -- a statement that the mode refuses is told so, and leaves the transaction
 pub refused_at : (stopped : Bool) (o : Open) (t : Txn) (standing : Standing) (statement : StatementTree) (why : Refusal) → IsAt stopped o t standing

@@ -1,12 +1,13 @@
 -- What a step of the machine changes of what its session sees.
-use Rattle.std.specs.Prelude.{◌≡◌, ◌≢◌, ◌⊎◌, ℕ, ◌+◌, true, zero, suc, List, [], ◌∷◌, ◌++◌, map, reverse, length, Option, Some, None, IsSome}
+use Rattle.std.specs.Prelude.{◌≡◌, ◌≢◌, ◌⊎◌, ℕ, ◌+◌, ◌-◌, ◌==◌, not, true, false, zero, suc, List, [], ◌∷◌, ◌++◌, map, reverse, length, Option, Some, None, IsSome}
 use Rattle.std.specs.Option.{option_map}
 use mathlib.Core.Path.{refl, sym, ap, subst, ◌∙◌}
 use mathlib.Core.Logic.{inl, inr}
 use mathlib.Core.List.{reverse_aux}
-use Rattle.std.proofs.Common.{append-nil}
+use Rattle.std.proofs.Common.{arith, append-nil}
 use Rattle.std.proofs.lemmas.List.{append_assoc}
 use Rattle.std.proofs.lemmas.Option.{none-some}
+use Rattle.std.proofs.lemmas.Bool.{ne_eqb}
 use Rattle.iv_types.specs.declared.statement.Mode.{Mode}
 use Rattle.iv_types.specs.declared.session.Sessions.{Sessions}
 use Rattle.iv_types.specs.declared.refusal.EngineRefusal.{EngineRefusal}
@@ -36,7 +37,7 @@ use Rattle.txn_machine.proofs.Basics.{one_same}
 use Rattle.txn_machine.proofs.Stepping.{now_is, now_locked}
 use Rattle.txn_machine.proofs.Looking.{view_laws}
 use Rattle.txn_machine.proofs.Stories.{told_blocked, told_refused}
-use Rattle.script_law.specs.Seen.{Event, Waits, LacksRow, Fails, Begins, Learns, Finds, FindsThen, Changes, Pays, TakesBack, Ends, Commits, Creates, Denies, Idles, Never, event, changes, in_order, kept_of, taken_back, but_latest, Txn, txn_after, Visible, committed, open_after, history_after, entries, kept_by}
+use Rattle.script_law.specs.Seen.{Event, Waits, LacksRow, Fails, Begins, Learns, Finds, FindsThen, Changes, Pays, TakesBack, Ends, Commits, Creates, Denies, Idles, Never, event, changes, in_order, kept_of, taken_back, but_latest, owed_again, is_pay, Txn, txn_after, Visible, committed, open_after, history_after, entries, kept_by}
 use Rattle.script_law.specs.Machine.{kept_seen, txn_seen, seen_of}
 
 -- ---- kept steps
@@ -104,7 +105,7 @@ abbrev IsStill : Event → Type 0
 IsStill (Begins mode number defs) = ⊥
 IsStill (Finds index interval rows) = ⊥
 IsStill (FindsThen index interval rows) = ⊥
-IsStill (Changes place new before) = ⊥
+IsStill (Changes place new before owed) = ⊥
 IsStill Pays = ⊥
 IsStill TakesBack = ⊥
 IsStill Ends = ⊥
@@ -117,7 +118,7 @@ still_open v None (Begins mode number defs) q = absurd q
 still_open v None _ q = refl
 still_open v (Some t) (Finds index interval rows) q = absurd q
 still_open v (Some t) (FindsThen index interval rows) q = absurd q
-still_open v (Some t) (Changes place new before) q = absurd q
+still_open v (Some t) (Changes place new before owed) q = absurd q
 still_open v (Some t) Pays q = absurd q
 still_open v (Some t) TakesBack q = absurd q
 still_open v (Some t) Ends q = absurd q
@@ -136,6 +137,15 @@ ended_open v (Some t) = refl
 pub committed_open : (v : Visible) (t : Option Txn) (number : ℕ) → open_after v t (Commits number) ≡ None
 committed_open v None number = refl
 committed_open v (Some t) number = refl
+
+one_less : (n : ℕ) → n ≡ suc n - 1
+one_less n = omega (arith)
+
+one_more : (n : ℕ) → suc n ≡ n + 1
+one_more n = omega (arith)
+
+is_some_back : (n : ℕ) → not (n + 1 == 0) ≡ true
+is_some_back n = ap not (ne_eqb (n + 1) 0 (λ e. omega (arith, e)))
 
 module _ (story : Story) (i : ℕ) where
   abbrev s : Store
@@ -203,18 +213,24 @@ module _ (story : Story) (i : ℕ) where
           ∙ sym (ap (λ x. open_after v x (FindsThen number interval rows)) the_own);
     }
 
-    pub changes_row : (wants : List Want) (place : Place) (new before : Option Row) → before ≡ (change_at s place new).before
-        → Shown (Changes place new before) (WasThere place new before (changes_by s i) ∷ told) (run the_views s i (Takes wants ∷ Writes place new ∷ []))
-    changes_row wants place new before is = record {
+    pub changes_row : (wants : List Want) (place : Place) (new before : Option Row) (many : ℕ) → before ≡ (change_at s place new).before → many ≡ length (the_views.owed objects s.rows (change_at s place new))
+        → Shown (Changes place new before many) (WasThere place new before (changes_by s i) ∷ told) (run the_views s i (Takes wants ∷ Writes place new ∷ []))
+    changes_row wants place new before many is so_many = record {
       origin = refl;
       history = refl;
       own_is = ap (option_map (txn_seen objects l)) (one_same (does the_views s i (Takes wants)).open_of i _ i refl)
-          ∙ ap (λ (t : Open). Some (record (txn_seen objects l t) { kept = Some (change_at s place new) ∷ kept_seen t.kept })) (now_locked view_laws s i wants)
+          ∙ ap (λ (t : Open). Some (record (txn_seen objects l t) {
+            kept = Some (change_at s place new) ∷ kept_seen t.kept;
+            owed = length (the_views.owed objects s.rows (change_at s place new));
+            is_back = false;
+          })) (now_locked view_laws s i wants)
           ∙ (λ k. Some (record (txn_seen objects told (now s i)) {
             told = WasThere place new before (sym (changes_seen (now s i).kept) k) ∷ told;
             kept = Some (record { key = place; before = sym is k; after = new }) ∷ kept_seen (now s i).kept;
+            owed = sym so_many k;
+            is_back = false;
           }))
-          ∙ sym (ap (λ x. open_after v x (Changes place new before)) the_own);
+          ∙ sym (ap (λ x. open_after v x (Changes place new before many)) the_own);
     }
       where
         l : List Told
@@ -225,19 +241,34 @@ module _ (story : Story) (i : ℕ) where
       origin = refl;
       history = refl;
       own_is = ap (option_map (txn_seen objects told)) (one_same (locked wants).open_of i _ i refl)
-          ∙ ap (λ (t : Open). Some (record (txn_seen objects told t) { kept = None ∷ kept_seen t.kept })) (now_locked view_laws s i wants)
+          ∙ ap (λ (t : Open). Some (record (txn_seen objects told t) { kept = None ∷ kept_seen t.kept; owed = length others })) (now_locked view_laws s i wants)
+          ∙ (λ k. Some (record (txn_seen objects told (now s i)) { kept = None ∷ kept_seen (now s i).kept; owed = fewer k }))
           ∙ sym (ap (λ x. open_after v x Pays) the_own);
     })
       where
         owed_now : (now (locked wants) i).owed ≡ first ∷ others
         owed_now = ap (λ (t : Open). t.owed) (now_locked view_laws s i wants) ∙ owed_is
 
+        fewer : length others ≡ length (now s i).owed - 1
+        fewer = one_less (length others) ∙ sym (ap (λ (ds : List GroupDelta). length ds - 1) owed_is)
+
     pub takes_back : (latest : KeptStep) (earlier : List KeptStep) → (now s i).kept ≡ latest ∷ earlier → Shown TakesBack (told_of_undo (now s i).kept told) (run the_views s i (Undoes ∷ []))
     takes_back latest earlier is = subst (λ ks. Shown TakesBack (told_of_undo ks told) (undone s i (now s i) ks)) (sym is) (record {
       origin = (fields_are latest).0;
       history = (fields_are latest).1;
-      own_is = own_kept latest ∙ (λ k. Some (record (txn_seen objects told (now s i)) { told = sym (back_seen (latest ∷ earlier) told) k; kept = but_latest (kept_seen (latest ∷ earlier)) }))
-          ∙ (λ k. Some (record (txn_seen objects told (now s i)) { told = taken_back (kept_seen (sym is k)) told; kept = but_latest (kept_seen (sym is k)) }))
+      own_is = own_kept latest
+          ∙ (λ k. Some (record (txn_seen objects told (now s i)) {
+            told = sym (back_seen (latest ∷ earlier) told) k;
+            kept = but_latest (kept_seen (latest ∷ earlier));
+            owed = owed_again (kept_seen (latest ∷ earlier)) (length (now s i).owed);
+            is_back = is_pay (kept_seen (latest ∷ earlier));
+          }))
+          ∙ (λ k. Some (record (txn_seen objects told (now s i)) {
+            told = taken_back (kept_seen (sym is k)) told;
+            kept = but_latest (kept_seen (sym is k));
+            owed = owed_again (kept_seen (sym is k)) (length (now s i).owed);
+            is_back = is_pay (kept_seen (sym is k));
+          }))
           ∙ sym (ap (λ x. open_after v x TakesBack) the_own);
     })
       where
@@ -246,9 +277,20 @@ module _ (story : Story) (i : ℕ) where
         fields_are (Pay d) = (refl, refl)
 
         own_kept : (x : KeptStep) → own (told_of_undo (x ∷ earlier) told) (undone s i (now s i) (x ∷ earlier))
-            ≡ Some (record (txn_seen objects told (now s i)) { told = told_of_undo (x ∷ earlier) told; kept = but_latest (kept_seen (x ∷ earlier)) })
+            ≡ Some (record (txn_seen objects told (now s i)) {
+              told = told_of_undo (x ∷ earlier) told;
+              kept = but_latest (kept_seen (x ∷ earlier));
+              owed = owed_again (kept_seen (x ∷ earlier)) (length (now s i).owed);
+              is_back = is_pay (kept_seen (x ∷ earlier));
+            })
         own_kept (Put c ds) = ap (option_map (txn_seen objects (told_of_undo (Put c ds ∷ earlier) told))) (one_same s.open_of i _ i refl)
         own_kept (Pay d) = ap (option_map (txn_seen objects (told_of_undo (Pay d ∷ earlier) told))) (one_same s.open_of i _ i refl)
+            ∙ (λ k. Some (record (txn_seen objects told (now s i)) {
+              told = told_of_undo (Pay d ∷ earlier) told;
+              kept = kept_seen earlier;
+              owed = one_more (length (now s i).owed) k;
+              is_back = is_some_back (now s i).back k;
+            }))
 
   -- ---- a step of any other kind
 
@@ -375,8 +417,8 @@ module _ (story : Story) (i : ℕ) where
   shown (act.Peek number interval) (answer.Rows rows) es may h c =
       subst (λ l. Shown (FindsThen number interval rows) (Found number interval rows [] ∷ told) (run the_views s i l)) (sym h.1) (finds_then may.0.transaction may.0.is_open number interval rows)
   shown (act.Put number key new) (answer.Changed before owed) es may h c =
-      subst (λ l. Shown (Changes (number, key) new before) (WasThere (number, key) new before (changes_by s i) ∷ told) (run the_views s i l)) (sym h.effects)
-      (changes_row may.0.goes_on.transaction may.0.goes_on.is_open (asked s i (act.Put number key new)) (number, key) new before h.before_is)
+      subst (λ l. Shown (Changes (number, key) new before (length owed)) (WasThere (number, key) new before (changes_by s i) ∷ told) (run the_views s i l)) (sym h.effects)
+      (changes_row may.0.goes_on.transaction may.0.goes_on.is_open (asked s i (act.Put number key new)) (number, key) new before (length owed) h.before_is (ap length h.owed_is))
   shown act.Pay (answer.Paid left) es may h c =
       subst (λ l. Shown Pays told (run the_views s i l)) (sym h.effects) (pays may.goes_on.transaction may.goes_on.is_open (asked s i act.Pay) h.pays.first h.pays.others h.pays.owed_is)
   shown act.Pay answer.NeedsGhost es may h c = takes LacksRow tt (asked s i act.Pay) es h.effects (open_now may.goes_on.transaction may.goes_on.is_open)

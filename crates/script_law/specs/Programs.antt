@@ -19,7 +19,7 @@ use Rattle.txn_machine.specs.Acts.{Act}
 use Rattle.txn_machine.specs.Answers as answer
 use Rattle.txn_machine.specs.Answers.{Answer}
 use Rattle.txn_machine.specs.Deltas.{RowChange}
-use Rattle.script_law.specs.Seen.{Event, Waits, LacksRow, Fails, Begins, Learns, Ends, Commits, Creates, Denies, event, is_stop, CanCome, Txn, IsTruthful, kept_of, changes, in_order, txn_after, new_txn}
+use Rattle.script_law.specs.Seen.{Event, Waits, LacksRow, Fails, Begins, Learns, Ends, Commits, Creates, Denies, event, is_stop, CanCome, Txn, IsTruthful, kept_of, changes, in_order, txn_after, new_txn, IsReadyIn, MayWant}
 
 -- ---- programs
 
@@ -60,11 +60,21 @@ IsToldAlone o db = (lone o db).0 ≡ map (λ p. p.1) o.told
 abbrev pub oldest : ℕ → List (Option RowChange) → List (Option RowChange)
 oldest many kept = drop (length kept - many) kept
 
+-- the oldest of some kept steps is a change
+abbrev pub EndsInChange : List (Option RowChange) → Type 0
+EndsInChange [] = ⊥
+EndsInChange (k ∷ []) = (c : RowChange) × (k ≡ Some c)
+EndsInChange (k ∷ l ∷ ks) = EndsInChange (l ∷ ks)
+
+-- there is none of them, or they are changes with their pays
+abbrev pub AreWhole : List (Option RowChange) → Type 0
+AreWhole ks = (ks ≡ []) ⊎ EndsInChange ks
+
 -- savepoints are marked by how many steps were kept, the latest first
 abbrev pub AreMarks : List (Option RowChange) → List (List ℕ × ℕ) → Type 0
 AreMarks kept [] = Unit {0}
 AreMarks kept (mark ∷ marks) =
-    (later : List (Option RowChange)) × (earlier : List (Option RowChange)) × (kept ≡ later ++ earlier) × (length earlier ≡ mark.1) × AreMarks earlier marks
+    (later : List (Option RowChange)) × (earlier : List (Option RowChange)) × (kept ≡ later ++ earlier) × (length earlier ≡ mark.1) × AreWhole later × AreMarks earlier marks
 
 -- a lone transaction's savepoints are these: before each it kept so many of the oldest of these steps
 abbrev pub AreSaved : Database → List (Option RowChange) → List Saved → List (List ℕ × ℕ) → Type 0
@@ -101,6 +111,7 @@ pub record IsAt (stopped : Bool) (o : Open) (t : Txn) (standing : Standing) : Ty
   pub fits : IsTrue stopped ⊎ ((db : Database) → IsTruthful db t → Fits t standing db (lone o db).1)
   pub counts : IsTrue stopped ⊎ (length t.kept ≡ standing.kept)
   pub marks : IsTrue stopped ⊎ AreMarks t.kept standing.saved
+  pub ready : IsTrue stopped ⊎ IsReadyIn o.mode t
   -- a snapshot keeps nothing
   pub snapshot : IsTrue stopped ⊎ (o.mode ≡ Snapshot → t.kept ≡ [])
 
@@ -220,10 +231,12 @@ pub record MayCome (stopped : Bool) (t : Option Txn) (a : Act) (said : Answer) :
 abbrev pub Serves : Bool → Job → Option Txn → Todo → Type 0
 Serves stopped j t (says replies standing) = IsDone stopped j t replies standing
 Serves stopped j t (asks a f) =
-    (said : Answer) → MayCome stopped t a said → Proceeds j t (event a said) (f said) (Serves (stopped || is_stop (event a said)) j (next_txn t (event a said)) (f said))
+    (IsTrue stopped ⊎ MayWant t a)
+    × ((said : Answer) → MayCome stopped t a said → Proceeds j t (event a said) (f said) (Serves (stopped || is_stop (event a said)) j (next_txn t (event a said)) (f said)))
 Serves stopped j t (ghosts f) =
-    (said : Answer) → MayCome stopped t act.Pay said
-    → Proceeds j t (event act.Pay said) (f said) (Serves (stopped || is_stop (event act.Pay said)) j (next_txn t (event act.Pay said)) (f said))
+    (IsTrue stopped ⊎ MayWant t act.Pay)
+    × ((said : Answer) → MayCome stopped t act.Pay said
+    → Proceeds j t (event act.Pay said) (f said) (Serves (stopped || is_stop (event act.Pay said)) j (next_txn t (event act.Pay said)) (f said)))
 
 -- a transaction begins with the definitions, of which the session had a copy
 abbrev pub BeginsSo : Job → Event → Bool → Option Txn → (Bool → Option Txn → Type 0) → Type 0
@@ -235,7 +248,8 @@ BeginsSo j e stopped t More = More (stopped || is_stop e) t
 -- its first step opens a transaction
 abbrev pub OpensFirst : Bool → Job → Option Txn → Todo → Type 0
 OpensFirst stopped j t (asks (act.Begin mode) f) =
-    (said : Answer) → MayCome stopped t (act.Begin mode) said → BeginsSo j (event (act.Begin mode) said) stopped t (λ stopped' t'. Serves stopped' j t' (f said))
+    (IsTrue stopped ⊎ MayWant t (act.Begin mode))
+    × ((said : Answer) → MayCome stopped t (act.Begin mode) said → BeginsSo j (event (act.Begin mode) said) stopped t (λ stopped' t'. Serves stopped' j t' (f said)))
 OpensFirst stopped j t todo = ⊥
 
 -- the program of a statement that has not begun

@@ -2,7 +2,7 @@
 --
 -- What sessions see of an engine: what was committed, and of each open transaction what it was told and what it keeps. Of which
 -- locks are held, what is owed and what stands on a disk nothing is said here.
-use Rattle.std.specs.Prelude.{◌≡◌, ℕ, ◌+◌, ◌==◌, List, [], ◌∷◌, ◌++◌, length, Option, Some, None, Bool, true, false, IsTrue, if◌then◌else◌, map}
+use Rattle.std.specs.Prelude.{◌≡◌, ◌≢◌, ℕ, ◌+◌, ◌==◌, ◌-◌, List, [], ◌∷◌, ◌++◌, length, Option, Some, None, Bool, true, false, IsTrue, if◌then◌else◌, map}
 use Rattle.std.specs.List.{AllByRecursion}
 use Rattle.iv_types.specs.declared.session.Sessions.{Sessions}
 use Rattle.iv_types.specs.declared.statement.Mode.{Mode}
@@ -41,7 +41,8 @@ pub data Event : Type 0 where
   Finds : (index : ℕ) (interval : Interval) (rows : List Row) → Event
   -- at a snapshot's number
   FindsThen : (index : ℕ) (interval : Interval) (rows : List Row) → Event
-  Changes : Place → (new before : Option Row) → Event
+  -- it owes so many deltas
+  Changes : Place → (new before : Option Row) → (owed : ℕ) → Event
   Pays : Event
   TakesBack : Event
   Ends : Event
@@ -62,7 +63,7 @@ event (act.Begin mode) (answer.Begun number defs) = Begins mode number defs
 event act.Defs (answer.Defs objects) = Learns objects
 event (act.Fetch index interval mode) (answer.Rows rows) = Finds index interval rows
 event (act.Peek index interval) (answer.Rows rows) = FindsThen index interval rows
-event (act.Put table key new) (answer.Changed before owed) = Changes (table, key) new before
+event (act.Put table key new) (answer.Changed before owed) = Changes (table, key) new before (length owed)
 event act.Pay (answer.Paid left) = Pays
 event act.Pay answer.NeedsGhost = LacksRow
 event act.Ghost answer.Ghosted = Idles
@@ -113,6 +114,9 @@ pub record Txn : Type 0 where
   pub told : List Told
   -- the kept steps, the latest first: a change, or a pay
   pub kept : List (Option RowChange)
+  -- how many deltas it owes, and whether the first of them is coming back
+  pub owed : ℕ
+  pub is_back : Bool
 
 -- the changes of kept steps
 abbrev pub changes : List (Option RowChange) → List RowChange
@@ -143,21 +147,63 @@ abbrev pub but_latest : List (Option RowChange) → List (Option RowChange)
 but_latest [] = []
 but_latest (k ∷ ks) = ks
 
+-- a change that is taken back owes nothing any more, and a pay's delta is owed again and coming back
+abbrev pub owed_again : List (Option RowChange) → ℕ → ℕ
+owed_again (Some c ∷ ks) owed = 0
+owed_again (None ∷ ks) owed = owed + 1
+owed_again [] owed = owed
+
+abbrev pub is_pay : List (Option RowChange) → Bool
+is_pay (None ∷ ks) = true
+is_pay ks = false
+
 abbrev pub txn_after : Txn → Event → Option Txn
 txn_after t (Finds index interval rows) = Some (record t { told = Found index interval rows (changes t.kept) ∷ t.told })
 txn_after t (FindsThen index interval rows) = Some (record t { told = Found index interval rows [] ∷ t.told })
-txn_after t (Changes place new before) = Some (record t {
+txn_after t (Changes place new before owed) = Some (record t {
   told = WasThere place new before (changes t.kept) ∷ t.told;
   kept = Some (record { key = place; before = before; after = new }) ∷ t.kept;
+  owed = owed;
+  is_back = false;
 })
-txn_after t Pays = Some (record t { kept = None ∷ t.kept })
-txn_after t TakesBack = Some (record t { told = taken_back t.kept t.told; kept = but_latest t.kept })
+txn_after t Pays = Some (record t { kept = None ∷ t.kept; owed = t.owed - 1 })
+txn_after t TakesBack = Some (record t { told = taken_back t.kept t.told; kept = but_latest t.kept; owed = owed_again t.kept t.owed; is_back = is_pay t.kept })
 txn_after t Ends = None
 txn_after t (Commits number) = None
 txn_after t _ = Some t
 
 abbrev pub new_txn : Mode → ℕ → Schema → Txn
-new_txn mode number objects = record { mode = mode; number = number; objects = objects; told = []; kept = [] }
+new_txn mode number objects = record { mode = mode; number = number; objects = objects; told = []; kept = []; owed = 0; is_back = false }
+
+-- ---- which steps may be asked for, as far as it is seen
+
+-- it is of this mode and owes nothing
+pub record IsReadyIn (mode : Mode) (t : Txn) : Type 0 where
+  pub mode_is : t.mode ≡ mode
+  pub owes_nothing : t.owed ≡ 0
+
+pub record OwesSome (t : Txn) : Type 0 where
+  pub mode_is : t.mode ≡ Serial
+  pub owes : t.owed ≢ 0
+  pub not_back : t.is_back ≡ false
+
+abbrev pub MayWantIn : Txn → Act → Type 0
+MayWantIn t act.Defs = Unit {0}
+MayWantIn t (act.Fetch index interval lock) = IsReadyIn Serial t
+MayWantIn t (act.Peek index interval) = IsReadyIn Snapshot t
+MayWantIn t (act.Put table key new) = IsReadyIn Serial t
+MayWantIn t act.Pay = OwesSome t
+MayWantIn t act.UndoOne = t.kept ≢ []
+MayWantIn t act.End = t.kept ≡ []
+MayWantIn t act.Commit = IsReadyIn t.mode t
+MayWantIn t a = ⊥
+
+abbrev pub MayWant : Option Txn → Act → Type 0
+MayWant None (act.Begin mode) = Unit {0}
+MayWant None act.Defs = Unit {0}
+MayWant None (act.Schema statement) = Unit {0}
+MayWant None a = ⊥
+MayWant (Some t) a = MayWantIn t a
 
 -- ---- states
 

@@ -5,7 +5,7 @@ ghost use Rattle.std.specs.Prelude.{ℕ};
 ghost use Rattle.iv_types.specs.declared.refusal.Refusal.{Refusal};
 ghost use Rattle.iv_types.specs.declared.refusal.EngineRefusal.{EngineRefusal};
 ghost use Rattle.script_law.specs.Laws.{EndLaw, ProgramsLaw, TranscriptLaw};
-ghost use Rattle.script_law.specs.Machine.{CleanLaw, HinderedLaw, MachineLaw};
+ghost use Rattle.script_law.specs.Machine.{CleanLaw, HinderedLaw, MachineLaw, MayLaw};
 ghost use Rattle.script_law.specs.Programs.{Programs};
 
 /// An engine of steps, as its states.
@@ -59,4 +59,9 @@ pub fn clean_law()
 /// After each line, what a session whose line waits asks for is locked by another session.
 pub fn hindered_law()
     ensures { HinderedLaw }
+{}
+
+/// What may be asked for as far as a session sees may be asked of the machine.
+pub fn may_law()
+    ensures { MayLaw }
 {}
