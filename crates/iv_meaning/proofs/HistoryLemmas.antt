@@ -10,8 +10,9 @@ use Rattle.iv_meaning.specs.Database.{Database}
 use Rattle.iv_meaning.specs.Statement.{Kept}
 use Rattle.iv_meaning.specs.Transaction.{outside}
 use Rattle.iv_meaning.specs.History.{Entry, fold, AreNumbered}
-use Rattle.iv_meaning.specs.Said.{Said, nothing, too_long, bad, runs, loads, steps, cleans, checkpoints}
-use Rattle.iv_meaning.specs.Serial.{World, Open, Unfinished, none, waits, loaded, latest, set_open, set_unfinished, commits, is_deadlock, PassesOver, EndsOutside, EndsInside, EndsBy, Ends, IsRefused, Takes, Runs, Loads, Steps, OwnPiece, LaterPieces, refused_by_mode, IsSince, HistoryLaw, LatestLaw}
+use Rattle.iv_meaning.specs.Said.{Said, nothing, too_long, bad, runs, loads, unread, steps, cleans, checkpoints}
+use Rattle.iv_meaning.specs.Serial.{World, Unended, Unfinished, none, waits, loaded, latest, set_open, set_unfinished, commits, is_deadlock, PassesOver, EndsOutside, EndsInside, EndsBy, Ends, IsRefused, Takes, Runs, Loads, Steps, OwnPiece, LaterPieces, refused_by_mode}
+use Rattle.iv_meaning.specs.SerialLaws.{IsSince, HistoryLaw, LatestLaw}
 
 numbered_push : (number : ℕ) (es : List Entry) (e : Entry) (db : Database) → db.number ≡ number → AreNumbered number es → e.number ≡ (fold es db).number + 1 → AreNumbered number (es ++ e ∷ [])
 numbered_push number [] e db same h next = (next ∙ ap (λ n. n + 1) same, tt)
@@ -26,7 +27,7 @@ module _ (db : Database) where
   }
 
   -- sessions' transactions and lines are no part of it
-  since_open : (w : World) (session : ℕ) (o : Option Open) → IsSince db w → IsSince db (set_open w session o)
+  since_open : (w : World) (session : ℕ) (o : Option Unended) → IsSince db w → IsSince db (set_open w session o)
   since_open w session o h = record { began = h.began; numbered = h.numbered }
 
   since_unfinished : (w : World) (session : ℕ) (u : Unfinished) → IsSince db w → IsSince db (set_unfinished w session u)
@@ -46,12 +47,12 @@ module _ (db : Database) where
   since_outside w after session number (begin mode) replies h ends = at _ after ends.1 (since_open w session _ h)
   since_outside w after session number statement replies h ends = at _ after ends.1 (since_commits w session (outside statement (latest w)).kept h)
 
-  since_inside : (w after : World) (session : ℕ) (o : Open) (statement : StatementTree) (replies : List Reply) → IsSince db w → EndsInside w session o statement replies after → IsSince db after
+  since_inside : (w after : World) (session : ℕ) (o : Unended) (statement : StatementTree) (replies : List Reply) → IsSince db w → EndsInside w session o statement replies after → IsSince db after
   since_inside w after session o commit replies h ends = at _ after ends.2 (since_open _ session None (since_commits w session _ h))
   since_inside w after session o (rollback None) replies h ends = at _ after ends.2 (since_open w session None h)
   since_inside w after session o statement replies h ends = at _ after ends (since_open w session (Some (record o { told = o.told ++ (statement, replies) ∷ [] })) h)
 
-  since_by : (w after : World) (session number : ℕ) (o : Option Open) (statement : StatementTree) (replies : List Reply) → IsSince db w → EndsBy w session o statement number replies after → IsSince db after
+  since_by : (w after : World) (session number : ℕ) (o : Option Unended) (statement : StatementTree) (replies : List Reply) → IsSince db w → EndsBy w session o statement number replies after → IsSince db after
   since_by w after session number None statement replies h ends = since_outside w after session number statement replies h ends
   since_by w after session number (Some o) statement replies h ends = since_inside w after session o statement replies h ends
 
@@ -88,10 +89,9 @@ module _ (db : Database) where
   since_own nothing w after piece h own = at _ after own.1 h
   since_own too_long w after piece h own = at _ after own.left h
   since_own bad w after piece h own = at _ after own.left h
-  since_own (runs session read) w after piece h (inl takes) = since_takes w after session (w.unfinished session) read (Runs w session) piece h (λ statement. since_runs w after session statement piece h) takes
-  since_own (runs session read) w after piece h (inr lacks) = at _ after lacks.left h
-  since_own (loads session read) w after piece h (inl takes) = since_takes w after session (w.unfinished session) read (Loads w session) piece h (λ statement. since_loads w after session statement piece h) takes
-  since_own (loads session read) w after piece h (inr lacks) = at _ after lacks.left h
+  since_own (runs session read) w after piece h takes = since_takes w after session (w.unfinished session) read (Runs w session) piece h (λ statement. since_runs w after session statement piece h) takes
+  since_own (loads session read) w after piece h takes = since_takes w after session (w.unfinished session) read (Loads w session) piece h (λ statement. since_loads w after session statement piece h) takes
+  since_own (unread session) w after piece h own = at _ after own.left h
   since_own (steps session) w after piece h own = since_steps w after session (w.unfinished session) piece h own
   since_own cleans w after piece h (inl counts) = at _ after counts.left h
   since_own cleans w after piece h (inr over) = at _ after over.tells.left h

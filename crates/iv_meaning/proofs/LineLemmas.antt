@@ -4,7 +4,7 @@ use Rattle.std.specs.Prelude.{◌==◌, cond}
 use Rattle.std.specs.List.{All}
 use Rattle.std.proofs.lemmas.Bool.{eqb-true, eqb-false, eq-eqb, and_parts, and_from, false≢true}
 use Rattle.std.proofs.lemmas.List.Elements.{All-nil, All-cons}
-use Rattle.iv_meaning.specs.Lines.{begins_with_lf, is_return, lines_of, onto_first, GoesOn, AreLines}
+use Rattle.iv_meaning.specs.Lines.{begins_with_lf, is_return, lines_of, onto_first, HasFirstLine, AreLines}
 
 abbrev HasNoLf : List ℕ → Type 0
 HasNoLf line = All (λ b. b ≢ 10) line
@@ -41,7 +41,7 @@ byte_first b bytes (line ∷ lines) ne other are = (
   ],
 )
   where
-    longer : (rest : List ℕ) → GoesOn bytes line rest → GoesOn (b ∷ bytes) (b ∷ line) rest
+    longer : (rest : List ℕ) → HasFirstLine bytes line rest → HasFirstLine (b ∷ bytes) (b ∷ line) rest
     longer rest (inl e) = inl (ap (λ (xs : List ℕ). b ∷ xs) e)
     longer rest (inr h) = inr (ap (λ (xs : List ℕ). b ∷ xs) h.0, no_return b bytes line rest other h.0 h.1)
 

@@ -18,7 +18,7 @@ use Rattle.iv_meaning.specs.Values.{is_true}
 use Rattle.iv_meaning.specs.Query.{BoundQuery, plain, combinations, conjunction, answer}
 use Rattle.iv_meaning.specs.View.{conditions_of, rows_by_group}
 use Rattle.iv_meaning.specs.Statement.{Kept, sets, Accepted, inserted, select_meaning}
-use Rattle.iv_meaning.specs.Transaction.{Saved, Running, Told, told, inside, alone, alone_from, begun, ended_by, outside}
+use Rattle.iv_meaning.specs.Transaction.{Saved, Running, Response, told, inside, alone, alone_from, begun, ended_by, outside}
 use Rattle.iv_meaning.specs.SerialExample.{sale, by_shop, shop_database, sold, shows}
 
 pub no_entries : {X : Type 0} → entries (empty {X = X} {R = place_cmp}) ≡ []
@@ -40,7 +40,7 @@ abbrev change : ℕ → ℕ → Change Place Row
 change id amount = record { key = place id amount; before = None; after = Some (row id amount) }
 
 -- an INSERT by the row that is under its key
-abbrev pub by_found : ℕ → ℕ → Running → Option Row → Told
+abbrev pub by_found : ℕ → ℕ → Running → Option Row → Response
 by_found id amount t o = told (inserted (if is_some o then None else Some (change id amount ∷ [])) 1) t
 
 one_in : (rows : Rows) (kept : List Kept) (saved : List Saved) → get rows (place 1 10) ≡ None
@@ -85,7 +85,7 @@ abbrev pub saved_one : List Saved
 saved_one = record { name = codes "s"; db = record shop_database { rows = one_row }; kept = kept_one } ∷ []
 
 -- a statement's replies before those of others
-abbrev pub onto : List StatementTree → Told → List (List Reply) × Running
+abbrev pub onto : List StatementTree → Response → List (List Reply) × Running
 onto statements one = (one.replies ∷ (alone_from Serial statements one.after).0, (alone_from Serial statements one.after).1)
 
 pub first_alone : (statements : List StatementTree) → alone Serial (sold 1 10 ∷ statements) shop_database ≡ onto statements (by_found 1 10 (running empty [] []) None)
@@ -128,4 +128,4 @@ pub shows_outside : outside shows with_sale ≡ ended_by (Accepted ((Number (pos
 shows_outside = ap (λ es. ended_by (select_meaning (shown_by es)) with_sale) (one_entry (place 1 10) (row 1 10))
 
 pub snapshot_alone : alone Snapshot (shows ∷ []) shop_database ≡ ((reply.Done 0 ∷ []) ∷ [], begun shop_database)
-snapshot_alone = ap (λ es. let one : Told = told (select_meaning (shown_by es)) (begun shop_database) in (one.replies ∷ [], one.after)) no_entries
+snapshot_alone = ap (λ es. let one : Response = told (select_meaning (shown_by es)) (begun shop_database) in (one.replies ∷ [], one.after)) no_entries

@@ -1,7 +1,7 @@
 -- What a transaction leaves, and the history after it.
-use Rattle.std.specs.Prelude.{◌≡◌, ◌≤◌, ◌<◌, ℕ, ◌+◌, nat_le, Bool, true, false, List, [], ◌∷◌, ◌++◌, filter, Option, Some, None, if◌then◌else◌}
+use Rattle.std.specs.Prelude.{◌≡◌, ◌≤◌, ◌<◌, ℕ, ◌+◌, nat_le, Bool, true, false, List, [], ◌∷◌, ◌++◌, filter, Option, Some, None, Ok, if◌then◌else◌}
 use Rattle.std.specs.Str.{bytes_eq}
-use mathlib.Core.Path.{refl, sym, ap, ◌∙◌}
+use mathlib.Core.Path.{refl, sym, ap, subst, ◌∙◌}
 use Rattle.std.proofs.Common.{arith, append-nil, leb-true}
 use Rattle.std.proofs.lemmas.List.Elements.{filter-append}
 use Rattle.iv_types.specs.declared.refusal.Refusal.{Refusal}
@@ -10,9 +10,11 @@ use Rattle.iv_types.specs.declared.statement.Mode.TheVariants.{Serial}
 use Rattle.iv_types.specs.Syntax.{StatementTree, commit, rollback, savepoint}
 use Rattle.iv_meaning.specs.Database.{Database}
 use Rattle.iv_meaning.specs.Statement.{Kept, sets, defines, Meaning, Refused, Accepted, keep, keep_all}
-use Rattle.iv_meaning.specs.Transaction.{Saved, Running, Told, means, told, refused_with, from_named, back_to, refused_inside, refused_outside, accepted, inside, alone_from, alone, begun, next_number, Transaction, ended_by}
+use Rattle.iv_meaning.specs.Transaction.{Saved, Running, Response, means, told, refused_with, from_named, back_to, refused_inside, refused_outside, accepted, inside, alone_from, alone, begun, next_number, Transaction, ended_by}
 use Rattle.iv_meaning.specs.History.{Entry, fold}
-use Rattle.iv_meaning.specs.Serial.{World, latest, commits, CommitLaw, OutsideLaw, StateLaw}
+use Rattle.iv_meaning.specs.Said.{Said}
+use Rattle.iv_meaning.specs.Serial.{World, none, latest, commits, refused_by_mode, IsRefused, Takes, OwnPiece, Answers}
+use Rattle.iv_meaning.specs.SerialLaws.{CommitLaw, OutsideLaw, StateLaw}
 
 -- ---- kept changes
 
@@ -64,7 +66,7 @@ module _ (base : Database) where
   made_inside : (mode : Mode) (statement : StatementTree) (t : Running) → IsMade t → IsMade (inside mode statement t).after
   made_inside mode statement t made = by (refused_inside mode t.saved statement)
     where
-      by : (o : Option Refusal) → IsMade (elim o as (λ o. Told) [ Some refusal ↦ refused_with refusal t | None ↦ accepted statement t ]).after
+      by : (o : Option Refusal) → IsMade (elim o as (λ o. Response) [ Some refusal ↦ refused_with refusal t | None ↦ accepted statement t ]).after
       by (Some refusal) = made
       by None = made_accepted statement t made
 
@@ -119,3 +121,16 @@ state_law w session number [] le = refl
 state_law w session number (k ∷ ks) le =
     let e : Entry = record { number = (latest w).number + 1; session = session; kept = k ∷ ks } in
     ap (λ es. fold es w.origin) (filter-append (λ x. nat_le x.number number) w.history (e ∷ []) ∙ (ap (λ es. filter (λ x. nat_le x.number number) w.history ++ es) (later_out e number (omega arith)) ∙ append-nil (filter (λ x. nat_le x.number number) w.history)))
+
+-- ---- lines
+
+-- a line that prints its own piece alone
+pub alone_piece : (said : Said) (w after : World) (piece : List ℕ) → OwnPiece said w piece after → Answers said w piece after
+alone_piece said w after piece own = record { own = piece; between = after; first = own; retried = []; more = []; later = (refl, refl); whole = sym (append-nil piece) }
+
+-- a statement that the mode does not refuse, given to a session that has no unfinished one
+pub taken : (w after : World) (session : ℕ) (statement : StatementTree) (Goes : StatementTree → List ℕ → World → Type 0) (piece : List ℕ) → w.unfinished session ≡ none
+    → refused_by_mode w (w.running session) statement ≡ None → Goes statement piece after → Takes w session (w.unfinished session) (Ok statement) Goes piece after
+taken w after session statement Goes piece idle free h =
+    subst (λ u. Takes w session u (Ok statement) Goes piece after) (sym idle)
+    (subst (λ (o : Option Refusal). (elim o as (λ o. List ℕ → World → Type 0) [ Some why ↦ IsRefused w session statement why | None ↦ Goes statement ]) piece after) (sym free) h)

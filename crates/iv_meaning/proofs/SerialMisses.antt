@@ -13,7 +13,7 @@ use Rattle.iv_types.specs.Syntax.{StatementTree, begin, commit, rollback}
 use Rattle.iv_meaning.specs.Reply.{reply_lines}
 use Rattle.iv_meaning.specs.Transaction.{committed, refused_inside}
 use Rattle.iv_meaning.specs.Said.{Said, runs, loads}
-use Rattle.iv_meaning.specs.Serial.{World, none, waits, latest, opened_with, set_open, set_unfinished, IsRefused, EndsBy, Runs, Loads, LacksMemory, LaterPieces, OwnPiece, IsEnd, IsSerialFrom}
+use Rattle.iv_meaning.specs.Serial.{World, none, waits, latest, opened_with, set_open, set_unfinished, IsRefused, EndsBy, Runs, Loads, LaterPieces, OwnPiece, IsEnd, IsSerialFrom}
 use Rattle.iv_meaning.specs.SerialExample.{shop_database, sold, shows, with_open, with_sale, IsMiss, NearMisses}
 use Rattle.iv_meaning.proofs.SaleLemmas.{first_alone, none_outside}
 
@@ -71,14 +71,13 @@ record IsEnded (w : World) (statement : StatementTree) (number : ℕ) (own : Lis
   ends : EndsBy (set_unfinished w 1 none) 1 (w.running 1) statement number replies between
 
 ended_line : (w between : World) (statement : StatementTree) (own rest out : List ℕ) → out ≡ own ++ rest → third out ≢ 69 → third out ≢ 87
-    → Runs w 1 statement own between ⊎ LacksMemory w 1 own between → IsEnded w statement (latest w).number own between
+    → Runs w 1 statement own between → IsEnded w statement (latest w).number own between
 unfolding digits
-ended_line w between statement own rest out whole error wait (inl (inl now)) = elim now.ends [
+ended_line w between statement own rest out whole error wait (inl now) = elim now.ends [
   | inl over ↦ absurd (error (ap third whole ∙ error_third over.why own rest (now.told ∙ ap (reply_lines 1) over.told)))
   | inr ends ↦ record { replies = now.replies; told = now.told; ends = ends }
 ]
-ended_line w between statement own rest out whole error wait (inl (inr w')) = absurd (wait (ap third whole ∙ ap (λ o. third (o ++ rest)) w'.goes_on.told))
-ended_line w between statement own rest out whole error wait (inr lacks) = absurd (error (ap third whole ∙ error_third refusal.NoMemory own rest lacks.told))
+ended_line w between statement own rest out whole error wait (inr w') = absurd (wait (ap third whole ∙ ap (λ o. third (o ++ rest)) w'.goes_on.told))
 
 opened_nobody : NobodyWaits (opened_with shop_database)
 opened_nobody session statement number e = absurd (cc)
@@ -133,8 +132,7 @@ abbrev no_name : StatementTree
 no_name = rollback (Some (codes "nosuch"))
 
 not_stepped : (own : List ℕ) (between : World) (rest : List ℕ) → codes "1 STEP\n" ≡ own ++ rest → OwnPiece (loads 1 (Ok no_name)) with_sale own between → ⊥
-not_stepped own between rest whole (inr lacks) = let byte : 83 ≡ 69 = ap third whole ∙ error_third refusal.NoMemory own rest lacks.told in omega (arith, byte)
-not_stepped own between rest whole (inl takes) =
+not_stepped own between rest whole takes =
     let refused : IsRefused with_sale 1 no_name (refusal.UnknownSavepoint (codes "nosuch")) own between =
     subst (λ o. (elim o as (λ o. List ℕ → World → Type 0) [ Some why ↦ IsRefused with_sale 1 no_name why | None ↦ Loads with_sale 1 no_name ]) own between) (ap (λ r. refused_inside Serial r.1.saved no_name) (first_alone [])) takes in
     let byte : 83 ≡ 69 = ap third whole ∙ error_third (refusal.UnknownSavepoint (codes "nosuch")) own rest refused.told in

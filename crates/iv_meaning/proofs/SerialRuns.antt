@@ -13,22 +13,21 @@ use Rattle.iv_types.specs.Syntax.{StatementTree, begin, commit, rollback, savepo
 use Rattle.iv_meaning.specs.Statement.{Kept}
 use Rattle.iv_meaning.specs.Transaction.{Running, alone, committed, refused_inside}
 use Rattle.iv_meaning.specs.Said.{Said, runs}
-use Rattle.iv_meaning.specs.Serial.{World, Open, none, opened_with, set_open, set_unfinished, commits, refused_by_mode, IsRefused, Takes, Runs, OwnPiece, IsEnd, WasAlone, IsSerialFrom}
+use Rattle.iv_meaning.specs.Serial.{World, Unended, none, opened_with, set_open, set_unfinished, commits, refused_by_mode, IsRefused, Takes, Runs, OwnPiece, IsEnd, WasAlone, IsSerialFrom}
 use Rattle.iv_meaning.specs.SerialExample.{shop_database, sold, shows, savepoint_output, SavepointTranscript}
+use Rattle.iv_meaning.proofs.SerialLemmas.{alone_piece, taken}
 use Rattle.iv_meaning.proofs.SaleLemmas.{returned, first_alone, second_alone, savepoint_alone}
 use Rattle.iv_meaning.proofs.Saying.{savepoint_said, savepoint_says}
 
 -- a line with its own piece alone
 pub one_line : (said : Said) (more : List Said) (w after : World) (piece rest : List ℕ) → OwnPiece said w piece after → IsSerialFrom after more rest → IsSerialFrom w (said ∷ more) (piece ++ rest)
 one_line said more w after piece rest own goes =
-    (piece, after, rest, record { own = piece; between = after; first = own; retried = []; more = []; later = (refl, refl); whole = sym (append-nil piece) }, refl, goes)
+    (piece, after, rest, alone_piece said w after piece own, refl, goes)
 
 -- a statement that the mode does not refuse
 runs_so : (w after : World) (statement : StatementTree) (piece : List ℕ) → w.unfinished 1 ≡ none → refused_by_mode w (w.running 1) statement ≡ None
     → Runs w 1 statement piece after → OwnPiece (runs 1 (Ok statement)) w piece after
-runs_so w after statement piece idle free h =
-    inl (subst (λ u. Takes w 1 u (Ok statement) (Runs w 1) piece after) (sym idle)
-    (subst (λ (o : Option Refusal). (elim o as (λ o. List ℕ → World → Type 0) [ Some why ↦ IsRefused w 1 statement why | None ↦ Runs w 1 statement ]) piece after) (sym free) h))
+runs_so w after statement piece idle free h = taken w after 1 statement (Runs w 1) piece idle free h
 
 -- ---- the lines
 
@@ -38,7 +37,7 @@ opened = opened_with shop_database
 abbrev pub Pairs : Type 0
 Pairs = List (StatementTree × List Reply)
 
-abbrev pub open_with : Pairs → Open
+abbrev pub open_with : Pairs → Unended
 open_with told = record { mode = Serial; number = 2; told = told }
 
 -- the world after a line of the transaction
@@ -83,11 +82,11 @@ ended = set_open (commits (set_unfinished with_all 1 none) 1 (alone Serial (map 
 
 pub begins : OwnPiece (runs 1 (Ok (begin Serial))) opened (codes "1 OK 0\n") began
 unfolding digits
-begins = inl (inl (record { replies = reply.Done 0 ∷ []; told = refl; ends = inr (refl, refl) }))
+begins = inl (record { replies = reply.Done 0 ∷ []; told = refl; ends = inr (refl, refl) })
 
 pub first_sold : OwnPiece (runs 1 (Ok (sold 1 10))) began (codes "1 OK 1\n") with_one
 unfolding digits
-first_sold = inl (inl (record { replies = reply.Done 1 ∷ []; told = refl; ends = inr refl }))
+first_sold = inl (record { replies = reply.Done 1 ∷ []; told = refl; ends = inr refl })
 
 saves : OwnPiece (runs 1 (Ok (savepoint (codes "s")))) with_one (codes "1 OK 0\n") with_saved
 unfolding digits
@@ -97,7 +96,7 @@ saves = runs_so with_one with_saved (savepoint (codes "s")) (codes "1 OK 0\n") r
 
 second_sold : OwnPiece (runs 1 (Ok (sold 2 5))) with_saved (codes "1 OK 1\n") with_two
 unfolding digits
-second_sold = inl (inl (record { replies = reply.Done 1 ∷ []; told = refl; ends = inr refl }))
+second_sold = inl (record { replies = reply.Done 1 ∷ []; told = refl; ends = inr refl })
 
 returns : OwnPiece (runs 1 (Ok (rollback (Some (codes "s"))))) with_two (codes "1 OK 0\n") with_back
 unfolding digits
@@ -107,18 +106,18 @@ returns = runs_so with_two with_back (rollback (Some (codes "s"))) (codes "1 OK 
 
 shown : OwnPiece (runs 1 (Ok shows)) with_back (codes "1 ROW 7 1 10\n1 OK 1\n") with_all
 unfolding digits
-shown = inl (inl (record { replies = returned; told = refl; ends = inr refl }))
+shown = inl (record { replies = returned; told = refl; ends = inr refl })
 
 was_alone : WasAlone with_all (open_with all_told)
 was_alone = ap (λ r. r.0) savepoint_alone
 
 commits_so : OwnPiece (runs 1 (Ok commit)) with_all (codes "1 COMMIT 3\n") ended
 unfolding digits
-commits_so = inl (inl (record {
+commits_so = inl (record {
   replies = reply.Commit 3 ∷ [];
   told = refl;
   ends = inr (was_alone, ap (λ (r : List (List Reply) × Running). reply.Commit (committed r.1).number ∷ []) (sym savepoint_alone), refl);
-}))
+})
 
 -- ---- the end
 

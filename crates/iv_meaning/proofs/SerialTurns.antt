@@ -10,7 +10,7 @@ use Rattle.iv_types.specs.declared.statement.Mode.TheVariants.{Serial, Snapshot}
 use Rattle.iv_types.specs.Syntax.{StatementTree, begin, commit}
 use Rattle.iv_meaning.specs.Transaction.{Running, committed}
 use Rattle.iv_meaning.specs.Said.{runs, loads, steps}
-use Rattle.iv_meaning.specs.Serial.{World, Open, none, waits, loaded, opened_with, set_open, set_unfinished, commits, OwnPiece, IsEnd, IsSerialFrom}
+use Rattle.iv_meaning.specs.Serial.{World, Unended, none, waits, loaded, opened_with, set_open, set_unfinished, commits, OwnPiece, IsEnd, IsSerialFrom}
 use Rattle.iv_meaning.specs.SerialExample.{shop_database, sold, shows, StepsTranscript, WaitsTranscript}
 use Rattle.iv_meaning.proofs.SaleLemmas.{returned, kept_one, first_alone, sold_outside, shows_outside, snapshot_alone}
 use Rattle.iv_meaning.proofs.SerialRuns.{one_line, open_with, one_told, began, with_one, begins, first_sold}
@@ -20,7 +20,7 @@ first = opened_with shop_database
 
 -- ---- a snapshot in steps
 
-abbrev snapshot_of : List (StatementTree × List Reply) → Open
+abbrev snapshot_of : List (StatementTree × List Reply) → Unended
 snapshot_of told = record { mode = Snapshot; number = 2; told = told }
 
 abbrev loaded_world : World
@@ -43,7 +43,7 @@ snapshot_ended = set_open (set_unfinished snapshot_shown 2 none) 2 None
 
 loads_so : OwnPiece (loads 2 (Ok (begin Snapshot))) first (codes "2 STEP\n") loaded_world
 unfolding digits
-loads_so = inl (record { told = refl; left_is = refl })
+loads_so = record { told = refl; left_is = refl }
 
 steps_so : OwnPiece (steps 2) loaded_world (codes "2 STEP\n") stepped
 unfolding digits
@@ -51,11 +51,11 @@ steps_so = inr (inl (record { told = refl; left_is = refl }))
 
 sells : OwnPiece (runs 1 (Ok (sold 1 10))) stepped (codes "1 OK 1\n1 COMMIT 3\n") sold_between
 unfolding digits
-sells = inl (inl (record {
+sells = inl (record {
   replies = reply.Done 1 ∷ reply.Commit 3 ∷ [];
   told = refl;
   ends = inr (sym (ap (λ t. t.replies) sold_outside), sym (ap (λ t. commits (set_unfinished stepped 1 none) 1 t.kept) sold_outside));
-}))
+})
 
 begins_snapshot : OwnPiece (steps 2) sold_between (codes "2 SNAPSHOT 2\n") snapshot_open
 unfolding digits
@@ -63,11 +63,11 @@ begins_snapshot = inl (record { replies = reply.Snapshot 2 ∷ []; told = refl; 
 
 shows_none : OwnPiece (runs 2 (Ok shows)) snapshot_open (codes "2 OK 0\n") snapshot_shown
 unfolding digits
-shows_none = inl (inl (record { replies = reply.Done 0 ∷ []; told = refl; ends = inr refl }))
+shows_none = inl (record { replies = reply.Done 0 ∷ []; told = refl; ends = inr refl })
 
 ends_snapshot : OwnPiece (runs 2 (Ok commit)) snapshot_shown (codes "2 COMMIT 2\n") snapshot_ended
 unfolding digits
-ends_snapshot = inl (inl (record {
+ends_snapshot = inl (record {
   replies = reply.Commit 2 ∷ [];
   told = refl;
   ends = inr (
@@ -75,7 +75,7 @@ ends_snapshot = inl (inl (record {
     ap (λ (r : List (List Reply) × Running). reply.Commit (committed r.1).number ∷ []) (sym snapshot_alone),
     ap (λ (r : List (List Reply) × Running). set_open (commits (set_unfinished snapshot_shown 2 none) 2 r.1.kept) 2 None) (sym snapshot_alone),
   );
-}))
+})
 
 snapshot_end : IsEnd snapshot_ended
 snapshot_end session o is = absurd (none-some o (sym (by (session == 2)) ∙ is))
@@ -112,11 +112,11 @@ all_ended = set_unfinished freed 2 none
 
 waits_so : OwnPiece (runs 2 (Ok shows)) with_one (codes "2 WAIT 1\n") waiting
 unfolding digits
-waits_so = inl (inr (record { for = record { bits = 1 }; goes_on = record { told = refl; left_is = refl } }))
+waits_so = inr (record { for = record { bits = 1 }; goes_on = record { told = refl; left_is = refl } })
 
 commits_one : OwnPiece (runs 1 (Ok commit)) waiting (codes "1 COMMIT 3\n") freed
 unfolding digits
-commits_one = inl (inl (record {
+commits_one = inl (record {
   replies = reply.Commit 3 ∷ [];
   told = refl;
   ends = inr (
@@ -124,7 +124,7 @@ commits_one = inl (inl (record {
     ap (λ (r : List (List Reply) × Running). reply.Commit (committed r.1).number ∷ []) (sym (first_alone [])),
     ap (λ (r : List (List Reply) × Running). set_open (commits (set_unfinished waiting 1 none) 1 r.1.kept) 1 None) (sym (first_alone [])),
   );
-}))
+})
 
 waits_end : IsEnd all_ended
 waits_end session o is = absurd (none-some o (sym (by (session == 1)) ∙ is))

@@ -4,7 +4,8 @@ use Rattle.std.specs.Prelude.{codes}
 use Rattle.std.specs.List.{All}
 use Rattle.std.proofs.lemmas.List.Elements.{All-head, All-tail}
 use Rattle.std.proofs.lemmas.List.Prefix.{front_rest}
-use Rattle.iv_meaning.specs.Request.{SessionLaw}
+use Rattle.iv_meaning.specs.Number.{digits_at_front}
+use Rattle.iv_meaning.specs.SerialLaws.{IsOne, SessionLaw}
 use Rattle.iv_meaning.proofs.NumberLemmas.{one_decimal}
 
 abbrev OnlySpaces : List ℕ → Type 0
@@ -26,7 +27,10 @@ same_text [] (y ∷ q) s t hp hq hs ht e = absurd (hs (q ++ t) (e ∙ ap (λ (b 
 same_text (x ∷ p) [] s t hp hq hs ht e = absurd (ht (p ++ s) (sym e ∙ ap (λ (b : ℕ). b ∷ (p ++ s)) (All-head (λ b. b ≡ 32) x p hp)))
 same_text (x ∷ p) (y ∷ q) s t hp hq hs ht e = same_text p q s t (All-tail (λ b. b ≡ 32) x p hp) (All-tail (λ b. b ≡ 32) y q hq) hs ht (tail_same x y (p ++ s) (q ++ t) e)
 
-pub one_session : SessionLaw
-one_session line s t m n a b =
-    let parts = one_decimal m n (codes ":" ++ (a.spaces ++ s)) (codes ":" ++ (b.spaces ++ t)) (omega (arith, a.last)) (omega (arith, b.last)) refl refl (sym a.written ∙ b.written) in
-    (parts.0, same_text a.spaces b.spaces s t a.only_spaces b.only_spaces a.unspaced b.unspaced (same_behind (codes ":") (a.spaces ++ s) (b.spaces ++ t) parts.1))
+pub one_marked : (mark : List ℕ) → ((rest : List ℕ) → digits_at_front (mark ++ rest) ≡ 0) → IsOne mark
+one_marked mark none line s t m n a b =
+    let parts = one_decimal m n (mark ++ (a.spaces ++ s)) (mark ++ (b.spaces ++ t)) (omega (arith, a.last)) (omega (arith, b.last)) (none (a.spaces ++ s)) (none (b.spaces ++ t)) (sym a.written ∙ b.written) in
+    (parts.0, same_text a.spaces b.spaces s t a.only_spaces b.only_spaces a.unspaced b.unspaced (same_behind mark (a.spaces ++ s) (b.spaces ++ t) parts.1))
+
+pub session_law : SessionLaw
+session_law = (one_marked (codes ":") (λ rest. refl), one_marked (codes "/") (λ rest. refl))

@@ -1,5 +1,3 @@
--- No clause of `run` rests on this module: it serves contracts between crates.
---
 -- What was committed, entry by entry, and the database at a commit number.
 use Rattle.std.specs.Prelude.{◌≡◌, ℕ, ◌+◌, nat_le, List, [], ◌∷◌, filter}
 use Rattle.iv_meaning.specs.Database.{Database}

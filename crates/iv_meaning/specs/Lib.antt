@@ -1,8 +1,6 @@
 pub mod Lines
 pub mod Reply
 pub mod Number
-pub mod Request
-pub mod Transcript
 pub mod Script
 pub mod Values
 pub mod Schema
@@ -25,4 +23,5 @@ pub mod Autocommit
 pub mod History
 pub mod Said
 pub mod Serial
+pub mod SerialLaws
 pub mod SerialExample

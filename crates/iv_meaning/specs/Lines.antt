@@ -35,8 +35,8 @@ abbrev pub longest_line : ℕ
 longest_line = 65536
 
 -- the input is a line, its end and this rest; the end is CR LF, or LF where no CR stands before it
-abbrev pub GoesOn : List ℕ → List ℕ → List ℕ → Type 0
-GoesOn input line rest = (input ≡ line ++ 13 ∷ 10 ∷ rest) ⊎ ((input ≡ line ++ 10 ∷ rest) × ((front : List ℕ) → line ≢ front ++ 13 ∷ []))
+abbrev pub HasFirstLine : List ℕ → List ℕ → List ℕ → Type 0
+HasFirstLine input line rest = (input ≡ line ++ 13 ∷ 10 ∷ rest) ⊎ ((input ≡ line ++ 10 ∷ rest) × ((front : List ℕ) → line ≢ front ++ 13 ∷ []))
 
 -- the input is its last line, which lacks its end
 pub record IsLast (input line : List ℕ) (others : List (List ℕ)) : Type 0 where
@@ -48,7 +48,7 @@ pub record IsLast (input line : List ℕ) (others : List (List ℕ)) : Type 0 wh
 -- first line, its end and a rest that the other lines are the lines of, or one last line.
 abbrev pub AreLines : List ℕ → List (List ℕ) → Type 0
 AreLines input [] = input ≡ []
-AreLines input (line ∷ lines) = All (λ b. b ≢ 10) line × (IsLast input line lines ⊎ ((rest : List ℕ) × GoesOn input line rest × AreLines rest lines))
+AreLines input (line ∷ lines) = All (λ b. b ≢ 10) line × (IsLast input line lines ⊎ ((rest : List ℕ) × HasFirstLine input line rest × AreLines rest lines))
 
 -- `lines_of` gives the lines of every input
 abbrev pub LinesLaw : Type 0

@@ -1,59 +1,23 @@
--- What a script of autocommit lines is answered: each line by the plain meaning of its statement alone.
-use Rattle.std.specs.Prelude.{◌≡◌, ◌⊎◌, ◌≤◌, ℕ, List, [], ◌∷◌, length}
-use Rattle.iv_types.specs.declared.refusal.Refusal.{Refusal}
-use Rattle.iv_types.specs.declared.refusal.Refusal.TheVariants.{NoMemory, BadLine, LineTooLong}
-use Rattle.iv_types.specs.declared.reply.Reply.{Reply}
-use Rattle.iv_types.specs.declared.reply.Reply.TheVariants.{Error}
-use Rattle.iv_types.specs.Syntax.{StatementTree}
-use Rattle.iv_meaning.specs.Lines.{longest_line}
-use Rattle.iv_meaning.specs.Database.{Database, created}
-use Rattle.iv_meaning.specs.Reply.{reply_lines}
-use Rattle.iv_meaning.specs.Request.{IsOfSession, Asked, nothing, too_long, bad, refused, statement, Asks}
-use Rattle.iv_meaning.specs.Autocommit.{IsTold}
-use Rattle.iv_meaning.specs.Transcript.{IsOutput, AnswersFirst, IsOutputPart}
+-- What is printed for an input: the whole of it, that of its first lines, and of this a front.
+use Rattle.std.specs.Prelude.{◌≡◌, ℕ, Bool, List, ◌++◌}
+use Rattle.std.specs.List.{AllZip}
+use Rattle.iv_meaning.specs.Lines.{lines_of}
+use Rattle.iv_meaning.specs.Said.{Said, Says}
+use Rattle.iv_meaning.specs.Serial.{World, IsTranscript}
 
--- the line prints nothing and changes nothing
-pub record IsSilent (before : Database) (piece : List ℕ) (after : Database) : Type 0 where
-  pub told : piece ≡ []
-  pub left : after ≡ before
+-- these forms of lines are built, and so a line is answered
+module _ (built : Said → Bool) (Answers : Said → World → List ℕ → World → Type 0) where
+  abbrev pub AnswersLines : World → List (List ℕ) → List ℕ → Type 0
+  AnswersLines w lines out = (said : List Said) × AllZip (Says built) lines said × IsTranscript Answers w said out
 
--- the line is refused and changes nothing
-pub record IsRefused (session : ℕ) (refusal : Refusal) (before : Database) (piece : List ℕ) (after : Database) : Type 0 where
-  pub told : piece ≡ reply_lines session (Error refusal ∷ [])
-  pub left : after ≡ before
+  -- the lines of the input are answered
+  abbrev pub IsOutput : World → List ℕ → List ℕ → Type 0
+  IsOutput w input out = AnswersLines w (lines_of input) out
 
--- the line is the statement's: what the statement is told on the database is printed, and what it leaves is left
-pub record IsStatementRun (session : ℕ) (tree : StatementTree) (before : Database) (piece : List ℕ) (after : Database) : Type 0 where
-  pub replies : List Reply
-  pub told : IsTold tree before replies after
-  pub printed : piece ≡ reply_lines session replies
+  -- its first lines are answered, and the other lines are not
+  abbrev pub AnswersFirst : World → List ℕ → List ℕ → Type 0
+  AnswersFirst w input out = (first : List (List ℕ)) × (others : List (List ℕ)) × (lines_of input ≡ first ++ others) × AnswersLines w first out
 
--- A refusal of the line itself is told with the number 0.
-abbrev pub AnswersTo : Asked → Database → List ℕ → Database → Type 0
-AnswersTo nothing = IsSilent
-AnswersTo too_long = IsRefused 0 LineTooLong
-AnswersTo bad = IsRefused 0 BadLine
-AnswersTo (refused session refusal) = IsRefused session refusal
-AnswersTo (statement session tree) = IsStatementRun session tree
-
--- for want of memory to read it, a session's line is passed over
-pub record PassedOver (line : List ℕ) (before : Database) (piece : List ℕ) (after : Database) : Type 0 where
-  pub read : length line ≤ longest_line
-  pub session : ℕ
-  pub text : List ℕ
-  pub of_session : IsOfSession session text line
-  pub refused : IsRefused session NoMemory before piece after
-
--- a line is answered as what it asks for, unless it is passed over
-abbrev pub Answers : List ℕ → Database → List ℕ → Database → Type 0
-Answers line before piece after = ((asked : Asked) × Asks line asked × AnswersTo asked before piece after) ⊎ PassedOver line before piece after
-
--- the output of a script on an empty database: whole, of its first lines, and of these with the end cut off
-abbrev pub IsScriptOutput : List ℕ → List ℕ → Type 0
-IsScriptOutput = IsOutput Answers created
-
-abbrev pub AnswersFirstLines : List ℕ → List ℕ → Type 0
-AnswersFirstLines = AnswersFirst Answers created
-
-abbrev pub IsScriptOutputPart : List ℕ → List ℕ → Type 0
-IsScriptOutputPart = IsOutputPart Answers created
+  -- the same, with the end of the output cut off
+  abbrev pub IsOutputPart : World → List ℕ → List ℕ → Type 0
+  IsOutputPart w input out = (rest : List ℕ) × AnswersFirst w input (out ++ rest)

@@ -1,10 +1,7 @@
--- No clause of `run` rests on this module: it serves contracts between crates.
---
 -- When the output of a script of many sessions is serial. Each committed transaction was told what it is told alone on the
 -- database that the commit before it left, a snapshot on the database of its number, and any other transaction on the
 -- database that was last committed before it ended, or before the input did.
 use Rattle.std.specs.Prelude.{◌≡◌, ◌⊎◌, ◌≤◌, ℕ, ◌+◌, ◌==◌, Bool, true, false, IsTrue, List, [], ◌∷◌, ◌++◌, map, codes, decimal, Option, Some, None, Result, Ok, Err, if◌then◌else◌}
-use Rattle.std.specs.List.{AllZip}
 use Rattle.std.specs.Option.{unwrap_or}
 use Rattle.iv_types.specs.declared.session.Sessions.{Sessions}
 use Rattle.iv_types.specs.declared.refusal.Refusal.{Refusal}
@@ -14,13 +11,12 @@ use Rattle.iv_types.specs.declared.reply.Reply.TheVariants as reply
 use Rattle.iv_types.specs.declared.statement.Mode.{Mode}
 use Rattle.iv_types.specs.declared.statement.Mode.TheVariants.{Serial, Snapshot}
 use Rattle.iv_types.specs.Syntax.{StatementTree, begin, commit, rollback}
-use Rattle.iv_meaning.specs.Lines.{lines_of}
 use Rattle.iv_meaning.specs.Reply.{reply_lines}
 use Rattle.iv_meaning.specs.Database.{Database}
 use Rattle.iv_meaning.specs.Statement.{Kept}
 use Rattle.iv_meaning.specs.Transaction.{Running, alone, committed, outside, begin_reply, refused_outside, refused_inside}
-use Rattle.iv_meaning.specs.History.{Entry, fold, state_at, AreNumbered}
-use Rattle.iv_meaning.specs.Said.{Said, nothing, too_long, bad, runs, loads, steps, cleans, checkpoints, Says}
+use Rattle.iv_meaning.specs.History.{Entry, fold, state_at}
+use Rattle.iv_meaning.specs.Said.{Said, nothing, too_long, bad, runs, loads, unread, steps, cleans, checkpoints}
 
 -- ---- what is known after some lines
 
@@ -33,7 +29,7 @@ pub data Unfinished : Type 0 where
   loaded : (statement : StatementTree) (number : Option ℕ) → Unfinished
 
 -- an open transaction: what its statements were told, the first of them first
-pub record Open : Type 0 where
+pub record Unended : Type 0 where
   pub mode : Mode
   -- of a snapshot, the number of its database
   pub number : ℕ
@@ -44,7 +40,7 @@ pub record World : Type 0 where
   pub origin : Database
   pub history : List Entry
   -- of each session: its open transaction, and what it was not told the end of
-  pub running : ℕ → Option Open
+  pub running : ℕ → Option Unended
   pub unfinished : ℕ → Unfinished
 
 abbrev pub opened_with : Database → World
@@ -54,7 +50,7 @@ opened_with db = record { origin = db; history = []; running = λ s. None; unfin
 abbrev pub latest : World → Database
 latest w = fold w.history w.origin
 
-abbrev pub set_open : World → ℕ → Option Open → World
+abbrev pub set_open : World → ℕ → Option Unended → World
 set_open w session o = record w { running = λ s. if s == session then o else w.running s }
 
 abbrev pub set_unfinished : World → ℕ → Unfinished → World
@@ -68,17 +64,17 @@ commits w session kept = record w { history = w.history ++ record { number = (la
 -- ---- transactions
 
 -- the database that a transaction ran on alone
-abbrev pub base_of : World → Open → Database
+abbrev pub base_of : World → Unended → Database
 base_of w o = elim o.mode [
   | Serial ↦ latest w
   | Snapshot ↦ state_at w.origin w.history o.number
 ]
 
-abbrev pub ran : World → Open → List (List Reply) × Running
+abbrev pub ran : World → Unended → List (List Reply) × Running
 ran w o = alone o.mode (map (λ p. p.0) o.told) (base_of w o)
 
 -- its statements were told what they are told alone
-abbrev pub WasAlone : World → Open → Type 0
+abbrev pub WasAlone : World → Unended → Type 0
 WasAlone w o = (ran w o).0 ≡ map (λ p. p.1) o.told
 
 -- refused by the engine, with one of the codes 20 to 29
@@ -104,7 +100,7 @@ pub record PassesOver (w : World) (session : ℕ) (replies : List Reply) (after 
   pub why : Refusal
   pub engines : IsTrue (is_engines why)
   pub told : replies ≡ reply.Error why ∷ []
-  pub ended : (o : Open) → w.running session ≡ Some o → IsTrue (is_deadlock why) → WasAlone w o
+  pub ended : (o : Unended) → w.running session ≡ Some o → IsTrue (is_deadlock why) → WasAlone w o
   pub left : after ≡ (if is_deadlock why then set_open w session None else w)
 
 -- outside a transaction; number is the greatest that was printed before the statement's first step
@@ -115,13 +111,13 @@ EndsOutside w session statement number replies after =
     (replies ≡ (outside statement (latest w)).replies) × (after ≡ commits w session (outside statement (latest w)).kept)
 
 -- inside one: COMMIT and ROLLBACK end it, and any other statement goes on with it
-abbrev pub EndsInside : World → ℕ → Open → StatementTree → List Reply → World → Type 0
+abbrev pub EndsInside : World → ℕ → Unended → StatementTree → List Reply → World → Type 0
 EndsInside w session o commit replies after =
     WasAlone w o × (replies ≡ reply.Commit (committed (ran w o).1).number ∷ []) × (after ≡ set_open (commits w session (ran w o).1.kept) session None)
 EndsInside w session o (rollback None) replies after = WasAlone w o × (replies ≡ reply.Done 0 ∷ []) × (after ≡ set_open w session None)
 EndsInside w session o statement replies after = after ≡ set_open w session (Some (record o { told = o.told ++ (statement, replies) ∷ [] }))
 
-abbrev pub EndsBy : World → ℕ → Option Open → StatementTree → ℕ → List Reply → World → Type 0
+abbrev pub EndsBy : World → ℕ → Option Unended → StatementTree → ℕ → List Reply → World → Type 0
 EndsBy w session None statement number replies after = EndsOutside w session statement number replies after
 EndsBy w session (Some o) statement number replies after = EndsInside w session o statement replies after
 
@@ -134,7 +130,7 @@ Ends w session statement number replies after =
 -- ---- what a line prints itself
 
 -- its own reply, which changes nothing
-pub record Tells (w : World) (session : ℕ) (r : Reply) (piece : List ℕ) (after : World) : Type 0 where
+pub record OnlyReplies (w : World) (session : ℕ) (r : Reply) (piece : List ℕ) (after : World) : Type 0 where
   pub told : piece ≡ reply_lines session (r ∷ [])
   pub left : after ≡ w
 
@@ -150,49 +146,49 @@ pub record IsRefused (w : World) (session : ℕ) (statement : StatementTree) (wh
   pub ends : EndsBy w session (w.running session) statement (latest w).number (reply.Error why ∷ []) after
 
 -- it has not ended, and this is left of it
-pub record GoesOn (w : World) (session : ℕ) (r : Reply) (left : Unfinished) (piece : List ℕ) (after : World) : Type 0 where
+pub record StaysUnfinished (w : World) (session : ℕ) (r : Reply) (left : Unfinished) (piece : List ℕ) (after : World) : Type 0 where
   pub told : piece ≡ reply_lines session (r ∷ [])
   pub left_is : after ≡ set_unfinished w session left
 
-pub record Waits (w : World) (session : ℕ) (left : Unfinished) (piece : List ℕ) (after : World) : Type 0 where
+pub record PrintsWait (w : World) (session : ℕ) (left : Unfinished) (piece : List ℕ) (after : World) : Type 0 where
   pub for : Sessions
-  pub goes_on : GoesOn w session (reply.Wait for) left piece after
+  pub goes_on : StaysUnfinished w session (reply.Wait for) left piece after
 
 -- the refusal of codes 12 to 15 or of limit 16 that a statement gets by its session's mode and savepoints
-abbrev pub refused_by_mode : World → Option Open → StatementTree → Option Refusal
+abbrev pub refused_by_mode : World → Option Unended → StatementTree → Option Refusal
 refused_by_mode w None statement = refused_outside statement
 refused_by_mode w (Some o) statement = refused_inside o.mode (ran w o).1.saved statement
 
 -- A text is given to a session. One with an unfinished statement takes none; then the grammar may refuse the text, and the
 -- mode the statement; else the statement goes as this says.
 abbrev pub Takes : World → ℕ → Unfinished → Result StatementTree Refusal → (StatementTree → List ℕ → World → Type 0) → List ℕ → World → Type 0
-Takes w session none (Err why) Goes = Tells w session (reply.Error why)
+Takes w session none (Err why) Goes = OnlyReplies w session (reply.Error why)
 Takes w session none (Ok statement) Goes = elim (refused_by_mode w (w.running session) statement) [
   | Some why ↦ IsRefused w session statement why
   | None ↦ Goes statement
 ]
-Takes w session _ read Goes = Tells w session (reply.Error refusal.SessionWaiting)
+Takes w session _ read Goes = OnlyReplies w session (reply.Error refusal.SessionWaiting)
 
 -- `N: ..` goes to the end of the statement, or to WAIT
 abbrev pub Runs : World → ℕ → StatementTree → List ℕ → World → Type 0
 Runs w session statement piece after =
-    EndsNow w session statement (latest w).number piece after ⊎ Waits w session (waits statement (latest w).number) piece after
+    EndsNow w session statement (latest w).number piece after ⊎ PrintsWait w session (waits statement (latest w).number) piece after
 
 -- `N/ ..` does nothing of it yet
 abbrev pub Loads : World → ℕ → StatementTree → List ℕ → World → Type 0
-Loads w session statement = GoesOn w session reply.Step (loaded statement None)
+Loads w session statement = StaysUnfinished w session reply.Step (loaded statement None)
 
 -- `N+` does a step of the loaded statement
 abbrev pub Steps : World → ℕ → Unfinished → List ℕ → World → Type 0
 Steps w session (loaded statement first) piece after =
     let number : ℕ = unwrap_or first (latest w).number in
     EndsNow w session statement number piece after
-    ⊎ GoesOn w session reply.Step (loaded statement (Some number)) piece after
-    ⊎ Waits w session (loaded statement (Some number)) piece after
-Steps w session _ piece after = Tells w 0 (reply.Error refusal.BadLine) piece after
+    ⊎ StaysUnfinished w session reply.Step (loaded statement (Some number)) piece after
+    ⊎ PrintsWait w session (loaded statement (Some number)) piece after
+Steps w session _ piece after = OnlyReplies w 0 (reply.Error refusal.BadLine) piece after
 
 -- a line of the engine's own prints a word and a number, or its refusal
-pub record Counts (w : World) (word : List ℕ) (Right : ℕ → Type 0) (piece : List ℕ) (after : World) : Type 0 where
+pub record PrintsCount (w : World) (word : List ℕ) (Right : ℕ → Type 0) (piece : List ℕ) (after : World) : Type 0 where
   pub count : ℕ
   pub told : piece ≡ word ++ (codes " " ++ (decimal count ++ codes "\n"))
   pub right : Right count
@@ -201,21 +197,18 @@ pub record Counts (w : World) (word : List ℕ) (Right : ℕ → Type 0) (piece 
 pub record IsPassedOver (w : World) (piece : List ℕ) (after : World) : Type 0 where
   pub why : Refusal
   pub engines : IsTrue (is_engines why)
-  pub tells : Tells w 0 (reply.Error why) piece after
-
--- for want of memory a session's text is passed over
-abbrev pub LacksMemory : World → ℕ → List ℕ → World → Type 0
-LacksMemory w session = Tells w session (reply.Error refusal.NoMemory)
+  pub tells : OnlyReplies w 0 (reply.Error why) piece after
 
 abbrev pub OwnPiece : Said → World → List ℕ → World → Type 0
 OwnPiece nothing w piece after = (piece ≡ []) × (after ≡ w)
-OwnPiece too_long w piece after = Tells w 0 (reply.Error refusal.LineTooLong) piece after
-OwnPiece bad w piece after = Tells w 0 (reply.Error refusal.BadLine) piece after
-OwnPiece (runs session read) w piece after = Takes w session (w.unfinished session) read (Runs w session) piece after ⊎ LacksMemory w session piece after
-OwnPiece (loads session read) w piece after = Takes w session (w.unfinished session) read (Loads w session) piece after ⊎ LacksMemory w session piece after
+OwnPiece too_long w piece after = OnlyReplies w 0 (reply.Error refusal.LineTooLong) piece after
+OwnPiece bad w piece after = OnlyReplies w 0 (reply.Error refusal.BadLine) piece after
+OwnPiece (runs session read) w piece after = Takes w session (w.unfinished session) read (Runs w session) piece after
+OwnPiece (loads session read) w piece after = Takes w session (w.unfinished session) read (Loads w session) piece after
+OwnPiece (unread session) w piece after = OnlyReplies w session (reply.Error refusal.NoMemory) piece after
 OwnPiece (steps session) w piece after = Steps w session (w.unfinished session) piece after
-OwnPiece cleans w piece after = Counts w (codes "CLEAN") (λ k. Unit {0}) piece after ⊎ IsPassedOver w piece after
-OwnPiece checkpoints w piece after = Counts w (codes "CHECKPOINT") (λ n. n ≡ (latest w).number) piece after ⊎ IsPassedOver w piece after
+OwnPiece cleans w piece after = PrintsCount w (codes "CLEAN") (λ k. Unit {0}) piece after ⊎ IsPassedOver w piece after
+OwnPiece checkpoints w piece after = PrintsCount w (codes "CHECKPOINT") (λ n. n ≡ (latest w).number) piece after ⊎ IsPassedOver w piece after
 
 -- ---- what is printed behind it
 
@@ -244,45 +237,14 @@ pub record Answers (said : Said) (w : World) (piece : List ℕ) (after : World) 
 
 -- at the end of the input the transactions that are still open were told what they are told alone
 abbrev pub IsEnd : World → Type 0
-IsEnd w = (session : ℕ) (o : Open) → w.running session ≡ Some o → WasAlone w o
+IsEnd w = (session : ℕ) (o : Unended) → w.running session ≡ Some o → WasAlone w o
 
--- the output has one piece for each line, where the lines say this and the input ends with the last of them
+-- The output has one piece for each line, each on the world that the piece before it left, where the lines say this and the
+-- input ends with the last of them. It is stated over what it is to answer a line.
+abbrev pub IsTranscript : (Said → World → List ℕ → World → Type 0) → World → List Said → List ℕ → Type 0
+IsTranscript Answers w [] out = (out ≡ []) × IsEnd w
+IsTranscript Answers w (said ∷ more) out =
+    (piece : List ℕ) × (after : World) × (rest : List ℕ) × Answers said w piece after × (out ≡ piece ++ rest) × IsTranscript Answers after more rest
+
 abbrev pub IsSerialFrom : World → List Said → List ℕ → Type 0
-IsSerialFrom w [] out = (out ≡ []) × IsEnd w
-IsSerialFrom w (said ∷ more) out =
-    (piece : List ℕ) × (after : World) × (rest : List ℕ) × Answers said w piece after × (out ≡ piece ++ rest) × IsSerialFrom after more rest
-
--- the output of an input is serial, on an opened database
-abbrev pub IsSerial : Database → List ℕ → List ℕ → Type 0
-IsSerial db input out = (said : List Said) × AllZip Says (lines_of input) said × IsSerialFrom (opened_with db) said out
-
--- ---- laws
-
--- the history begins with this database, and its numbers follow that of the database
-pub record IsSince (db : Database) (w : World) : Type 0 where
-  pub began : w.origin ≡ db
-  pub numbered : AreNumbered db.number w.history
-
--- so it is with every line
-abbrev pub HistoryLaw : Type 0
-HistoryLaw = (db : Database) (said : Said) (w after : World) (piece : List ℕ) → IsSince db w → Answers said w piece after → IsSince db after
-
--- then the database of the greatest printed number is the state at that number
-abbrev pub LatestLaw : Type 0
-LatestLaw = (db : Database) (w : World) → IsSince db w → latest w ≡ state_at w.origin w.history (latest w).number
-
--- The database that a transaction leaves, alone on that of the greatest printed number, is the one of the number that it
--- takes: what runs alone on the state at n - 1 leaves the state at n.
-abbrev pub CommitLaw : Type 0
-CommitLaw = (w : World) (session : ℕ) (statements : List StatementTree) →
-    committed (alone Serial statements (latest w)).1 ≡ latest (commits w session (alone Serial statements (latest w)).1.kept)
-
--- so does a statement that is a transaction of its own
-abbrev pub OutsideLaw : Type 0
-OutsideLaw = (w : World) (session : ℕ) (statement : StatementTree) →
-    (outside statement (latest w)).leaves ≡ latest (commits w session (outside statement (latest w)).kept)
-
--- a commit leaves the database at each number before its own
-abbrev pub StateLaw : Type 0
-StateLaw = (w : World) (session number : ℕ) (kept : List Kept) → number ≤ (latest w).number →
-    state_at w.origin (commits w session kept).history number ≡ state_at w.origin w.history number
+IsSerialFrom = IsTranscript Answers

@@ -39,15 +39,15 @@ abbrev pub begun : Database → Running
 begun db = record { db = db; kept = []; saved = [] }
 
 -- what a statement is told, and how the transaction stands then
-pub record Told : Type 0 where
+pub record Response : Type 0 where
   pub replies : List Reply
   pub after : Running
 
-abbrev pub refused_with : Refusal → Running → Told
+abbrev pub refused_with : Refusal → Running → Response
 refused_with refusal t = record { replies = reply.Error refusal ∷ []; after = t }
 
 -- a refused statement leaves the transaction as it was
-abbrev pub told : Meaning → Running → Told
+abbrev pub told : Meaning → Running → Response
 told (Refused refusal) t = refused_with refusal t
 told (Accepted listed count kept) t = record {
   replies = map reply.Row listed ++ reply.Done count ∷ [];
@@ -59,7 +59,7 @@ told (Accepted listed count kept) t = record {
 abbrev pub most_savepoints : ℕ
 most_savepoints = 64
 
-abbrev pub done : Running → Told
+abbrev pub done : Running → Response
 done t = record { replies = reply.Done 0 ∷ []; after = t }
 
 -- the savepoints from the latest one of this name on
@@ -106,7 +106,7 @@ refused_inside mode saved _ = Some InTransaction
 -- ---- statements inside a transaction
 
 -- one that is not refused so
-abbrev pub accepted : StatementTree → Running → Told
+abbrev pub accepted : StatementTree → Running → Response
 accepted (savepoint name) t = done (record t { saved = record { name = name; db = t.db; kept = t.kept } ∷ t.saved })
 accepted (rollback (Some name)) t = done (back_to (from_named name t.saved) t)
 accepted (rollback None) t = done t
@@ -114,7 +114,7 @@ accepted commit t = done t
 accepted statement t = told (means statement t.db) t
 
 -- a statement other than the COMMIT or ROLLBACK that ends the transaction
-abbrev pub inside : Mode → StatementTree → Running → Told
+abbrev pub inside : Mode → StatementTree → Running → Response
 inside mode statement t = elim (refused_inside mode t.saved statement) [
   | Some refusal ↦ refused_with refusal t
   | None ↦ accepted statement t
@@ -124,7 +124,7 @@ inside mode statement t = elim (refused_inside mode t.saved statement) [
 abbrev pub alone_from : Mode → List StatementTree → Running → List (List Reply) × Running
 alone_from mode [] t = ([], t)
 alone_from mode (statement ∷ statements) t =
-    let one : Told = inside mode statement t in
+    let one : Response = inside mode statement t in
     let rest : List (List Reply) × Running = alone_from mode statements one.after in
     (one.replies ∷ rest.0, rest.1)
 

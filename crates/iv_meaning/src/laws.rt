@@ -1,8 +1,6 @@
 //! Laws about the definitions.
 ghost use Rattle.iv_meaning.specs.Lines.{LinesLaw};
-ghost use Rattle.iv_meaning.specs.Request.{SessionLaw};
-ghost use Rattle.iv_meaning.specs.Said.{SaysLaw};
-ghost use Rattle.iv_meaning.specs.Serial.{CommitLaw, HistoryLaw, LatestLaw, OutsideLaw, StateLaw};
+ghost use Rattle.iv_meaning.specs.SerialLaws.{CommitLaw, HistoryLaw, LatestLaw, OutsideLaw, SaysLaw, SessionLaw, StateLaw};
 
 /// `lines_of` cuts an input into its lines.
 pub fn lines_law()
@@ -39,7 +37,7 @@ pub fn latest_law()
     ensures { LatestLaw }
 {}
 
-/// No line says two things, as no text is two statements, or refused for two causes.
+/// No line says two things where there is memory for its text, as no text is two statements, or refused for two causes.
 pub fn says_law()
     ensures { SaysLaw }
 {}

@@ -22,7 +22,8 @@ use Rattle.iv_meaning.specs.Database.{Row, Database}
 use Rattle.iv_meaning.specs.Statement.{Kept, sets, defines, Meaning, Refused, Accepted, keep, keep_all, select_meaning, bound_meaning}
 use Rattle.iv_meaning.specs.Transaction.{ended_by, next_number, committed}
 use Rattle.iv_meaning.specs.Reading.{replies_of}
-use Rattle.iv_meaning.specs.Autocommit.{is_built, whole_meaning, means_whole, outside_whole}
+use Rattle.iv_meaning.specs.Autocommit.{is_built}
+use Rattle.list_engine.specs.Whole.{whole_meaning, means_whole, outside_whole}
 use Rattle.list_engine.specs.declared.engine.ListEngine.{ListEngine}
 use Rattle.std.specs.List.{AllByRecursion}
 use Rattle.iv_meaning.specs.Query.{BoundQuery}

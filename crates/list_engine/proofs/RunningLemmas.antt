@@ -23,14 +23,15 @@ use Rattle.iv_meaning.specs.Names.{scope_of}
 use Rattle.iv_meaning.specs.Statement.{BoundTree, create, control, defines, keep, bound_meaning}
 use Rattle.iv_meaning.specs.Binding.{first_of, made_view, bound_to, faults, unless}
 use Rattle.iv_meaning.specs.Transaction.{means, bound_or_refused}
-use Rattle.iv_meaning.specs.Autocommit.{whole_meaning, means_whole, whole_or_refused}
+use Rattle.list_engine.specs.Whole.{whole_meaning, means_whole, whole_or_refused}
 use Rattle.list_engine.specs.declared.step.Step.{Step}
 use Rattle.list_engine.specs.declared.step.Act.{Act}
 use Rattle.list_engine.specs.declared.step.Act.TheVariants as act
 use Rattle.list_engine.specs.declared.step.Answer.{Answer}
 use Rattle.list_engine.specs.declared.step.Answer.TheVariants as answer
 use Rattle.list_engine.specs.State.{State, Open}
-use Rattle.list_engine.specs.Steps.{IsSession, IsCreate, MayAct, number_at_end, Does, DoesStep, May, Moves}
+use Rattle.list_engine.specs.Steps.{IsCreate, MayAct, number_at_end, Does, DoesStep, May, Moves}
+use Rattle.iv_meaning.specs.Escrow.{IsSession}
 use Rattle.list_engine.specs.declared.engine.ListEngine.{ListEngine}
 use Rattle.list_engine.specs.Told.{number_committed, is_begun, is_ended}
 use Rattle.list_engine.specs.Parts.{part_in, open_of, open_in}

@@ -16,7 +16,7 @@ use Rattle.iv_meaning.specs.Reading.{Program, replies_by}
 use Rattle.iv_meaning.specs.Binding.{bind}
 use Rattle.iv_meaning.specs.Statement.{Meaning, Refused}
 use Rattle.iv_meaning.specs.Transaction.{means, ended_by}
-use Rattle.iv_meaning.specs.Autocommit.{IsTold, IsPassedOver}
+use Rattle.list_engine.specs.Whole.{IsTold, IsPassedOver}
 use Rattle.iv_types.specs.declared.lock.LockMode.TheVariants.{Share}
 use Rattle.query_exec.specs.declared.turn.Fetch.{Fetch}
 use Rattle.list_engine.specs.declared.step.Step.{Step}
@@ -24,7 +24,8 @@ use Rattle.list_engine.specs.declared.step.Act.{Act}
 use Rattle.list_engine.specs.declared.step.Act.TheVariants as act
 use Rattle.list_engine.specs.declared.step.Answer.{Answer}
 use Rattle.list_engine.specs.State.{State}
-use Rattle.list_engine.specs.Steps.{IsFree, IsSession, Does}
+use Rattle.list_engine.specs.Steps.{IsFree, Does}
+use Rattle.iv_meaning.specs.Escrow.{IsSession}
 use Rattle.list_engine.specs.declared.engine.ListEngine.{ListEngine}
 use Rattle.iv_meaning.specs.View.{read as reader}
 use Rattle.list_store.specs.Held.{Holds, IsEvaluated}

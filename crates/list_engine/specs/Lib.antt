@@ -1,4 +1,5 @@
 pub mod Creating
+pub mod Whole
 pub mod Engine
 pub mod Inserting
 pub mod Insertion

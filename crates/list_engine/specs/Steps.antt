@@ -11,6 +11,7 @@ use Rattle.iv_types.specs.declared.refusal.Refusal.TheVariants.{NumberRange}
 use Rattle.iv_types.specs.declared.refusal.EngineRefusal.TheVariants as refusal
 use Rattle.iv_types.specs.declared.catalog.TableDef.{TableDef}
 use Rattle.iv_types.specs.Syntax.{StatementTree, create_table, create_index, create_view, statement_tree}
+use Rattle.iv_meaning.specs.Escrow.{IsSession}
 use Rattle.iv_meaning.specs.Schema.{Object, table, numbered, schema_of}
 use Rattle.iv_meaning.specs.View.{read}
 use Rattle.iv_meaning.specs.Statement.{BoundTree, defines, Refused, Accepted, keep}
@@ -34,9 +35,6 @@ abbrev pub IsStopped : State → Type 0
 IsStopped s = most_steps ≤ s.steps
 
 -- ---- what a caller has to know
-
-abbrev pub IsSession : ℕ → Type 0
-IsSession session = (1 ≤ session) × (session ≤ 64)
 
 abbrev pub IsCreate : StatementTree → Type 0
 IsCreate (create_table name columns primary) = Unit {0}

@@ -23,7 +23,7 @@ use Rattle.txn_machine.specs.Keeping.{Open, Put}
 use Rattle.txn_machine.specs.Store.{Store, schema_of, now, locks_of, change_at, Takes, Writes, does}
 use Rattle.txn_machine.specs.Ghosts.{the_views}
 use Rattle.txn_machine.specs.State.{State}
-use Rattle.txn_machine.specs.May.{GoesOn}
+use Rattle.txn_machine.specs.May.{IsOpenIn}
 use Rattle.txn_machine.specs.Steps.{asked, put_wants}
 use Rattle.txn_machine.proofs.Basics.{one_same, one_other}
 use Rattle.view_delta.specs.Owing.{row_change}
@@ -58,7 +58,7 @@ asked_put m s i number key new t d has is d_is =
     ∙ sym (ap (λ o. put_wants (schema_of s.store) o (change_at s.store (number, key) new)) (object_is m s number (definition.Table t) has is)))
 
 -- a change of the row that is there
-pub changed_told : (m n : Machine) (s : State) (i number : ℕ) (key : List ℕ) (new : Option Row) (after : Table) (d : Change) (said : Answer) → Stands m s → GoesOn s.store i Serial
+pub changed_told : (m n : Machine) (s : State) (i number : ℕ) (key : List ℕ) (new : Option Row) (after : Table) (d : Change) (said : Answer) → Stands m s → IsOpenIn s.store i Serial
     → d ≡ record { table = number; key = key; before = get m.rows (number, key); after = new }
     → IsGranted (locks_of s.store) i (asked s.store i (act.Put number key new)) after → table.KeepsOthers m.locks after i
     → ((former : Option Row) × (ds : List GroupDelta) × (said ≡ answer.Changed former ds) × IsChanged (record m { locks = after }) n i d former ds)

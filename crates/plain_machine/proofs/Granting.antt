@@ -23,7 +23,7 @@ use Rattle.txn_machine.specs.Counts.{fetch_size, transaction_size, definition_si
 use Rattle.txn_machine.specs.Store.{Store, schema_of, now, locks_of, Takes, Notes, Loses, does}
 use Rattle.txn_machine.specs.Ghosts.{the_views}
 use Rattle.txn_machine.specs.State.{State}
-use Rattle.txn_machine.specs.May.{GoesOn}
+use Rattle.txn_machine.specs.May.{IsOpenIn}
 use Rattle.txn_machine.specs.Steps.{asked, MayWait, Finds, FitsTransaction, note_of, definitions_after}
 use Rattle.txn_machine.proofs.Basics.{one_same, one_other}
 use Rattle.plain_machine.specs.Weights.{store_weight, note_weight, fetch_weight, most_weight}
@@ -96,7 +96,7 @@ lost_told m n s i a wants cycle after said h is may is_asked deadlock keeps lost
 
 -- ---- a Fetch
 
-pub fetched_told : (m n : Machine) (s : State) (i number : ℕ) (interval : Interval) (mode : LockMode) (rows : List Row) → Stands m s → GoesOn s.store i Serial
+pub fetched_told : (m n : Machine) (s : State) (i number : ℕ) (interval : Interval) (mode : LockMode) (rows : List Row) → Stands m s → IsOpenIn s.store i Serial
     → IsGranted (locks_of s.store) i (record { index = number; interval = interval; mode = mode } ∷ []) n.locks → table.KeepsOthers m.locks n.locks i → Finds s.store number interval rows
     → n ≡ record m { locks = n.locks; weight = n.weight } → n.weight ≡ m.weight + fetch_weight interval rows → n.weight ≤ most_weight
     → Told s i (act.Fetch number interval mode) (answer.Rows rows) n

@@ -62,7 +62,7 @@ account_is m s place column numbers h there = record {
 
 -- ---- only locks are taken
 
-pub took : (m n : Machine) (s : State) (i : ℕ) (after : Table) (wants : List Want) → Stands m s → may.GoesOn s.store i Serial → HasLocks (table.locks_of after i) (wants ++ locks_of s.store i) → table.KeepsOthers m.locks after i
+pub took : (m n : Machine) (s : State) (i : ℕ) (after : Table) (wants : List Want) → Stands m s → may.IsOpenIn s.store i Serial → HasLocks (table.locks_of after i) (wants ++ locks_of s.store i) → table.KeepsOthers m.locks after i
     → n ≡ record m { locks = after } → HoldsStore n (taken s.store i wants)
 took m n s i after wants h goes locks keeps rest =
     let is = goes.of_session in
@@ -79,7 +79,7 @@ took m n s i after wants h goes locks keeps rest =
     (subst (λ b. HasLocks (table.locks_of b i) (wants ++ locks_of s.store i)) (sym table_is) locks) (subst (λ b. table.KeepsOthers m.locks b i) (sym table_is) keeps)
 
 -- and told so
-took_told : (m n : Machine) (s : State) (i : ℕ) (after : Table) (said : machine_answer.Answer) → is_fault said ≡ false → Stands m s → may.GoesOn s.store i Serial → IsGranted (locks_of s.store) i (asked s.store i act.Pay) after → table.KeepsOthers m.locks after i
+took_told : (m n : Machine) (s : State) (i : ℕ) (after : Table) (said : machine_answer.Answer) → is_fault said ≡ false → Stands m s → may.IsOpenIn s.store i Serial → IsGranted (locks_of s.store) i (asked s.store i act.Pay) after → table.KeepsOthers m.locks after i
     → n ≡ record m { locks = after } → Says s i act.Pay said (Takes (asked s.store i act.Pay) ∷ []) → ((sessions : _) → said ≢ machine_answer.Blocked sessions) → Told s i act.Pay said n
 took_told m n s i after said fine h goes g keeps rest says not_blocked =
     let wants : List Want = asked s.store i act.Pay in
@@ -95,7 +95,7 @@ took_told m n s i after said fine h goes g keeps rest says not_blocked =
 
 -- ---- the answers of a Pay
 
-abbrev first_paid : (m : Machine) (s : State) (i : ℕ) (d : GroupDelta) → Stands m s → may.GoesOn s.store i Serial → Owes m i d → steps.IsFree s.store i (asked s.store i act.Pay) → steps.PaysFirst s.store i (asked s.store i act.Pay)
+abbrev first_paid : (m : Machine) (s : State) (i : ℕ) (d : GroupDelta) → Stands m s → may.IsOpenIn s.store i Serial → Owes m i d → steps.IsFree s.store i (asked s.store i act.Pay) → steps.PaysFirst s.store i (asked s.store i act.Pay)
 first_paid m s i d h goes owes free = record {
   free = free;
   first = d;
@@ -103,7 +103,7 @@ first_paid m s i d h goes owes free = record {
   owed_is = sym (own_txn m s.store i owes.txn h.store goes.of_session owes.is).1.owed ∙ owes.owed;
 }
 
-pub paid_told : (m n : Machine) (s : State) (i : ℕ) (d : GroupDelta) (after : Table) (said : Answer) → Stands m s → may.GoesOn s.store i Serial → Owes m i d
+pub paid_told : (m n : Machine) (s : State) (i : ℕ) (d : GroupDelta) (after : Table) (said : Answer) → Stands m s → may.IsOpenIn s.store i Serial → Owes m i d
     → IsGranted (locks_of s.store) i (asked s.store i act.Pay) after → table.KeepsOthers m.locks after i → PaysFirst (record m { locks = after }) n i d said → Told s i act.Pay (answer_of said) n
 paid_told m n s i d after said h goes owes g keeps (lacks is_said absent same) =
     subst (λ x. Told s i act.Pay (answer_of x) n) (sym is_said)

@@ -1,5 +1,6 @@
 //! Rows in the order of a primary key.
 ghost use Rattle.std.specs.Prelude.{◌≡◌, map, IfOk};
+ghost use Rattle.iv_meaning.specs.Query as query;
 ghost use Rattle.iv_meaning.specs.Reading as meant;
 ghost use Rattle.query_exec.specs.Keys.{keyed};
 
@@ -41,7 +42,7 @@ fn without_keys(alloc: Global, rows: Vec<Keyed>) -> Result<RowList, NoMemory>
 
 // Rows in the order of these columns.
 fn sorted_by(alloc: Global, key: &[u32], rows: RowList) -> Result<RowList, NoMemory>
-    ensures { IfOk result (λ sorted. sorted ≡ meant.sorted_by key.now rows) }
+    ensures { IfOk result (λ sorted. sorted ≡ query.sorted_by (meant.by_columns key.now) rows) }
 {
     let mut rows = with_keys(alloc, key, rows)?;
     rows.sort_by(|a, b| a.key.cmp(&b.key))?;

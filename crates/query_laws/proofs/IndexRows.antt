@@ -20,7 +20,8 @@ use Rattle.row_codec.proofs.KeyOrders.{key_order}
 use Rattle.iv_meaning.specs.Database.{Row}
 use Rattle.iv_meaning.specs.Schema.{items_at}
 use Rattle.iv_meaning.specs.View.{lies_in, rows_between}
-use Rattle.iv_meaning.specs.Reading.{put_by, sorted_by}
+use Rattle.iv_meaning.specs.Query.{put_by, sorted_by}
+use Rattle.iv_meaning.specs.Reading.{by_columns}
 use Rattle.query_laws.specs.Laws.{Rises}
 use Rattle.query_laws.proofs.Each.{each_append, each_filtered, each_to}
 use Rattle.query_laws.proofs.Rising.{key_cmp, key_total, keyed, entries_empty, kept, before_less, BeforeAll, first_before, rest_rises}
@@ -29,77 +30,74 @@ use Rattle.query_laws.proofs.Fitting.{ArePlaces, items_fit, items_append}
 -- ---- rows in the order of some columns
 
 module _ (key : List ℕ) where
-  abbrev pub by_columns : Row → Row → Ordering
-  by_columns a b = row_cmp (items_at a key) (items_at b key)
-
-  turned : (a b : Row) (o : Ordering) → by_columns a b ≡ o → by_columns b a ≡ ordering_reverse o
+  turned : (a b : Row) (o : Ordering) → (by_columns key) a b ≡ o → (by_columns key) b a ≡ ordering_reverse o
   turned a b o e = row_cmp_total.antisymm (items_at b key) (items_at a key) ∙ ap ordering_reverse e
 
-  put_less : (a b : Row) (rows : List Row) → is_gt (by_columns a b) ≡ false → put_by key a (b ∷ rows) ≡ a ∷ b ∷ rows
-  put_less a b rows e = ap (λ t. cond t (b ∷ put_by key a rows) (a ∷ b ∷ rows)) e
+  put_less : (a b : Row) (rows : List Row) → is_gt ((by_columns key) a b) ≡ false → put_by (by_columns key) a (b ∷ rows) ≡ a ∷ b ∷ rows
+  put_less a b rows e = ap (λ t. cond t (b ∷ put_by (by_columns key) a rows) (a ∷ b ∷ rows)) e
 
-  put_greater : (a b : Row) (rows : List Row) → is_gt (by_columns a b) ≡ true → put_by key a (b ∷ rows) ≡ b ∷ put_by key a rows
-  put_greater a b rows e = ap (λ t. cond t (b ∷ put_by key a rows) (a ∷ b ∷ rows)) e
+  put_greater : (a b : Row) (rows : List Row) → is_gt ((by_columns key) a b) ≡ true → put_by (by_columns key) a (b ∷ rows) ≡ b ∷ put_by (by_columns key) a rows
+  put_greater a b rows e = ap (λ t. cond t (b ∷ put_by (by_columns key) a rows) (a ∷ b ∷ rows)) e
 
   -- one that is above what another is not above is above the other
-  above : (a b y : Row) → is_gt (by_columns a y) ≡ true → is_gt (by_columns b y) ≡ false → is_gt (by_columns a b) ≡ true
-  above a b y g n = elim (is_gt (by_columns a b)) as (λ t. is_gt (by_columns a b) ≡ t → t ≡ true) [
+  above : (a b y : Row) → is_gt ((by_columns key) a y) ≡ true → is_gt ((by_columns key) b y) ≡ false → is_gt ((by_columns key) a b) ≡ true
+  above a b y g n = elim (is_gt ((by_columns key) a b)) as (λ t. is_gt ((by_columns key) a b) ≡ t → t ≡ true) [
     | true ↦ λ e. refl
     | false ↦ λ e. absurd (cc (sym g ∙ upto row_cmp_total (items_at a key) (items_at b key) (items_at y key) e n))
   ] refl
 
-  not_above : (a b : Row) (o : Ordering) → by_columns a b ≡ o → is_gt o ≡ true → is_gt (by_columns b a) ≡ false
+  not_above : (a b : Row) (o : Ordering) → (by_columns key) a b ≡ o → is_gt o ≡ true → is_gt ((by_columns key) b a) ≡ false
   not_above a b Less e g = absurd (cc)
   not_above a b Equal e g = absurd (cc)
   not_above a b Greater e g = ap is_gt (turned a b Greater e)
 
   -- of two that do not tie one is above the other
-  one_above : (a b : Row) (o : Ordering) → by_columns a b ≡ o → o ≢ Equal → is_gt o ≡ false → is_gt (by_columns b a) ≡ true
+  one_above : (a b : Row) (o : Ordering) → (by_columns key) a b ≡ o → o ≢ Equal → is_gt o ≡ false → is_gt ((by_columns key) b a) ≡ true
   one_above a b Less e ne g = ap is_gt (turned a b Less e)
   one_above a b Equal e ne g = absurd (ne refl)
   one_above a b Greater e ne g = absurd (cc)
 
   -- a pair before others, of which the first is above the second
-  swapped_pair : (a b : Row) (rows : List Row) → put_by key a rows ≡ a ∷ rows → put_by key b rows ≡ b ∷ rows → is_gt (by_columns a b) ≡ true
-      → put_by key a (put_by key b rows) ≡ put_by key b (put_by key a rows)
+  swapped_pair : (a b : Row) (rows : List Row) → put_by (by_columns key) a rows ≡ a ∷ rows → put_by (by_columns key) b rows ≡ b ∷ rows → is_gt ((by_columns key) a b) ≡ true
+      → put_by (by_columns key) a (put_by (by_columns key) b rows) ≡ put_by (by_columns key) b (put_by (by_columns key) a rows)
   swapped_pair a b rows pa pb g =
-      ap (put_by key a) pb ∙ (put_greater a b rows g ∙ (ap (λ (l : List Row). b ∷ l) pa
-      ∙ sym (ap (put_by key b) pa ∙ put_less b a rows (not_above a b (by_columns a b) refl g))))
+      ap (put_by (by_columns key) a) pb ∙ (put_greater a b rows g ∙ (ap (λ (l : List Row). b ∷ l) pa
+      ∙ sym (ap (put_by (by_columns key) b) pa ∙ put_less b a rows (not_above a b ((by_columns key) a b) refl g))))
 
-  pair : (a b : Row) (rows : List Row) → by_columns a b ≢ Equal → put_by key a rows ≡ a ∷ rows → put_by key b rows ≡ b ∷ rows
-      → put_by key a (put_by key b rows) ≡ put_by key b (put_by key a rows)
-  pair a b rows ne pa pb = elim (is_gt (by_columns a b)) as (λ t. is_gt (by_columns a b) ≡ t → put_by key a (put_by key b rows) ≡ put_by key b (put_by key a rows)) [
+  pair : (a b : Row) (rows : List Row) → (by_columns key) a b ≢ Equal → put_by (by_columns key) a rows ≡ a ∷ rows → put_by (by_columns key) b rows ≡ b ∷ rows
+      → put_by (by_columns key) a (put_by (by_columns key) b rows) ≡ put_by (by_columns key) b (put_by (by_columns key) a rows)
+  pair a b rows ne pa pb = elim (is_gt ((by_columns key) a b)) as (λ t. is_gt ((by_columns key) a b) ≡ t → put_by (by_columns key) a (put_by (by_columns key) b rows) ≡ put_by (by_columns key) b (put_by (by_columns key) a rows)) [
     | true ↦ λ g. swapped_pair a b rows pa pb g
-    | false ↦ λ g. sym (swapped_pair b a rows pb pa (one_above a b (by_columns a b) refl ne g))
+    | false ↦ λ g. sym (swapped_pair b a rows pb pa (one_above a b ((by_columns key) a b) refl ne g))
   ] refl
 
   -- two rows that do not tie may be put in in either order
-  swap : (a b : Row) (rows : List Row) → by_columns a b ≢ Equal → put_by key a (put_by key b rows) ≡ put_by key b (put_by key a rows)
+  swap : (a b : Row) (rows : List Row) → (by_columns key) a b ≢ Equal → put_by (by_columns key) a (put_by (by_columns key) b rows) ≡ put_by (by_columns key) b (put_by (by_columns key) a rows)
   swap a b [] ne = pair a b [] ne refl refl
   swap a b (y ∷ rows) ne =
-      elim (is_gt (by_columns a y)) as (λ s. is_gt (by_columns a y) ≡ s → put_by key a (put_by key b (y ∷ rows)) ≡ put_by key b (put_by key a (y ∷ rows))) [
-        | true ↦ λ ga. elim (is_gt (by_columns b y)) as (λ t. is_gt (by_columns b y) ≡ t → put_by key a (put_by key b (y ∷ rows)) ≡ put_by key b (put_by key a (y ∷ rows))) [
+      elim (is_gt ((by_columns key) a y)) as (λ s. is_gt ((by_columns key) a y) ≡ s → put_by (by_columns key) a (put_by (by_columns key) b (y ∷ rows)) ≡ put_by (by_columns key) b (put_by (by_columns key) a (y ∷ rows))) [
+        | true ↦ λ ga. elim (is_gt ((by_columns key) b y)) as (λ t. is_gt ((by_columns key) b y) ≡ t → put_by (by_columns key) a (put_by (by_columns key) b (y ∷ rows)) ≡ put_by (by_columns key) b (put_by (by_columns key) a (y ∷ rows))) [
           | true ↦ λ gb.
-              ap (put_by key a) (put_greater b y rows gb) ∙ (put_greater a y (put_by key b rows) ga ∙ (ap (λ (l : List Row). y ∷ l) (swap a b rows ne)
-              ∙ sym (ap (put_by key b) (put_greater a y rows ga) ∙ put_greater b y (put_by key a rows) gb)))
+              ap (put_by (by_columns key) a) (put_greater b y rows gb) ∙ (put_greater a y (put_by (by_columns key) b rows) ga ∙ (ap (λ (l : List Row). y ∷ l) (swap a b rows ne)
+              ∙ sym (ap (put_by (by_columns key) b) (put_greater a y rows ga) ∙ put_greater b y (put_by (by_columns key) a rows) gb)))
           | false ↦ λ gb. higher a b y rows ga gb
         ] refl
-        | false ↦ λ ga. elim (is_gt (by_columns b y)) as (λ t. is_gt (by_columns b y) ≡ t → put_by key a (put_by key b (y ∷ rows)) ≡ put_by key b (put_by key a (y ∷ rows))) [
+        | false ↦ λ ga. elim (is_gt ((by_columns key) b y)) as (λ t. is_gt ((by_columns key) b y) ≡ t → put_by (by_columns key) a (put_by (by_columns key) b (y ∷ rows)) ≡ put_by (by_columns key) b (put_by (by_columns key) a (y ∷ rows))) [
           | true ↦ λ gb. sym (higher b a y rows gb ga)
           | false ↦ λ gb. pair a b (y ∷ rows) ne (put_less a y rows ga) (put_less b y rows gb)
         ] refl
       ] refl
     where
-      higher : (a b y : Row) (rows : List Row) → is_gt (by_columns a y) ≡ true → is_gt (by_columns b y) ≡ false → put_by key a (put_by key b (y ∷ rows)) ≡ put_by key b (put_by key a (y ∷ rows))
+      higher : (a b y : Row) (rows : List Row) → is_gt ((by_columns key) a y) ≡ true → is_gt ((by_columns key) b y) ≡ false → put_by (by_columns key) a (put_by (by_columns key) b (y ∷ rows)) ≡ put_by (by_columns key) b (put_by (by_columns key) a (y ∷ rows))
       higher a b y rows ga gb =
-          ap (put_by key a) (put_less b y rows gb) ∙ (put_greater a b (y ∷ rows) (above a b y ga gb) ∙ (ap (λ (l : List Row). b ∷ l) (put_greater a y rows ga)
-          ∙ sym (ap (put_by key b) (put_greater a y rows ga) ∙ put_less b y (put_by key a rows) gb)))
+          ap (put_by (by_columns key) a) (put_less b y rows gb) ∙ (put_greater a b (y ∷ rows) (above a b y ga gb) ∙ (ap (λ (l : List Row). b ∷ l) (put_greater a y rows ga)
+          ∙ sym (ap (put_by (by_columns key) b) (put_greater a y rows ga) ∙ put_less b y (put_by (by_columns key) a rows) gb)))
 
-  sorted_inside : (front back : List Row) (row : Row) → AllByRecursion (λ r. by_columns r row ≢ Equal) front → sorted_by key (front ++ row ∷ back) ≡ put_by key row (sorted_by key (front ++ back))
+  sorted_inside : (front back : List Row) (row : Row) → AllByRecursion (λ r. (by_columns key) r row ≢ Equal) front → sorted_by (by_columns key) (front ++ row ∷ back) ≡ put_by (by_columns key) row (sorted_by (by_columns key) (front ++ back))
   sorted_inside [] back row h = refl
-  sorted_inside (r ∷ front) back row h = ap (put_by key r) (sorted_inside front back row h.1) ∙ swap r row (sorted_by key (front ++ back)) h.0
+  sorted_inside (r ∷ front) back row h = ap (put_by (by_columns key) r) (sorted_inside front back row h.1) ∙ swap r row (sorted_by (by_columns key) (front ++ back)) h.0
 
-  put_first : (row : Row) (rows : List Row) → AllByRecursion (λ r. by_columns row r ≡ Less) rows → put_by key row rows ≡ row ∷ rows
+  put_first : (row : Row) (rows : List Row) → AllByRecursion (λ r. (by_columns key) row r ≡ Less) rows → put_by (by_columns key) row rows ≡ row ∷ rows
   put_first row [] h = refl
   put_first row (r ∷ rows) h = put_less row r rows (ap is_gt h.0)
 
@@ -181,7 +179,7 @@ module _ (ks : List Kind) (columns primary : List ℕ) (columns_in : ArePlaces k
     in_order : List Row
     entries_are : entries (from_entries {R = key_cmp} (keyed index_key_at rows)) ≡ keyed index_key_at in_order
     members : AllByRecursion (Contains rows) in_order
-    sorted : (test : Row → Bool) → sorted_by primary (filter test in_order) ≡ filter test rows
+    sorted : (test : Row → Bool) → sorted_by (by_columns primary) (filter test in_order) ≡ filter test rows
 
   listed_more : (row : Row) (rows : List Row) → FitAll ks row → AllByRecursion (FitAll ks) rows → AllByRecursion (λ r. by_columns primary row r ≡ Less) rows → Listed rows → Listed (row ∷ rows)
   listed_more row rows fit fits first l =
@@ -202,13 +200,13 @@ module _ (ks : List Kind) (columns primary : List ℕ) (columns_in : ArePlaces k
         sorted = λ test.
             let front = filter test put_in.front in
             let back = filter test put_in.back in
-            let rest : sorted_by primary (front ++ back) ≡ filter test rows =
-            ap (sorted_by primary) (sym (filter-append test put_in.front put_in.back) ∙ ap (filter test) (sym put_in.was)) ∙ l.sorted test in
+            let rest : sorted_by (by_columns primary) (front ++ back) ≡ filter test rows =
+            ap (sorted_by (by_columns primary)) (sym (filter-append test put_in.front put_in.back) ∙ ap (filter test) (sym put_in.was)) ∙ l.sorted test in
             let front_apart = each_filtered (λ r. by_columns primary r row ≢ Equal) test put_in.front (each_front (λ r. by_columns primary r row ≢ Equal) put_in.front put_in.back different) in
-            ap (sorted_by primary) (filter-append test put_in.front (row ∷ put_in.back))
-            ∙ elim (test row) as (λ b. sorted_by primary (front ++ cond b (row ∷ back) back) ≡ cond b (row ∷ filter test rows) (filter test rows)) [
+            ap (sorted_by (by_columns primary)) (filter-append test put_in.front (row ∷ put_in.back))
+            ∙ elim (test row) as (λ b. sorted_by (by_columns primary) (front ++ cond b (row ∷ back) back) ≡ cond b (row ∷ filter test rows) (filter test rows)) [
               | true ↦ sorted_inside primary front back row front_apart
-                  ∙ (ap (put_by primary row) rest ∙ put_first primary row (filter test rows) (each_filtered (λ r. by_columns primary row r ≡ Less) test rows first))
+                  ∙ (ap (put_by (by_columns primary) row) rest ∙ put_first primary row (filter test rows) (each_filtered (λ r. by_columns primary row r ≡ Less) test rows first))
               | false ↦ rest
             ];
       }
@@ -219,10 +217,10 @@ module _ (ks : List Kind) (columns primary : List ℕ) (columns_in : ArePlaces k
 
   -- in the order of the primary key, those whose keys in the index lie in the interval
   pub sorted_between : (rows : List Row) → AllByRecursion (FitAll ks) rows → RisesBy primary rows → (interval : Interval)
-      → sorted_by primary (rows_between index_key_at interval rows) ≡ filter (λ row. lies_in (index_key_at row) interval) rows
+      → sorted_by (by_columns primary) (rows_between index_key_at interval rows) ≡ filter (λ row. lies_in (index_key_at row) interval) rows
   sorted_between rows f h interval =
       let l = listed rows f h in
-      ap (sorted_by primary) (ap (λ (es : List (List ℕ × Row)). map (λ (e : List ℕ × Row). e.1) (filter (λ (e : List ℕ × Row). lies_in e.0 interval) es)) l.entries_are ∙ kept index_key_at interval l.in_order)
+      ap (sorted_by (by_columns primary)) (ap (λ (es : List (List ℕ × Row)). map (λ (e : List ℕ × Row). e.1) (filter (λ (e : List ℕ × Row). lies_in e.0 interval) es)) l.entries_are ∙ kept index_key_at interval l.in_order)
       ∙ l.sorted (λ row. lies_in (index_key_at row) interval)
 
 -- rows that rise by their encoded keys do so by the columns of the key

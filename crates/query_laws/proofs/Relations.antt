@@ -21,11 +21,11 @@ use Rattle.row_codec.proofs.Columns.{fit_lengths}
 use Rattle.iv_meaning.specs.Schema.{Schema, Object, table, index, view, ViewTree, numbered, as_index, indexes_of, items_at, kinds_of_table, sources_of, group_kinds, object_kinds}
 use Rattle.iv_meaning.specs.Database.{Row, Database, rows_of, key_of}
 use Rattle.iv_meaning.specs.Values.{is_true}
-use Rattle.iv_meaning.specs.Query.{Combination, combinations, conjunction}
+use Rattle.iv_meaning.specs.Query.{Combination, combinations, conjunction, sorted_by}
 use Rattle.iv_meaning.specs.View.{conditions_of, counted_combinations, view_rows, relation_rows, lies_in, rows_between, index_key, index_rows, view_key, object_rows, read}
 use Rattle.iv_meaning.specs.Sound.{IsSound, IsView, IsTable, AreColumns}
 use Rattle.iv_meaning.specs.Plan.{KeyIndex, first_columns, read_by, Part, kinds_for}
-use Rattle.iv_meaning.specs.Reading.{Source, in_key_order, sorted_by, source_by, source_of, kinds_at, primary_at}
+use Rattle.iv_meaning.specs.Reading.{Source, by_columns, in_key_order, source_by, source_of, kinds_at, primary_at}
 use Rattle.query_laws.specs.Laws.{Rises, IsRelation}
 use Rattle.query_laws.proofs.Each.{each_to, each_filtered}
 use Rattle.query_laws.proofs.Rising.{between_rising}
@@ -160,7 +160,7 @@ module _ (db : Database) (sound : IsSound db) where
               told_of part.index (index i) interval at ∙ ap (λ x. index_rows db i x interval) its_table in
               ap (λ x. in_key_order (source_by db.schema part x).key (rows part.index interval)) at
               ∙ (ap (λ x. in_key_order (primary_at x) (rows part.index interval)) its_table
-              ∙ (ap (sorted_by t.primary) found
+              ∙ (ap (sorted_by (by_columns t.primary)) found
               ∙ sorted_between (kinds_of t) i.columns t.primary columns primary_in (rows_of db.rows t.number) fits (rises_by (kinds_of t) t.primary primary_in (rows_of db.rows t.number) fits rises) interval));
         }
 

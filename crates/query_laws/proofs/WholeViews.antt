@@ -12,7 +12,7 @@ use Rattle.iv_meaning.specs.Schema.{Schema, ViewTree, sources_of}
 use Rattle.iv_meaning.specs.Database.{Row, Rows, rows_of}
 use Rattle.iv_meaning.specs.Values.{Outcome, refused, is_true, is_false, value_at, value_of, outcome_of}
 use Rattle.iv_meaning.specs.Grouping.{all_of, groups_of, members, number_in, sum_by}
-use Rattle.iv_meaning.specs.Query.{Combination, BoundItem, count, sum, plain, BoundQuery, combinations, chosen, conjunction, joined, item_of_group, item_alone, row_by, values_at, listed, ordered, placed}
+use Rattle.iv_meaning.specs.Query.{Combination, BoundItem, count, sum, plain, BoundQuery, combinations, chosen, conjunction, joined, item_of_group, item_alone, row_by, values_at, listed, order_cmp, put_by, ordered}
 use Rattle.iv_meaning.specs.View.{conditions_of, query_of, whole_view, counted_combinations, shares, rows_by_group, view_rows}
 use Rattle.iv_meaning.proofs.RangeLemmas.{ranged_is, value_back}
 use Rattle.query_laws.proofs.GroupRows.{some_same, IsGroupIn, groups_are, first_member}
@@ -55,9 +55,9 @@ chosen_is {X} test (x ∷ xs) ys e = next (is_true (test x)) (is_false (test x))
 -- no order leaves the rows as they are
 pub unordered : (rows : List Row) → ordered [] rows ≡ rows
 unordered [] = refl
-unordered (row ∷ rows) = ap (placed [] row) (unordered rows) ∙ first_stays rows
+unordered (row ∷ rows) = ap (put_by (order_cmp []) row) (unordered rows) ∙ first_stays rows
   where
-    first_stays : (others : List Row) → placed [] row others ≡ row ∷ others
+    first_stays : (others : List Row) → put_by (order_cmp []) row others ≡ row ∷ others
     first_stays [] = refl
     first_stays (r ∷ others) = refl
 

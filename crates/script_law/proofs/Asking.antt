@@ -13,7 +13,7 @@ use Rattle.txn_machine.specs.Acts as act
 use Rattle.txn_machine.specs.Acts.{Act}
 use Rattle.txn_machine.specs.Keeping.{KeptStep, Put, Pay, Open}
 use Rattle.txn_machine.specs.Store.{Store, schema_of, now}
-use Rattle.txn_machine.specs.May.{MayAct, GoesOn, IsReady, Owes}
+use Rattle.txn_machine.specs.May.{MayAct, IsOpenIn, IsReady, Owes}
 use Rattle.txn_machine.specs.Alone.{Story}
 use Rattle.txn_machine.proofs.Stepping.{now_is}
 use Rattle.txn_machine.proofs.Looking.{view_laws}
@@ -37,7 +37,7 @@ no_back n e = eqb-true n 0 (flipped (n == 0) e)
     flipped false e = absurd (cc)
 
 module _ (story : Story) (i : ℕ) (is : IsSession i) (o : Open) (is_open : story.state.store.open_of i ≡ Some o) where
-  abbrev goes_on : (m : Mode) → o.mode ≡ m → (now story.state.store i).is_lost ≡ false → GoesOn story.state.store i m
+  abbrev goes_on : (m : Mode) → o.mode ≡ m → (now story.state.store i).is_lost ≡ false → IsOpenIn story.state.store i m
   goes_on m e alive = record { of_session = is; transaction = o; is_open = is_open; mode_is = e; not_lost = sym (ap (λ (t : Open). t.is_lost) (now_is view_laws story.state.store i o is_open)) ∙ alive }
 
   ready : (m : Mode) → IsReadyIn m (txn_seen (schema_of story.state.store) (story.told i) o) → (now story.state.store i).is_lost ≡ false → IsReady story.state.store i m

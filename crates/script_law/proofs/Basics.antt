@@ -11,13 +11,13 @@ use Rattle.iv_types.specs.Syntax.{StatementTree, begin, commit, rollback}
 use Rattle.iv_meaning.specs.Statement.{Kept}
 use Rattle.iv_meaning.specs.Transaction.{outside}
 use Rattle.iv_meaning.specs.History.{fold, state_at}
-use Rattle.iv_meaning.specs.Serial.{World, Open, latest, base_of, commits, set_open, EndsInside, EndsOutside}
+use Rattle.iv_meaning.specs.Serial.{World, Unended, latest, base_of, commits, set_open, EndsInside, EndsOutside}
 use Rattle.txn_machine.specs.Acts as act
 use Rattle.txn_machine.specs.Acts.{Act}
 use Rattle.txn_machine.specs.Answers.{Answer}
 use Rattle.script_law.specs.Seen.{Event, Waits, LacksRow, Fails, Begins, Learns, Finds, FindsThen, Changes, Pays, TakesBack, Ends, Commits, Creates, Denies, Idles, Never, event, is_stop, Txn, txn_after, Visible, committed, base, entries, open_after, history_after}
 use Rattle.script_law.specs.Programs.{Todo, says, asks, ghosts, Job, stays_inside, is_begin, with_told, Closes, Proceeds, MayCome, Serves, next_txn}
-use Rattle.script_law.specs.RunLines.{Outcome, ended, stepped, outcome_of, outcome_at, IsFree}
+use Rattle.script_law.specs.RunLines.{Outcome, ended, stepped, outcome_of, outcome_at, IsNotBlocked}
 
 -- ---- one session is set
 
@@ -59,8 +59,8 @@ same_open (Some t) e (inr (sessions, is)) v = ap (txn_after t) is
 pub data Came (j : Job) (t : Option Txn) (e : Event) (next : Todo) (more : Type 0) : Type 0 where
   blocked : (sessions : Sessions) → e ≡ Waits sessions → Came j t e next more
   lacks : e ≡ LacksRow → Came j t e next more
-  closed : IsFree e → e ≢ LacksRow → Closes j t e next → Came j t e next more
-  on : IsFree e → e ≢ LacksRow → IsQuiet e → more → Came j t e next more
+  closed : IsNotBlocked e → e ≢ LacksRow → Closes j t e next → Came j t e next more
+  on : IsNotBlocked e → e ≢ LacksRow → IsQuiet e → more → Came j t e next more
 
 pub came : (j : Job) (t : Option Txn) (e : Event) (next : Todo) (more : Type 0) → Proceeds j t e next more → Came j t e next more
 came j t (Waits sessions) next more h = blocked sessions refl
@@ -86,13 +86,13 @@ either_true false b e = inr e
 
 -- ---- runs of steps
 
-pub outcome_free : (e : Event) (stay next : Todo) → IsFree e → outcome_of e stay next ≡ outcome_at next
+pub outcome_free : (e : Event) (stay next : Todo) → IsNotBlocked e → outcome_of e stay next ≡ outcome_at next
 outcome_free (Waits sessions) stay next free = absurd free
 outcome_free _ stay next free = refl
 
 -- ---- databases
 
-pub base_same : (w : World) (v : Visible) (o : Open) (t : Txn) → w.origin ≡ v.origin → w.history ≡ v.history → t.mode ≡ o.mode → t.number ≡ o.number → base v t ≡ base_of w o
+pub base_same : (w : World) (v : Visible) (o : Unended) (t : Txn) → w.origin ≡ v.origin → w.history ≡ v.history → t.mode ≡ o.mode → t.number ≡ o.number → base v t ≡ base_of w o
 base_same w v o t origin history mode number = λ x. elim (mode x) [
   | Serial ↦ fold (sym history x) (sym origin x)
   | Snapshot ↦ state_at (sym origin x) (sym history x) (number x)
@@ -124,7 +124,7 @@ commits_history w i (k ∷ ks) = refl
 
 -- ---- statements
 
-pub inside_goes : (w : World) (i : ℕ) (o : Open) (statement : StatementTree) (replies : List Reply) (after : World) → stays_inside statement ≡ true
+pub inside_goes : (w : World) (i : ℕ) (o : Unended) (statement : StatementTree) (replies : List Reply) (after : World) → stays_inside statement ≡ true
     → after ≡ set_open w i (Some (with_told o statement replies)) → EndsInside w i o statement replies after
 inside_goes w i o commit replies after e h = absurd (cc)
 inside_goes w i o (rollback None) replies after e h = absurd (cc)

@@ -25,7 +25,7 @@ use Rattle.txn_machine.proofs.Basics.{contains_none, one_same, one_other}
 use Rattle.txn_machine.proofs.Holding.{by_contains, contains_here}
 use Rattle.script_law.specs.Seen.{Waits, event}
 use Rattle.script_law.specs.Programs.{Standing, Todo, says, asks, ghosts, Programs}
-use Rattle.script_law.specs.RunLines.{Line, idle, waiting, stepping, held, Seat, Table, set_seat, seat_run, Outcome, ended, stuck, stepped, RunsOn, has_ended, is_blocked, goes_on, Tries, Pass, Passes, RunsLine, all_sessions}
+use Rattle.script_law.specs.RunLines.{Line, idle, waiting, stepping, held, AtTable, Table, set_seat, seat_run, Outcome, ended, stuck, stepped, RunsOn, has_ended, is_blocked, goes_on, Tries, Pass, Passes, RunsLine, all_sessions}
 use Rattle.script_law.specs.Machine.{DoesOf, IsHindered, HinderedLaw}
 use Rattle.script_law.proofs.Basics.{if_same, if_other}
 
@@ -78,7 +78,7 @@ module _ (programs : Programs) (tell : EngineRefusal → Refusal) where
   tried n _ _ _ _ _ (has_ended replies standing s) e = tried_ended replies standing
   tried n _ _ _ _ _ (is_blocked todo a s mid said sessions has does is) e =
       tried_stuck sessions todo mid (blocked_so s mid n a sessions (subst (λ x. DoesOf s n a x mid) (waits_said a said sessions is) does))
-  tried n _ _ _ _ _ (goes_on todo a s mid after said fewer o has does free more) e = absurd (omega (arith, e))
+  tried n _ _ _ _ _ (goes_on todo a s mid after said memory fewer o has does free more) e = absurd (omega (arith, e))
 
   -- what a pass that does not move leaves
   record Passed (ns : List ℕ) (table : Table) (s : Story) (table' : Table) (s' : Story) : Type 0 where
@@ -88,16 +88,16 @@ module _ (programs : Programs) (tell : EngineRefusal → Refusal) where
   -- a session that was tried waits well, and one that did stays so
   after_try : (n : ℕ) (s : Story) (o : Outcome) (mid : Story) (table : Table) → Tried n s o mid → ((m : ℕ) → WaitsWell table s m → WaitsWell (set_seat table n (seat_run o)) mid m) × WaitsWell (set_seat table n (seat_run o)) mid n
   after_try n s _ _ table (tried_ended replies standing) =
-      let own : WaitsWell (set_seat table n (seat_run (ended replies standing))) s n = λ todo e. absurd (let x = sym (ap (λ (y : Seat). y.line) (if_same n (seat_run (ended replies standing)) (table n))) ∙ e in cc) in (
+      let own : WaitsWell (set_seat table n (seat_run (ended replies standing))) s n = λ todo e. absurd (let x = sym (ap (λ (y : AtTable). y.line) (if_same n (seat_run (ended replies standing)) (table n))) ∙ e in cc) in (
         λ m h. by_session m n (λ is. subst (WaitsWell (set_seat table n (seat_run (ended replies standing))) s) (sym is) own)
-            (λ d todo e. h todo (sym (ap (λ (y : Seat). y.line) (if_other m n (seat_run (ended replies standing)) (table m) d)) ∙ e)),
+            (λ d todo e. h todo (sym (ap (λ (y : AtTable). y.line) (if_other m n (seat_run (ended replies standing)) (table m) d)) ∙ e)),
         own,
       )
   after_try n s _ _ table (tried_stuck sessions todo mid b) =
       let own : WaitsWell (set_seat table n (seat_run (stuck sessions todo))) mid n = λ x e. b.hindered in (
         λ m h. by_session m n (λ is. subst (WaitsWell (set_seat table n (seat_run (stuck sessions todo))) mid) (sym is) own)
             (λ d x e.
-            let before = h x (sym (ap (λ (y : Seat). y.line) (if_other m n (seat_run (stuck sessions todo)) (table m) d)) ∙ e) in
+            let before = h x (sym (ap (λ (y : AtTable). y.line) (if_other m n (seat_run (stuck sessions todo)) (table m) d)) ∙ e) in
             (before.0, subst (λ z. z) (λ k. IsInTheWay (locks_of (sym b.store k)) m (sym (b.others m d) k) before.0) before.1)),
         own,
       )

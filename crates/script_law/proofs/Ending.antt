@@ -13,7 +13,7 @@ use Rattle.iv_meaning.specs.Schema.{Schema}
 use Rattle.iv_meaning.specs.Database.{Database}
 use Rattle.iv_meaning.specs.Statement.{Kept}
 use Rattle.iv_meaning.specs.Transaction.{Running, outside, next_number, begin_reply}
-use Rattle.iv_meaning.specs.Serial.{World, Open, none, latest, base_of, ran, WasAlone, set_open, set_unfinished, commits, is_engines, is_deadlock, Ends as EndsSo, EndsBy}
+use Rattle.iv_meaning.specs.Serial.{World, Unended, none, latest, base_of, ran, WasAlone, set_open, set_unfinished, commits, is_engines, is_deadlock, Ends as EndsSo, EndsBy}
 use Rattle.iv_meaning.proofs.SerialLemmas.{same_number}
 use Rattle.script_law.specs.Seen.{Event, Ends, Commits, Creates, Denies, Txn, txn_after, Visible, visible_after, open_after, history_after, committed, base, entries, kept_by, kept_of, IsTruthful}
 use Rattle.script_law.specs.Programs.{Standing, outside_with, Todo, says, IsDone, passed_inside, passed_outside, told, began, IsClosed, commits as closes_commit, rolls_back, loses, is_alone, is_refused, is_passed, IsCreated, creates, denies, Fits, IsOf, IsOut, Grows, objects_of, with_told, new_open, is_begin}
@@ -48,7 +48,7 @@ module _ (i : ℕ) (w : World) (table : Table) (statement : StatementTree) (numb
     pub opened : (j : ℕ) → j ≢ i → v'.open_of j ≡ v.open_of j
 
   -- between two statements, of a session that may know that the engine is stopped
-  abbrev IsBetween : Visible → Type 0 → Option Open → Standing → Option Txn → Type 0
+  abbrev IsBetween : Visible → Type 0 → Option Unended → Standing → Option Txn → Type 0
   IsBetween v H run standing t = (stopped : Bool) × (IsTrue stopped → H) × Between (objects_in v) stopped run standing t
 
   module _ (v : Visible) (H H' : Type 0) (lasts : H → H') (h : Others i w table v H) (held_grows : Grows held (objects_in v)) where
@@ -74,7 +74,7 @@ module _ (i : ℕ) (w : World) (table : Table) (statement : StatementTree) (numb
       agrees = b;
     })
 
-    end_open : (w' : World) (v' : Visible) → IsNext v w' v' → (o : Option Open) (standing : Standing) → IsBetween v' H' o standing (v'.open_of i)
+    end_open : (w' : World) (v' : Visible) → IsNext v w' v' → (o : Option Unended) (standing : Standing) → IsBetween v' H' o standing (v'.open_of i)
         → Agrees (set_open w' i o) (set_seat table i (record { standing = standing; line = idle })) v' H'
     end_open w' v' n o standing b = close i w table v H (record { standing = standing; line = idle }) (set_open w' i o) v' H' h (record {
       lasts = lasts;
@@ -234,7 +234,7 @@ module _ (i : ℕ) (w : World) (table : Table) (statement : StatementTree) (numb
           is_out (visible_after v i event) ((visible_after v i event).open_of i) copy (gone_after event is)
           (grows_by copy (objects_in v) (objects_in (visible_after v i event)) (grows_same copy t.objects (objects_in v) defined g) (step_grows v i event))
 
-      alone_so : (o : Open) → IsOf o t → WasAlone before o
+      alone_so : (o : Unended) → IsOf o t → WasAlone before o
       alone_so o is = was_alone before v o t h.origin h.history is truth
 
       -- on the database that was committed last

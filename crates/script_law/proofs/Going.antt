@@ -12,14 +12,14 @@ use Rattle.iv_types.specs.declared.refusal.Refusal.{Refusal}
 use Rattle.iv_types.specs.Syntax.{StatementTree}
 use Rattle.iv_meaning.specs.Schema.{Schema}
 use Rattle.iv_meaning.specs.Transaction.{next_number}
-use Rattle.iv_meaning.specs.Serial.{World, Open}
+use Rattle.iv_meaning.specs.Serial.{World, Unended}
 use Rattle.txn_machine.specs.Acts as act
 use Rattle.txn_machine.specs.Acts.{Act}
 use Rattle.txn_machine.specs.Answers as answer
 use Rattle.txn_machine.specs.Answers.{Answer}
 use Rattle.script_law.specs.Seen.{Event, Waits, LacksRow, Fails, Begins, Learns, Idles, Commits, Creates, Denies, event, is_stop, CanCome, Txn, Visible, visible_after, open_after, history_after, committed, base, kept_of, new_txn, StepLaws}
 use Rattle.script_law.specs.Programs.{Standing, Todo, says, asks, ghosts, Job, Grows, objects_of, Serves, OpensFirst, Starts, BeginsSo, MayCome, IsKnown, Proceeds, Closes, IsClosed, IsCreated, creates, denies, Programs, next_txn, outside_with}
-use Rattle.script_law.specs.RunLines.{Outcome, ended, stuck, stepped, act_of, asked_next, ghost_next, next_of, outcome_at, outcome_of, IsFree, RunsOn, has_ended, is_blocked, goes_on, StepsOnce, had_ended, steps_once, Table}
+use Rattle.script_law.specs.RunLines.{Outcome, ended, stuck, stepped, act_of, asked_next, ghost_next, next_of, outcome_at, outcome_of, IsNotBlocked, RunsOn, has_ended, is_blocked, goes_on, StepsOnce, had_ended, steps_once, Table}
 use Rattle.script_law.proofs.Basics.{IsQuiet, quiet_history, quiet_open, same_open, Came, blocked, lacks, closed, on, came, either_true, outcome_free}
 use Rattle.script_law.proofs.Growing.{same_grows, grows_by, step_grows}
 use Rattle.script_law.proofs.Agreeing.{job, Others, Within, others_step, own_step, within_after, objects_in}
@@ -27,9 +27,9 @@ use Rattle.script_law.proofs.Ending.{EndResult, done_ends, closed_ends, created,
 
 -- ---- nodes
 
-next_is : (e : Event) (said : Answer) (f : Answer → Todo) → e ≢ LacksRow → asked_next e said f ≡ f said
-next_is LacksRow said f n = absurd (n refl)
-next_is _ said f n = refl
+next_is : (e : Event) (said : Answer) (memory : Bool) (f : Answer → Bool → Todo) → e ≢ LacksRow → asked_next e said memory f ≡ f said memory
+next_is LacksRow said memory f n = absurd (n refl)
+next_is _ said memory f n = refl
 
 lacks_pay : (a : Act) (said : Answer) → event a said ≡ LacksRow → a ≡ act.Pay
 lacks_pay act.Pay said e = refl
@@ -53,17 +53,17 @@ some_inj e = cc
 
 -- ---- first steps
 
-abbrev FirstStep : Bool → Job → Option Txn → Act → (Answer → Todo) → Type 0
-FirstStep stopped j t a f = (said : Answer) → MayCome stopped t a said → BeginsSo j (event a said) stopped t (λ stopped' t'. Serves stopped' j t' (f said))
+abbrev FirstStep : Bool → Job → Option Txn → Act → (Answer → Bool → Todo) → Type 0
+FirstStep stopped j t a f = (said : Answer) (memory : Bool) → MayCome stopped t a said → BeginsSo j (event a said) stopped t (λ stopped' t'. Serves stopped' j t' (f said memory))
 
-opens_asks : (stopped : Bool) (j : Job) (t : Option Txn) (a : Act) (f : Answer → Todo) → OpensFirst stopped j t (asks a f) → (mode : Mode) × (a ≡ act.Begin mode) × FirstStep stopped j t (act.Begin mode) f
+opens_asks : (stopped : Bool) (j : Job) (t : Option Txn) (a : Act) (f : Answer → Bool → Todo) → OpensFirst stopped j t (asks a f) → (mode : Mode) × (a ≡ act.Begin mode) × FirstStep stopped j t (act.Begin mode) f
 opens_asks stopped j t (act.Begin mode) f h = (mode, refl, h.1)
 opens_asks stopped j t _ f h = absurd h
 
 -- how a Begin can come
 data Began (mode : Mode) (e : Event) : Type 1 where
   opens : (number defs : ℕ) → e ≡ Begins mode number defs → Began mode e
-  fails : IsFree e → e ≢ LacksRow → IsQuiet e → ((j : Job) (stopped : Bool) (t : Option Txn) (More : Bool → Option Txn → Type 0) → BeginsSo j e stopped t More → More (stopped || is_stop e) (next_txn t e)) → Began mode e
+  fails : IsNotBlocked e → e ≢ LacksRow → IsQuiet e → ((j : Job) (stopped : Bool) (t : Option Txn) (More : Bool → Option Txn → Type 0) → BeginsSo j e stopped t More → More (stopped || is_stop e) (next_txn t e)) → Began mode e
 
 began : (mode : Mode) (said : Answer) → CanCome (act.Begin mode) (event (act.Begin mode) said) → Began mode (event (act.Begin mode) said)
 began mode (answer.Refused why) c = fails tt (λ x. cc) tt (λ j stopped t More h. by_txn stopped t More h)
@@ -100,8 +100,8 @@ module _ {S : Type 0} (view : S → Visible) (Does : S → ℕ → Act → Answe
 
   data StepResult (stay next : Todo) (e : Event) (mid : S) : Type 0 where
     was_blocked : (others : Sessions) → e ≡ Waits others → Stays mid stay → StepResult stay next e mid
-    ended_so : IsFree e → (replies : List Reply) (standing : Standing) → next ≡ says replies standing → Stands mid → HasEnded replies standing mid → StepResult stay next e mid
-    goes : IsFree e → Stays mid next → StepResult stay next e mid
+    ended_so : IsNotBlocked e → (replies : List Reply) (standing : Standing) → next ≡ says replies standing → Stands mid → HasEnded replies standing mid → StepResult stay next e mid
+    goes : IsNotBlocked e → Stays mid next → StepResult stay next e mid
 
   -- the definitions that are known are the engine's
   objects_known : (s : S) → Stands s → Grows held (objects_in (view s)) → (t : Option Txn) → (view s).open_of i ≡ t → Grows (objects_of the_job t) (objects_in (view s))
@@ -183,7 +183,7 @@ module _ {S : Type 0} (view : S → Visible) (Does : S → ℕ → Act → Answe
         same : (view mid).open_of i ≡ now
         same = open_mid ∙ same_open now e is (view s)
 
-    closes : (next stay : Todo) → IsFree e → (t : Option Txn) → now ≡ t → Closes the_job t e next → StepResult stay next e mid
+    closes : (next stay : Todo) → IsNotBlocked e → (t : Option Txn) → now ≡ t → Closes the_job t e next → StepResult stay next e mid
     closes next stay free (Some t) is c =
         let numbers : (n : ℕ) → e ≡ Commits n → n ≡ next_number (kept_of t) (base (view s) t).number = λ n ex. laws.numbers s mid i a said n t st.stands does ex is in
         let r = closed_ends i w table statement number held (view s) (Halts s) (Halts mid) lasts st.others st.held_grows t is (laws.truth s i t st.stands is)
@@ -202,29 +202,29 @@ module _ {S : Type 0} (view : S → Visible) (Does : S → ℕ → Act → Answe
             (subst (λ v. EndResult i w table statement number held (reply.Error why ∷ []) (outside_with held) v (Halts mid)) (sym (moved_view ∙ ap (visible_after (view s) i) ex))
             (denied i w table statement number held (view s) (Halts s) (Halts mid) lasts st.others st.held_grows shut is nb why so.0 so.1))
 
-    asked : (f : Answer → Todo) → Serves st.stopped the_job now (asks a f) → StepResult (asks a f) (asked_next e said f) e mid
-    asked f serves = by (came the_job now e (f said) (Serves (st.stopped || is_stop e) the_job (next_txn now e) (f said)) (serves.1 said may_come))
+    asked : (memory : Bool) (f : Answer → Bool → Todo) → Serves st.stopped the_job now (asks a f) → StepResult (asks a f) (asked_next e said memory f) e mid
+    asked memory f serves = by (came the_job now e (f said memory) (Serves (st.stopped || is_stop e) the_job (next_txn now e) (f said memory)) (serves.1 said memory may_come))
       where
-        by : Came the_job now e (f said) (Serves (st.stopped || is_stop e) the_job (next_txn now e) (f said)) → StepResult (asks a f) (asked_next e said f) e mid
+        by : Came the_job now e (f said memory) (Serves (st.stopped || is_stop e) the_job (next_txn now e) (f said memory)) → StepResult (asks a f) (asked_next e said memory f) e mid
         by (blocked others' x) = was_blocked others' x (same_stays (asks a f) (inr (others', x)) serves)
-        by (lacks x) = goes (subst IsFree (sym x) tt) (subst (Stays mid) (sym (ap (λ y. asked_next y said f) x))
+        by (lacks x) = goes (subst IsNotBlocked (sym x) tt) (subst (Stays mid) (sym (ap (λ y. asked_next y said memory f) x))
             (same_stays (ghosts f) (inl x) (subst (λ b. Serves st.stopped the_job now (asks b f)) (lacks_pay a said x) serves)))
-        by (closed free n c) = subst (λ next. StepResult (asks a f) next e mid) (sym (next_is e said f n)) (closes (f said) (asks a f) free now refl c)
-        by (on free n q more) = goes free (subst (Stays mid) (sym (next_is e said f n)) (quiet_stays (f said) q more))
+        by (closed free n c) = subst (λ next. StepResult (asks a f) next e mid) (sym (next_is e said memory f n)) (closes (f said memory) (asks a f) free now refl c)
+        by (on free n q more) = goes free (subst (Stays mid) (sym (next_is e said memory f n)) (quiet_stays (f said memory) q more))
 
   -- the row of a group is made
-  ghosted : (s mid : S) (said : Answer) → Does s i act.Ghost said mid → (st : Stage s) → (f : Answer → Todo) → Serves st.stopped the_job ((view s).open_of i) (ghosts f)
-      → StepResult (ghosts f) (ghost_next said f) (event act.Ghost said) mid
-  ghosted s mid answer.Ghosted does st f serves = goes tt (quiet_stays s mid act.Ghost answer.Ghosted does st (asks act.Pay f) tt
+  ghosted : (s mid : S) (said : Answer) (memory : Bool) → Does s i act.Ghost said mid → (st : Stage s) → (f : Answer → Bool → Todo) → Serves st.stopped the_job ((view s).open_of i) (ghosts f)
+      → StepResult (ghosts f) (ghost_next said memory f) (event act.Ghost said) mid
+  ghosted s mid answer.Ghosted memory does st f serves = goes tt (quiet_stays s mid act.Ghost answer.Ghosted does st (asks act.Pay f) tt
       (subst (λ x. x) (λ k. Serves (sym (or_false st.stopped) k) the_job (sym (idle_same ((view s).open_of i)) k) (asks act.Pay f)) serves))
-  ghosted s mid (answer.Refused why) does st f serves = goes tt (quiet_stays s mid act.Ghost (answer.Refused why) does st (f (answer.Refused why)) tt
-      (serves.1 (answer.Refused why) (record { can = tt; stop = λ x. (laws.stays s mid i act.Ghost (answer.Refused why) does (st.known x)).1; known = fails_known ((view s).open_of i) why })))
-  ghosted s mid _ does st f serves = absurd (laws.answers s mid i act.Ghost _ st.stands does)
+  ghosted s mid (answer.Refused why) memory does st f serves = goes tt (quiet_stays s mid act.Ghost (answer.Refused why) does st (f (answer.Refused why) memory) tt
+      (serves.1 (answer.Refused why) memory (record { can = tt; stop = λ x. (laws.stays s mid i act.Ghost (answer.Refused why) does (st.known x)).1; known = fails_known ((view s).open_of i) why })))
+  ghosted s mid _ memory does st f serves = absurd (laws.answers s mid i act.Ghost _ st.stands does)
 
-  step_result : (todo : Todo) (a : Act) (s mid : S) (said : Answer) → act_of todo ≡ Some a → Does s i a said mid → Stays s todo → StepResult todo (next_of todo said) (event a said) mid
-  step_result (says replies standing) a s mid said is does h = absurd (none-some a is)
-  step_result (asks b f) a s mid said is does h = subst (λ x. StepResult (asks b f) (next_of (asks b f) said) (event x said) mid) (some_inj is) (asked s mid b said (subst (λ x. Does s i x said mid) (sym (some_inj is)) does) h.stage f h.serves)
-  step_result (ghosts f) a s mid said is does h = subst (λ x. StepResult (ghosts f) (next_of (ghosts f) said) (event x said) mid) (some_inj is) (ghosted s mid said (subst (λ x. Does s i x said mid) (sym (some_inj is)) does) h.stage f h.serves)
+  step_result : (todo : Todo) (a : Act) (s mid : S) (said : Answer) (memory : Bool) → act_of todo ≡ Some a → Does s i a said mid → Stays s todo → StepResult todo (next_of todo said memory) (event a said) mid
+  step_result (says replies standing) a s mid said memory is does h = absurd (none-some a is)
+  step_result (asks b f) a s mid said memory is does h = subst (λ x. StepResult (asks b f) (next_of (asks b f) said memory) (event x said) mid) (some_inj is) (asked s mid b said (subst (λ x. Does s i x said mid) (sym (some_inj is)) does) h.stage memory f h.serves)
+  step_result (ghosts f) a s mid said memory is does h = subst (λ x. StepResult (ghosts f) (next_of (ghosts f) said memory) (event x said) mid) (some_inj is) (ghosted s mid said memory (subst (λ x. Does s i x said mid) (sym (some_inj is)) does) h.stage f h.serves)
 
   -- ---- runs
 
@@ -249,19 +249,19 @@ module _ {S : Type 0} (view : S → Visible) (Does : S → ℕ → Act → Answe
 
   blocked_on : (stay next : Todo) (e : Event) (mid : S) (others : Sessions) → e ≡ Waits others → StepResult stay next e mid → Stays mid stay
   blocked_on stay next e mid others is (was_blocked others' b stays) = stays
-  blocked_on stay next e mid others is (ended_so free replies standing n stands end) = absurd (subst IsFree is free)
-  blocked_on stay next e mid others is (goes free stays) = absurd (subst IsFree is free)
+  blocked_on stay next e mid others is (ended_so free replies standing n stands end) = absurd (subst IsNotBlocked is free)
+  blocked_on stay next e mid others is (goes free stays) = absurd (subst IsNotBlocked is free)
 
   -- nothing follows what has ended
   ends_at : (todo : Todo) (mid : S) (fewer : ℕ) (o : Outcome) (after : S) (replies : List Reply) (standing : Standing) → RunsOn Does programs tell i todo mid fewer o after
       → todo ≡ says replies standing → (o ≡ ended replies standing) × (after ≡ mid)
   ends_at _ _ _ _ _ replies standing (has_ended replies' standing' s) is = (ap outcome_at is, refl)
   ends_at _ _ _ _ _ replies standing (is_blocked todo a s mid said sessions has does x) is = absurd (none-some a (sym (ap act_of is) ∙ has))
-  ends_at _ _ _ _ _ replies standing (goes_on todo a s mid after said fewer o has does free more) is = absurd (none-some a (sym (ap act_of is) ∙ has))
+  ends_at _ _ _ _ _ replies standing (goes_on todo a s mid after said memory fewer o has does free more) is = absurd (none-some a (sym (ap act_of is) ∙ has))
 
-  after_step : (stay next : Todo) (x : Event) (mid after : S) (fewer : ℕ) (o : Outcome) → IsFree x → (Stays mid next → OnOutcome o after) → RunsOn Does programs tell i next mid fewer o after
+  after_step : (stay next : Todo) (x : Event) (mid after : S) (fewer : ℕ) (o : Outcome) → IsNotBlocked x → (Stays mid next → OnOutcome o after) → RunsOn Does programs tell i next mid fewer o after
       → StepResult stay next x mid → OnOutcome o after
-  after_step stay next x mid after fewer o free then r (was_blocked others b stays) = absurd (subst IsFree b free)
+  after_step stay next x mid after fewer o free then r (was_blocked others b stays) = absurd (subst IsNotBlocked b free)
   after_step stay next x mid after fewer o free then r (ended_so free' replies standing n stands end) =
       let both = ends_at next mid fewer o after replies standing r n in
       subst (λ x. x) (λ k. OnOutcome (sym both.0 k) (sym both.1 k)) (stands, end)
@@ -270,13 +270,13 @@ module _ {S : Type 0} (view : S → Visible) (Does : S → ℕ → Act → Answe
   pub runs_on : (todo : Todo) (s : S) (moved : ℕ) (o : Outcome) (after : S) → Stays s todo → RunsOn Does programs tell i todo s moved o after → OnOutcome o after
   runs_on _ _ _ _ _ h (has_ended replies standing s) = stays_outcome s (says replies standing) h
   runs_on _ _ _ _ _ h (is_blocked todo a s mid said sessions has does x) =
-      blocked_on todo (next_of todo said) (event a said) mid sessions x (step_result todo a s mid said has does h)
-  runs_on _ _ _ _ _ h (goes_on todo a s mid after said fewer o has does free more) =
-      after_step todo (next_of todo said) (event a said) mid after fewer o free (λ stays. runs_on (next_of todo said) mid fewer o after stays more) more (step_result todo a s mid said has does h)
+      blocked_on todo (next_of todo said true) (event a said) mid sessions x (step_result todo a s mid said true has does h)
+  runs_on _ _ _ _ _ h (goes_on todo a s mid after said memory fewer o has does free more) =
+      after_step todo (next_of todo said memory) (event a said) mid after fewer o free (λ stays. runs_on (next_of todo said memory) mid fewer o after stays more) more (step_result todo a s mid said memory has does h)
 
   pub steps_on : (todo : Todo) (s : S) (o : Outcome) (after : S) → Stays s todo → StepsOnce Does programs tell i todo s o after → OnOutcome o after
   steps_on _ _ _ _ h (had_ended replies standing s) = stays_outcome s (says replies standing) h
-  steps_on _ _ _ _ h (steps_once todo a s after said has does) = once_on todo (next_of todo said) (event a said) after (step_result todo a s after said has does h)
+  steps_on _ _ _ _ h (steps_once todo a s after said memory has does) = once_on todo (next_of todo said memory) (event a said) after (step_result todo a s after said memory has does h)
 
   -- ---- from the first step on
 
@@ -285,17 +285,17 @@ module _ {S : Type 0} (view : S → Visible) (Does : S → ℕ → Act → Answe
     pub starts : Starts stage.stopped the_job ((view s).open_of i) todo
     pub number_is : number ≡ (committed (view s)).number
 
-  within_new : (run : Option Open) (t : Option Txn) → Within run None → Within run t
+  within_new : (run : Option Unended) (t : Option Txn) → Within run None → Within run t
   within_new None t h = tt
   within_new (Some o) t h = absurd h
 
-  opened : (s mid : S) (mode : Mode) (said : Answer) (f : Answer → Todo) → Does s i (act.Begin mode) said mid → (st : Stage s) → number ≡ (committed (view s)).number
+  opened : (s mid : S) (mode : Mode) (said : Answer) (memory : Bool) (f : Answer → Bool → Todo) → Does s i (act.Begin mode) said mid → (st : Stage s) → number ≡ (committed (view s)).number
       → (n d : ℕ) → event (act.Begin mode) said ≡ Begins mode n d → (t : Option Txn) → (view s).open_of i ≡ t
-      → BeginsSo the_job (Begins mode n d) st.stopped t (λ stopped' t'. Serves stopped' the_job t' (f said))
-      → StepResult (asks (act.Begin mode) f) (asked_next (event (act.Begin mode) said) said f) (event (act.Begin mode) said) mid
-  opened s mid mode said f does st e n d is (Some t) out h = absurd h
-  opened s mid mode said f does st e n d is None out h =
-      goes (subst IsFree (sym is) tt) (subst (λ x. Stays mid (asked_next x said f)) (sym is) (record {
+      → BeginsSo the_job (Begins mode n d) st.stopped t (λ stopped' t'. Serves stopped' the_job t' (f said memory))
+      → StepResult (asks (act.Begin mode) f) (asked_next (event (act.Begin mode) said) said memory f) (event (act.Begin mode) said) mid
+  opened s mid mode said memory f does st e n d is (Some t) out h = absurd h
+  opened s mid mode said memory f does st e n d is None out h =
+      goes (subst IsNotBlocked (sym is) tt) (subst (λ x. Stays mid (asked_next x said memory f)) (sym is) (record {
         stage = record {
           stands = laws.stands s mid i (act.Begin mode) said st.stands does;
           stopped = st.stopped;
@@ -305,7 +305,7 @@ module _ {S : Type 0} (view : S → Visible) (Does : S → ℕ → Act → Answe
           within = subst (Within (w.running i)) (sym now_open) (within_new (w.running i) (Some (new_txn mode n (objects_in (view s)))) (subst (Within (w.running i)) out st.within));
           held_grows = held_after s mid (act.Begin mode) said does st;
         };
-        serves = subst (λ t. Serves st.stopped the_job t (f said)) (sym now_open) (h (facts.0 ∙ sym e) (objects_in (view s)) st.held_grows facts.1);
+        serves = subst (λ t. Serves st.stopped the_job t (f said memory)) (sym now_open) (h (facts.0 ∙ sym e) (objects_in (view s)) st.held_grows facts.1);
       }))
     where
       facts : (n ≡ (committed (view s)).number) × (d ≡ length (objects_in (view s)))
@@ -314,33 +314,33 @@ module _ {S : Type 0} (view : S → Visible) (Does : S → ℕ → Act → Answe
       now_open : (view mid).open_of i ≡ Some (new_txn mode n (objects_in (view s)))
       now_open = open_mid s mid (act.Begin mode) said does st ∙ (λ k. open_after (view s) (out k) (is k))
 
-  begins : (s mid : S) (mode : Mode) (said : Answer) (f : Answer → Todo) → Does s i (act.Begin mode) said mid → (st : Stage s) → number ≡ (committed (view s)).number
-      → FirstStep st.stopped the_job ((view s).open_of i) (act.Begin mode) f → StepResult (asks (act.Begin mode) f) (asked_next (event (act.Begin mode) said) said f) (event (act.Begin mode) said) mid
-  begins s mid mode said f does st e first = by (event (act.Begin mode) said) refl (began mode said (laws.answers s mid i (act.Begin mode) said st.stands does)) (first said (may_come s mid (act.Begin mode) said does st))
+  begins : (s mid : S) (mode : Mode) (said : Answer) (memory : Bool) (f : Answer → Bool → Todo) → Does s i (act.Begin mode) said mid → (st : Stage s) → number ≡ (committed (view s)).number
+      → FirstStep st.stopped the_job ((view s).open_of i) (act.Begin mode) f → StepResult (asks (act.Begin mode) f) (asked_next (event (act.Begin mode) said) said memory f) (event (act.Begin mode) said) mid
+  begins s mid mode said memory f does st e first = by (event (act.Begin mode) said) refl (began mode said (laws.answers s mid i (act.Begin mode) said st.stands does)) (first said memory (may_come s mid (act.Begin mode) said does st))
     where
       by : (x : Event) → event (act.Begin mode) said ≡ x → Began mode (event (act.Begin mode) said)
-          → BeginsSo the_job (event (act.Begin mode) said) st.stopped ((view s).open_of i) (λ stopped' t'. Serves stopped' the_job t' (f said))
-          → StepResult (asks (act.Begin mode) f) (asked_next (event (act.Begin mode) said) said f) (event (act.Begin mode) said) mid
-      by x ex (opens n d is) h = opened s mid mode said f does st e n d is ((view s).open_of i) refl
-          (subst (λ y. BeginsSo the_job y st.stopped ((view s).open_of i) (λ stopped' t'. Serves stopped' the_job t' (f said))) is h)
+          → BeginsSo the_job (event (act.Begin mode) said) st.stopped ((view s).open_of i) (λ stopped' t'. Serves stopped' the_job t' (f said memory))
+          → StepResult (asks (act.Begin mode) f) (asked_next (event (act.Begin mode) said) said memory f) (event (act.Begin mode) said) mid
+      by x ex (opens n d is) h = opened s mid mode said memory f does st e n d is ((view s).open_of i) refl
+          (subst (λ y. BeginsSo the_job y st.stopped ((view s).open_of i) (λ stopped' t'. Serves stopped' the_job t' (f said memory))) is h)
       by x ex (fails free n quiet so) h =
-          goes free (subst (Stays mid) (sym (next_is (event (act.Begin mode) said) said f n))
-          (quiet_stays s mid (act.Begin mode) said does st (f said) quiet (so the_job st.stopped ((view s).open_of i) (λ stopped' t'. Serves stopped' the_job t' (f said)) h)))
+          goes free (subst (Stays mid) (sym (next_is (event (act.Begin mode) said) said memory f n))
+          (quiet_stays s mid (act.Begin mode) said does st (f said memory) quiet (so the_job st.stopped ((view s).open_of i) (λ stopped' t'. Serves stopped' the_job t' (f said memory)) h)))
 
-  first_result : (todo : Todo) (a : Act) (s mid : S) (said : Answer) → act_of todo ≡ Some a → Does s i a said mid → Fresh s todo → StepResult todo (next_of todo said) (event a said) mid
-  first_result (says replies standing) a s mid said is does h = absurd (none-some a is)
-  first_result (asks b f) a s mid said is does h = elim h.starts [
-    | inl serves ↦ step_result (asks b f) a s mid said is does (record { stage = h.stage; serves = serves })
+  first_result : (todo : Todo) (a : Act) (s mid : S) (said : Answer) (memory : Bool) → act_of todo ≡ Some a → Does s i a said mid → Fresh s todo → StepResult todo (next_of todo said memory) (event a said) mid
+  first_result (says replies standing) a s mid said memory is does h = absurd (none-some a is)
+  first_result (asks b f) a s mid said memory is does h = elim h.starts [
+    | inl serves ↦ step_result (asks b f) a s mid said memory is does (record { stage = h.stage; serves = serves })
     | inr first ↦ let x = opens_asks h.stage.stopped the_job ((view s).open_of i) b f first in by x.0 x.1 x.2
   ]
     where
-      by : (mode : Mode) → b ≡ act.Begin mode → FirstStep h.stage.stopped the_job ((view s).open_of i) (act.Begin mode) f → StepResult (asks b f) (next_of (asks b f) said) (event a said) mid
+      by : (mode : Mode) → b ≡ act.Begin mode → FirstStep h.stage.stopped the_job ((view s).open_of i) (act.Begin mode) f → StepResult (asks b f) (next_of (asks b f) said memory) (event a said) mid
       by mode eb first =
-          subst (λ x. StepResult (asks x f) (next_of (asks x f) said) (event a said) mid) (sym eb)
-          (subst (λ x. StepResult (asks (act.Begin mode) f) (next_of (asks (act.Begin mode) f) said) (event x said) mid) (sym eb ∙ some_inj is)
-          (begins s mid mode said f (subst (λ x. Does s i x said mid) (sym (sym eb ∙ some_inj is)) does) h.stage h.number_is first))
-  first_result (ghosts f) a s mid said is does h = elim h.starts [
-    | inl serves ↦ step_result (ghosts f) a s mid said is does (record { stage = h.stage; serves = serves })
+          subst (λ x. StepResult (asks x f) (next_of (asks x f) said memory) (event a said) mid) (sym eb)
+          (subst (λ x. StepResult (asks (act.Begin mode) f) (next_of (asks (act.Begin mode) f) said memory) (event x said) mid) (sym eb ∙ some_inj is)
+          (begins s mid mode said memory f (subst (λ x. Does s i x said mid) (sym (sym eb ∙ some_inj is)) does) h.stage h.number_is first))
+  first_result (ghosts f) a s mid said memory is does h = elim h.starts [
+    | inl serves ↦ step_result (ghosts f) a s mid said memory is does (record { stage = h.stage; serves = serves })
     | inr first ↦ absurd first
   ]
 
@@ -353,10 +353,10 @@ module _ {S : Type 0} (view : S → Visible) (Does : S → ℕ → Act → Answe
   pub first_runs : (todo : Todo) (s : S) (moved : ℕ) (o : Outcome) (after : S) → Fresh s todo → RunsOn Does programs tell i todo s moved o after → OnOutcome o after
   first_runs _ _ _ _ _ h (has_ended replies standing s) = stays_outcome s (says replies standing) (fresh_says s replies standing h)
   first_runs _ _ _ _ _ h (is_blocked todo a s mid said sessions has does x) =
-      blocked_on todo (next_of todo said) (event a said) mid sessions x (first_result todo a s mid said has does h)
-  first_runs _ _ _ _ _ h (goes_on todo a s mid after said fewer o has does free more) =
-      after_step todo (next_of todo said) (event a said) mid after fewer o free (λ stays. runs_on (next_of todo said) mid fewer o after stays more) more (first_result todo a s mid said has does h)
+      blocked_on todo (next_of todo said true) (event a said) mid sessions x (first_result todo a s mid said true has does h)
+  first_runs _ _ _ _ _ h (goes_on todo a s mid after said memory fewer o has does free more) =
+      after_step todo (next_of todo said memory) (event a said) mid after fewer o free (λ stays. runs_on (next_of todo said memory) mid fewer o after stays more) more (first_result todo a s mid said memory has does h)
 
   pub first_steps : (todo : Todo) (s : S) (o : Outcome) (after : S) → Fresh s todo → StepsOnce Does programs tell i todo s o after → OnOutcome o after
   first_steps _ _ _ _ h (had_ended replies standing s) = stays_outcome s (says replies standing) (fresh_says s replies standing h)
-  first_steps _ _ _ _ h (steps_once todo a s after said has does) = once_on todo (next_of todo said) (event a said) after (first_result todo a s after said has does h)
+  first_steps _ _ _ _ h (steps_once todo a s after said memory has does) = once_on todo (next_of todo said memory) (event a said) after (first_result todo a s after said memory has does h)

@@ -17,8 +17,8 @@ use Rattle.iv_types.specs.Syntax.{StatementTree, create_table, create_index, cre
 use Rattle.iv_meaning.specs.Schema.{Schema}
 use Rattle.iv_meaning.specs.Database.{Row, Database}
 use Rattle.iv_meaning.specs.Statement.{Kept, keep_all, Meaning, Refused, Accepted}
-use Rattle.iv_meaning.specs.Transaction.{Saved, Running, Told, told as told_of, means, inside, accepted, refused_inside, from_named, back_to}
-use Rattle.iv_meaning.specs.Serial.{Open, is_engines, is_deadlock}
+use Rattle.iv_meaning.specs.Transaction.{Saved, Running, Response, told as told_of, means, inside, accepted, refused_inside, from_named, back_to}
+use Rattle.iv_meaning.specs.Serial.{Unended, is_engines, is_deadlock}
 use Rattle.iv_meaning.proofs.SerialLemmas.{keep_append}
 use Rattle.txn_machine.specs.Acts as act
 use Rattle.txn_machine.specs.Acts.{Act}
@@ -58,15 +58,15 @@ or_true true c e = refl
 or_true false c e = e
 
 -- a step where the engine is known to be stopped
-pub halted : (j : Job) (t : Option Txn) (a : Act) (f : Answer → Todo) → ((why : EngineRefusal) → is_stop (Fails why) ≡ true → Serves true j t (f (answer.Refused why))) → Serves true j t (asks a f)
-halted j t a f h = (inl refl, λ said m. by said (only_stops a said (m.stop refl)))
+pub halted : (j : Job) (t : Option Txn) (a : Act) (f : Answer → Bool → Todo) → ((why : EngineRefusal) (memory : Bool) → is_stop (Fails why) ≡ true → Serves true j t (f (answer.Refused why) memory)) → Serves true j t (asks a f)
+halted j t a f h = (inl refl, λ said memory m. by said memory (only_stops a said (m.stop refl)))
   where
     same : (t : Option Txn) (why : EngineRefusal) → next_txn t (Fails why) ≡ t
     same None why = refl
     same (Some t) why = refl
 
-    by : (said : Answer) → OnlyStops a said → Proceeds j t (event a said) (f said) (Serves (true || is_stop (event a said)) j (next_txn t (event a said)) (f said))
-    by _ (stops a why e) = subst (λ x. Serves true j x (f (answer.Refused why))) (sym (same t why)) (h why e)
+    by : (said : Answer) (memory : Bool) → OnlyStops a said → Proceeds j t (event a said) (f said memory) (Serves (true || is_stop (event a said)) j (next_txn t (event a said)) (f said memory))
+    by _ memory (stops a why e) = subst (λ x. Serves true j x (f (answer.Refused why) memory)) (sym (same t why)) (h why memory e)
 
 -- a step that only a stop can refuse
 pub refused_by_stop : (b : Bool) (j : Job) (t : Txn) (next : Todo) (why : EngineRefusal) → is_stop (Fails why) ≡ true → Serves true j (Some t) next → Serves (b || is_stop (Fails why)) j (Some t) next
@@ -107,7 +107,7 @@ work_stays (update table ss condition) w = refl
 work_stays (delete table condition) w = refl
 work_stays _ w = absurd (cc)
 
-module _ (works : Works) (laws : WorkLaws works) (b : Bool) (o : Open) (t : Txn) (standing : Standing) (at : IsAt b o t standing) (statement : StatementTree) (number : ℕ) where
+module _ (works : Works) (laws : WorkLaws works) (b : Bool) (o : Unended) (t : Txn) (standing : Standing) (at : IsAt b o t standing) (statement : StatementTree) (number : ℕ) where
   abbrev the_job : Job
   the_job = record { statement = statement; before = Some o; number = number; copy = standing.copy }
 
@@ -198,7 +198,7 @@ module _ (works : Works) (laws : WorkLaws works) (b : Bool) (o : Open) (t : Txn)
 
 -- ---- where the engine is known to be stopped
 
-module _ (works : Works) (laws : WorkLaws works) (o : Open) (t : Txn) (standing : Standing) (at : IsAt true o t standing) (statement : StatementTree) (number : ℕ) where
+module _ (works : Works) (laws : WorkLaws works) (o : Unended) (t : Txn) (standing : Standing) (at : IsAt true o t standing) (statement : StatementTree) (number : ℕ) where
   abbrev j : Job
   j = record { statement = statement; before = Some o; number = number; copy = standing.copy }
 
@@ -206,12 +206,12 @@ module _ (works : Works) (laws : WorkLaws works) (o : Open) (t : Txn) (standing 
   stop_at why e = keeps_stops works laws true o t standing at statement number t why (comes_self t) e
 
   rolls_halted : (n : ℕ) (next : Todo) → Serves true j (Some t) (rolls_back works standing n next)
-  rolls_halted zero next = halted j (Some t) act.End (end_next next (keeps_standing works standing)) (λ why e. stop_at why e)
-  rolls_halted (suc n) next = halted j (Some t) act.UndoOne (undo_next _ (keeps_standing works standing)) (λ why e. stop_at why e)
+  rolls_halted zero next = halted j (Some t) act.End (end_next next (keeps_standing works standing)) (λ why memory e. stop_at why e)
+  rolls_halted (suc n) next = halted j (Some t) act.UndoOne (undo_next _ (keeps_standing works standing)) (λ why memory e. stop_at why e)
 
   returns_halted : (n : ℕ) (next : Todo) → (n ≡ 0 → Serves true j (Some t) next) → Serves true j (Some t) (undo works n next (keeps_standing works standing))
   returns_halted zero next h = h refl
-  returns_halted (suc n) next h = halted j (Some t) act.UndoOne (undo_next _ (keeps_standing works standing)) (λ why e. stop_at why e)
+  returns_halted (suc n) next h = halted j (Some t) act.UndoOne (undo_next _ (keeps_standing works standing)) (λ why memory e. stop_at why e)
 
   failed_halted : (mode : Mode) (n : ℕ) (why : EngineRefusal) → is_stop (Fails why) ≡ true → Serves true j (Some t) (failed works standing.copy mode (inside_frame works standing) n None why)
   failed_halted mode n why e = subst (λ c. Serves true j (Some t) (if c then says (reply.Error (works.tell standing.copy None why) ∷ []) standing
@@ -231,9 +231,9 @@ module _ (works : Works) (laws : WorkLaws works) (o : Open) (t : Txn) (standing 
       → Serves true j (Some t) (runs works standing.copy mode (inside_frame works standing) w 0)
   work_halted is e mode em (done listed count) ew = lists_halted listed count is e ew
   work_halted is e mode em (refuses why) ew = denies_at_once works laws true o t standing at statement number why is e ew
-  work_halted is e Serial em (fetches index interval lock f) ew = halted j (Some t) (act.Fetch index interval lock) (rows_next _ _) (λ why x. failed_halted Serial 0 why x)
-  work_halted is e Snapshot em (fetches index interval lock f) ew = halted j (Some t) (act.Peek index interval) (rows_next _ _) (λ why x. failed_halted Snapshot 0 why x)
-  work_halted is e mode em (puts table key new f) ew = halted j (Some t) (act.Put table key new) (changed_next _ _) (λ why x. failed_halted mode 0 why x)
+  work_halted is e Serial em (fetches index interval lock f) ew = halted j (Some t) (act.Fetch index interval lock) (rows_next _ _ _) (λ why memory x. failed_halted Serial 0 why x)
+  work_halted is e Snapshot em (fetches index interval lock f) ew = halted j (Some t) (act.Peek index interval) (rows_next _ _ _) (λ why memory x. failed_halted Snapshot 0 why x)
+  work_halted is e mode em (puts table key new f) ew = halted j (Some t) (act.Put table key new) (changed_next _ _ _) (λ why memory x. failed_halted mode 0 why x)
 
 -- ---- where it is not
 
@@ -244,7 +244,7 @@ marked_work mode saved (update table ss condition) w = refl
 marked_work mode saved (delete table condition) w = refl
 marked_work mode saved _ w = absurd (cc)
 
-module _ (works : Works) (laws : WorkLaws works) (o : Open) (t : Txn) (standing : Standing) (at : IsAt false o t standing) (statement : StatementTree) (number : ℕ) where
+module _ (works : Works) (laws : WorkLaws works) (o : Unended) (t : Txn) (standing : Standing) (at : IsAt false o t standing) (statement : StatementTree) (number : ℕ) where
   abbrev job_now : Job
   job_now = record { statement = statement; before = Some o; number = number; copy = standing.copy }
 
@@ -297,11 +297,11 @@ module _ (works : Works) (laws : WorkLaws works) (o : Open) (t : Txn) (standing 
       (λ t'' later'' n'' why h'' e. stop_after t'' why (comes_none t t'' later'' n'' h'') e)
       n t' later h tt (λ db all. all)
     where
-      by : (t'' : Txn) → Comes t t'' → t''.kept ≡ [] → (said : Answer) → MayCome false (Some t'') act.End said
-          → Proceeds job_now (Some t'') (event act.End said) (end_next next (keeps_standing works standing) said) (Serves (false || is_stop (event act.End said)) job_now (next_txn (Some t'') (event act.End said)) (end_next next (keeps_standing works standing) said))
-      by t'' h'' none answer.Ended m = closes t'' h'' none
-      by t'' h'' none (answer.Refused why) m = refused_by_stop false job_now t'' (keeps_standing works standing why) why m.can (stop_after t'' why h'' m.can)
-      by t'' h'' none _ m = absurd m.can
+      by : (t'' : Txn) → Comes t t'' → t''.kept ≡ [] → (said : Answer) (memory : Bool) → MayCome false (Some t'') act.End said
+          → Proceeds job_now (Some t'') (event act.End said) (end_next next (keeps_standing works standing) said memory) (Serves (false || is_stop (event act.End said)) job_now (next_txn (Some t'') (event act.End said)) (end_next next (keeps_standing works standing) said memory))
+      by t'' h'' none answer.Ended memory m = closes t'' h'' none
+      by t'' h'' none (answer.Refused why) memory m = refused_by_stop false job_now t'' (keeps_standing works standing why) why m.can (stop_after t'' why h'' m.can)
+      by t'' h'' none _ memory m = absurd m.can
 
   since_whole : (n : ℕ) → length t.kept ≡ n → Since (record t { kept = [] }) t t.kept n
   since_whole n many = record {
@@ -397,21 +397,21 @@ module _ (works : Works) (laws : WorkLaws works) (o : Open) (t : Txn) (standing 
 
 -- ---- all statements
 
-module _ (works : Works) (laws : WorkLaws works) (o : Open) (t : Txn) (standing : Standing) (number : ℕ) where
+module _ (works : Works) (laws : WorkLaws works) (o : Unended) (t : Txn) (standing : Standing) (number : ℕ) where
   abbrev job_of : StatementTree → Job
   job_of statement = record { statement = statement; before = Some o; number = number; copy = standing.copy }
 
   commits_serve : (b : Bool) → IsAt b o t standing
       → Serves b (job_of commit) (Some t) (asks act.Commit (commit_next (λ n. says (reply.Commit n ∷ []) (outside_with standing.copy)) (keeps_standing works standing)))
-  commits_serve true at = halted (job_of commit) (Some t) act.Commit (commit_next (λ n. says (reply.Commit n ∷ []) (outside_with standing.copy)) (keeps_standing works standing)) (λ why e. stop_at works laws o t standing at commit number why e)
+  commits_serve true at = halted (job_of commit) (Some t) act.Commit (commit_next (λ n. says (reply.Commit n ∷ []) (outside_with standing.copy)) (keeps_standing works standing)) (λ why memory e. stop_at works laws o t standing at commit number why e)
   commits_serve false at = (inr (record { mode_is = refl; owes_nothing = (now_so at.ready).owes_nothing }), by)
     where
-      by : (said : Answer) → MayCome false (Some t) act.Commit said
-          → Proceeds (job_of commit) (Some t) (event act.Commit said) (commit_next (λ n. says (reply.Commit n ∷ []) (outside_with standing.copy)) (keeps_standing works standing) said)
-          (Serves (false || is_stop (event act.Commit said)) (job_of commit) (next_txn (Some t) (event act.Commit said)) (commit_next (λ n. says (reply.Commit n ∷ []) (outside_with standing.copy)) (keeps_standing works standing) said))
-      by (answer.Committed n) m = commits o n standing standing.copy refl refl at (grows_comes works laws false o t standing at commit number t (comes_self t))
-      by (answer.Refused why) m = refused_by_stop false (job_of commit) t (keeps_standing works standing why) why m.can (stop_after works laws o t standing at commit number t why (comes_self t) m.can)
-      by _ m = absurd m.can
+      by : (said : Answer) (memory : Bool) → MayCome false (Some t) act.Commit said
+          → Proceeds (job_of commit) (Some t) (event act.Commit said) (commit_next (λ n. says (reply.Commit n ∷ []) (outside_with standing.copy)) (keeps_standing works standing) said memory)
+          (Serves (false || is_stop (event act.Commit said)) (job_of commit) (next_txn (Some t) (event act.Commit said)) (commit_next (λ n. says (reply.Commit n ∷ []) (outside_with standing.copy)) (keeps_standing works standing) said memory))
+      by (answer.Committed n) memory m = commits o n standing standing.copy refl refl at (grows_comes works laws false o t standing at commit number t (comes_self t))
+      by (answer.Refused why) memory m = refused_by_stop false (job_of commit) t (keeps_standing works standing why) why m.can (stop_after works laws o t standing at commit number t why (comes_self t) m.can)
+      by _ memory m = absurd m.can
 
   rolls_all : (b : Bool) → IsAt b o t standing → Serves b (job_of (rollback None)) (Some t) (rolls_back works standing standing.kept (says (reply.Done 0 ∷ []) (outside_with standing.copy)))
   rolls_all true at = rolls_halted works laws o t standing at (rollback None) number standing.kept (says (reply.Done 0 ∷ []) (outside_with standing.copy))

@@ -10,7 +10,7 @@ use Rattle.iv_types.specs.declared.statement.Mode.{Mode}
 use Rattle.table_laws.proofs.Stored.{by_session}
 use Rattle.iv_meaning.specs.Schema.{Schema}
 use Rattle.iv_meaning.specs.Said.{Said}
-use Rattle.iv_meaning.specs.Serial.{World, Open, Unfinished, none, waits, loaded, opened_with}
+use Rattle.iv_meaning.specs.Serial.{World, Unended, Unfinished, none, waits, loaded, opened_with}
 use Rattle.txn_machine.specs.Acts as act
 use Rattle.txn_machine.specs.Acts.{Act}
 use Rattle.txn_machine.specs.Answers as answer
@@ -19,7 +19,7 @@ use Rattle.txn_machine.proofs.Basics.{contains_none}
 use Rattle.txn_machine.proofs.Holding.{by_contains}
 use Rattle.script_law.specs.Seen.{Event, Fails, Idles, TakesBack, Ends, event, is_stop, CanCome, Txn, Visible, open_after, visible_after, StepLaws}
 use Rattle.script_law.specs.Programs.{Standing, Programs, ProgramLaws}
-use Rattle.script_law.specs.RunLines.{Line, idle, waiting, stepping, held, Seat, Table, open_at, RollsBack, ends_it, takes_back, stops_ending, stops_taking, Leaves, cancels, cancels_held, steps_no_more, has_none, rolls_back, LeaveAll, RunsLines, new_table, all_sessions}
+use Rattle.script_law.specs.RunLines.{Line, idle, waiting, stepping, held, AtTable, Table, open_at, RollsBack, ends_it, takes_back, stops_ending, stops_taking, Leaves, cancels, cancels_held, steps_no_more, has_none, rolls_back, LeaveAll, RunsLines, new_table, all_sessions}
 use Rattle.script_law.specs.Laws.{AreEngines, EndLaw}
 use Rattle.script_law.proofs.Basics.{if_same, if_other}
 use Rattle.script_law.proofs.Agreeing.{Between, SeatAgrees, SeatIs, Agrees, objects_in}
@@ -124,7 +124,7 @@ module _ {S : Type 0} (view : S → Visible) (Does : S → ℕ → Act → Answe
   -- ---- what the table knows
 
   module _ (program_laws : ProgramLaws programs) (engines : AreEngines tell) where
-    closed_seat : (s : S) (n : ℕ) (objects : Schema) (stopped : Bool) → (IsTrue stopped → Halts s) → (run : Option Open) (u : Unfinished) (standing : Standing) (line : Line) (t : Option Txn) → (view s).open_of n ≡ t
+    closed_seat : (s : S) (n : ℕ) (objects : Schema) (stopped : Bool) → (IsTrue stopped → Halts s) → (run : Option Unended) (u : Unfinished) (standing : Standing) (line : Line) (t : Option Txn) → (view s).open_of n ≡ t
         → SeatAgrees objects stopped run u standing line t → open_at (record { standing = standing; line = line }) t ≡ None → Gone s n
     closed_seat s n objects stopped known run u standing (waiting todo) t is a e = inl (is ∙ e)
     closed_seat s n objects stopped known run u standing (stepping todo) t is a e = inl (is ∙ e)

@@ -13,7 +13,7 @@ use Rattle.iv_types.specs.Syntax.{StatementTree, create_table, create_index, cre
 use Rattle.iv_meaning.specs.Schema.{Schema}
 use Rattle.iv_meaning.specs.Database.{Row, Database}
 use Rattle.iv_meaning.specs.Statement.{Kept, sets, keep_all, Meaning, Refused, Accepted}
-use Rattle.iv_meaning.specs.Transaction.{Saved, Running, Told, told, done, means, inside, accepted, alone_from, from_named, back_to, refused_inside, refused_return, most_savepoints}
+use Rattle.iv_meaning.specs.Transaction.{Saved, Running, Response, told, done, means, inside, accepted, alone_from, from_named, back_to, refused_inside, refused_return, most_savepoints}
 use Rattle.txn_machine.specs.Deltas.{RowChange}
 use Rattle.txn_machine.specs.ViewLaws.{AreSound}
 use Rattle.script_law.specs.Seen.{changes, in_order}
@@ -189,8 +189,8 @@ module _ (works : Works) (laws : WorkLaws works) (objects : Schema) where
   fine_inside mode statement r h = by (refused_inside mode r.saved statement) refl
     where
       by : (x : Option Refusal) → refused_inside mode r.saved statement ≡ x → StandsFine (inside mode statement r).after
-      by (Some why) e = subst (λ (y : Told). StandsFine y.after) (sym (inside_refused mode statement r why e)) h
-      by None e = subst (λ (y : Told). StandsFine y.after) (sym (inside_accepted mode statement r e)) (fine_accepted mode statement r e h)
+      by (Some why) e = subst (λ (y : Response). StandsFine y.after) (sym (inside_refused mode statement r why e)) h
+      by None e = subst (λ (y : Response). StandsFine y.after) (sym (inside_accepted mode statement r e)) (fine_accepted mode statement r e h)
 
   pub fine_alone : (mode : Mode) (statements : List StatementTree) (r : Running) → StandsFine r → StandsFine (alone_from mode statements r).1
   fine_alone mode [] r h = h

@@ -7,6 +7,7 @@ use Rattle.std.proofs.lemmas.List.{length-append}
 use Rattle.iv_types.specs.declared.statement.Mode.{Mode}
 use Rattle.iv_types.specs.declared.statement.Mode.TheVariants.{Serial, Snapshot}
 use Rattle.iv_types.specs.declared.refusal.Refusal.{Refusal}
+use Rattle.iv_types.specs.declared.refusal.Refusal.TheVariants.{NoMemory}
 use Rattle.iv_types.specs.declared.refusal.EngineRefusal.{EngineRefusal}
 use Rattle.iv_types.specs.declared.reply.Reply.{Reply}
 use Rattle.iv_types.specs.declared.reply.Reply.TheVariants as reply
@@ -15,7 +16,7 @@ use Rattle.iv_meaning.specs.Schema.{Schema, Object}
 use Rattle.iv_meaning.specs.Database.{Row, Database}
 use Rattle.iv_meaning.specs.Statement.{Kept, keep_all, Meaning, Refused, Accepted}
 use Rattle.iv_meaning.specs.Transaction.{Transaction, means, outside, ended_by, refused_outside, next_number, begin_reply}
-use Rattle.iv_meaning.specs.Serial.{Open, is_engines, is_deadlock}
+use Rattle.iv_meaning.specs.Serial.{Unended, is_engines, is_deadlock}
 use Rattle.iv_meaning.proofs.SerialLemmas.{same_number}
 use Rattle.txn_machine.specs.Acts as act
 use Rattle.txn_machine.specs.Acts.{Act}
@@ -78,12 +79,12 @@ module _ (works : Works) (laws : WorkLaws works) (statement : StatementTree) (w 
       (λ t' later' n' x h' e. stays_serves t' later' n' x h')
       n t later h tt (λ db all. all)
     where
-      by : (t' : Txn) → Since first t' [] 0 → ((db : Database) → IsTruthful db t' → IsTruthful db t) → (said : Answer) → MayCome false (Some t') act.End said
-          → Proceeds the_job (Some t') (event act.End said) (end_next (says (reply.Error why ∷ []) (outside_with objects)) (stays_out works objects) said)
-          (Serves (false || is_stop (event act.End said)) the_job (next_txn (Some t') (event act.End said)) (end_next (says (reply.Error why ∷ []) (outside_with objects)) (stays_out works objects) said))
-      by t' h' from answer.Ended m = closes t' h' from
-      by t' h' from (answer.Refused x) m = refused_by_stop false the_job t' (stays_out works objects x) x m.can (stays_serves t' [] 0 x h')
-      by t' h' from _ m = absurd m.can
+      by : (t' : Txn) → Since first t' [] 0 → ((db : Database) → IsTruthful db t' → IsTruthful db t) → (said : Answer) (memory : Bool) → MayCome false (Some t') act.End said
+          → Proceeds the_job (Some t') (event act.End said) (end_next (says (reply.Error why ∷ []) (outside_with objects)) (stays_out works objects) said memory)
+          (Serves (false || is_stop (event act.End said)) the_job (next_txn (Some t') (event act.End said)) (end_next (says (reply.Error why ∷ []) (outside_with objects)) (stays_out works objects) said memory))
+      by t' h' from answer.Ended memory m = closes t' h' from
+      by t' h' from (answer.Refused x) memory m = refused_by_stop false the_job t' (stays_out works objects x) x m.can (stays_serves t' [] 0 x h')
+      by t' h' from _ memory m = absurd m.can
 
   -- what the statement means where it comes alone to this
   outside_so : (t : Txn) (later : List (Option RowChange)) (n : ℕ) (m : Meaning) → Since first t later n → ComesTo the_job works objects Serial (outside_frame works objects) first refl whole t m
@@ -114,12 +115,12 @@ module _ (works : Works) (laws : WorkLaws works) (statement : StatementTree) (w 
             kept_is ∙ sym (ap (λ (x : Transaction). x.kept) so),
           )
 
-      by : (said : Answer) → MayCome false (Some t) act.Commit said
-          → Proceeds the_job (Some t) (event act.Commit said) (commit_next (λ m. says (map reply.Row listed ++ reply.Done count ∷ reply.Commit m ∷ []) (outside_with objects)) (stays_out works objects) said)
-          (Serves (false || is_stop (event act.Commit said)) the_job (next_txn (Some t) (event act.Commit said)) (commit_next (λ m. says (map reply.Row listed ++ reply.Done count ∷ reply.Commit m ∷ []) (outside_with objects)) (stays_out works objects) said))
-      by (answer.Committed m) x = is_alone m (map reply.Row listed ++ reply.Done count ∷ reply.Commit m ∷ []) objects refl (work_no_begin statement w) h.mode_is (λ db e. lone_so m db e) (grows_now t later n h)
-      by (answer.Refused why) x = refused_by_stop false the_job t (stays_out works objects why) why x.can (stays_serves t later n why h)
-      by _ x = absurd x.can
+      by : (said : Answer) (memory : Bool) → MayCome false (Some t) act.Commit said
+          → Proceeds the_job (Some t) (event act.Commit said) (commit_next (λ m. says (map reply.Row listed ++ reply.Done count ∷ reply.Commit m ∷ []) (outside_with objects)) (stays_out works objects) said memory)
+          (Serves (false || is_stop (event act.Commit said)) the_job (next_txn (Some t) (event act.Commit said)) (commit_next (λ m. says (map reply.Row listed ++ reply.Done count ∷ reply.Commit m ∷ []) (outside_with objects)) (stays_out works objects) said memory))
+      by (answer.Committed m) memory x = is_alone m (map reply.Row listed ++ reply.Done count ∷ reply.Commit m ∷ []) objects refl (work_no_begin statement w) h.mode_is (λ db e. lone_so m db e) (grows_now t later n h)
+      by (answer.Refused why) memory x = refused_by_stop false the_job t (stays_out works objects why) why x.can (stays_serves t later n why h)
+      by _ memory x = absurd x.can
 
   frame_serves : FrameServes the_job works objects Serial (outside_frame works objects) first refl whole
   frame_serves = record {
@@ -174,80 +175,89 @@ module _ (works : Works) (laws : WorkLaws works) (statement : StatementTree) (nu
   -- a transaction begins, and goes on with all definitions
   module _ (mode : Mode) (next : Schema → ℕ → Todo)
       (goes : (objects : Schema) → Serves false j (Some (new_txn mode number objects)) (next objects number)) where
+    -- it ends at once where it can't go on
+    ends_serve : (why : Refusal) → IsTrue (is_engines why) → (objects : Schema) → Grows copy objects → Serves false j (Some (new_txn mode number objects)) (ends_with works copy why)
+    ends_serve why engines objects g = (inr refl, by)
+      where
+        by : (said : Answer) (memory : Bool) → MayCome false (Some (new_txn mode number objects)) act.End said
+            → Proceeds j (Some (new_txn mode number objects)) (event act.End said) (end_next (says (reply.Error why ∷ []) (outside_with copy)) (stays_out works copy) said memory)
+            (Serves (false || is_stop (event act.End said)) j (next_txn (Some (new_txn mode number objects)) (event act.End said)) (end_next (says (reply.Error why ∷ []) (outside_with copy)) (stays_out works copy) said memory))
+        by answer.Ended memory m = is_passed why copy refl engines refl g
+        by (answer.Refused x) memory m = refused_by_stop false j (new_txn mode number objects) (stays_out works copy x) x m.can (refused_out true (Some (new_txn mode number objects)) copy x (inr refl) g)
+        by _ memory m = absurd m.can
+
     began_serves : (objects : Schema) (defs : ℕ) → Grows copy objects → defs ≡ length objects
-        → Serves false j (Some (new_txn mode number objects)) (if defs == length copy then next copy number else asks act.Defs (defs_next (λ held. next held number) (fails_defs works copy)))
+        → Serves false j (Some (new_txn mode number objects)) (if defs == length copy then next copy number else asks act.Defs (defs_next (λ held. next held number) (ends_with works copy NoMemory) (fails_defs works copy)))
     began_serves objects defs g many = by (defs == length copy) refl
       where
         same_copy : (defs == length copy) ≡ true → copy ≡ objects
         same_copy e = no_copy copy objects g (sym (eqb-true defs (length copy) e) ∙ many)
 
-        end_failed : (why : EngineRefusal) (said : Answer) → MayCome false (Some (new_txn mode number objects)) act.End said
-            → Proceeds j (Some (new_txn mode number objects)) (event act.End said) (end_next (says (reply.Error (works.tell copy None why) ∷ []) (outside_with copy)) (stays_out works copy) said)
-            (Serves (false || is_stop (event act.End said)) j (next_txn (Some (new_txn mode number objects)) (event act.End said)) (end_next (says (reply.Error (works.tell copy None why) ∷ []) (outside_with copy)) (stays_out works copy) said))
-        end_failed why answer.Ended m = is_passed (works.tell copy None why) copy refl (laws.engines copy None why) refl g
-        end_failed why (answer.Refused x) m = refused_by_stop false j (new_txn mode number objects) (stays_out works copy x) x m.can (refused_out true (Some (new_txn mode number objects)) copy x (inr refl) g)
-        end_failed why _ m = absurd m.can
-
         failed : (b : Bool) (why : EngineRefusal) → is_stop (Fails why) ≡ b → Serves (is_stop (Fails why)) j (Some (new_txn mode number objects)) (fails_defs works copy why)
         failed true why e = subst (λ c. Serves c j (Some (new_txn mode number objects)) (if c then stays_out works copy why else ends_with works copy (works.tell copy None why))) (sym e)
             (refused_out true (Some (new_txn mode number objects)) copy why (inr refl) g)
-        failed false why e = subst (λ c. Serves c j (Some (new_txn mode number objects)) (if c then stays_out works copy why else ends_with works copy (works.tell copy None why))) (sym e) (inr refl, end_failed why)
+        failed false why e = subst (λ c. Serves c j (Some (new_txn mode number objects)) (if c then stays_out works copy why else ends_with works copy (works.tell copy None why))) (sym e) (ends_serve (works.tell copy None why) (laws.engines copy None why) objects g)
 
-        told_all : (said : Answer) → MayCome false (Some (new_txn mode number objects)) act.Defs said
-            → Proceeds j (Some (new_txn mode number objects)) (event act.Defs said) (defs_next (λ held. next held number) (fails_defs works copy) said)
-            (Serves (false || is_stop (event act.Defs said)) j (next_txn (Some (new_txn mode number objects)) (event act.Defs said)) (defs_next (λ held. next held number) (fails_defs works copy) said))
-        told_all (answer.Defs held) m = subst (λ x. Serves false j (Some (new_txn mode number objects)) (next x number)) (sym m.known) (goes objects)
-        told_all (answer.Refused why) m = failed (is_stop (Fails why)) why refl
-        told_all _ m = absurd m.can
+        told_all : (said : Answer) (memory : Bool) → MayCome false (Some (new_txn mode number objects)) act.Defs said
+            → Proceeds j (Some (new_txn mode number objects)) (event act.Defs said) (defs_next (λ held. next held number) (ends_with works copy NoMemory) (fails_defs works copy) said memory)
+            (Serves (false || is_stop (event act.Defs said)) j (next_txn (Some (new_txn mode number objects)) (event act.Defs said)) (defs_next (λ held. next held number) (ends_with works copy NoMemory) (fails_defs works copy) said memory))
+        told_all (answer.Defs held) true m = subst (λ x. Serves false j (Some (new_txn mode number objects)) (next x number)) (sym m.known) (goes objects)
+        told_all (answer.Defs held) false m = ends_serve NoMemory refl objects g
+        told_all (answer.Refused why) memory m = failed (is_stop (Fails why)) why refl
+        told_all _ memory m = absurd m.can
 
         by : (b : Bool) → (defs == length copy) ≡ b
-            → Serves false j (Some (new_txn mode number objects)) (cond b (next copy number) (asks act.Defs (defs_next (λ held. next held number) (fails_defs works copy))))
+            → Serves false j (Some (new_txn mode number objects)) (cond b (next copy number) (asks act.Defs (defs_next (λ held. next held number) (ends_with works copy NoMemory) (fails_defs works copy))))
         by true e = subst (λ x. Serves false j (Some (new_txn mode number objects)) (next x number)) (sym (same_copy e)) (goes objects)
         by false e = (inr tt, told_all)
 
     -- how the program goes on after its first answer
-    abbrev begun_goes : Answer → Todo
-    begun_goes said = begun_next (λ n defs. if defs == length copy then next copy n else asks act.Defs (defs_next (λ held. next held n) (fails_defs works copy))) (stays_out works copy) said
+    abbrev begun_goes : Answer → Bool → Todo
+    begun_goes said memory =
+        begun_next (λ n defs. if defs == length copy then next copy n else asks act.Defs (defs_next (λ held. next held n) (ends_with works copy NoMemory) (fails_defs works copy)))
+        (ends_with works copy NoMemory) (stays_out works copy) said memory
 
     opens_first : (b : Bool) (t : Option Txn) → IsOut b t → Grows copy (objects_of (record { statement = statement; before = None; number = number; copy = copy }) t) → OpensFirst b j t (begins_with works mode copy next)
-    opens_first b t out g = (may b t out, λ said m. by b t out g said m)
+    opens_first b t out g = (may b t out, λ said memory m. by b t out g said memory m)
       where
         may : (b : Bool) (t : Option Txn) → IsOut b t → IsTrue b ⊎ MayWant t (act.Begin mode)
         may b None out = inr tt
         may b (Some t) (inl e) = absurd (cc)
         may b (Some t) (inr e) = inl e
 
-        by : (b : Bool) (t : Option Txn) → IsOut b t → Grows copy (objects_of (record { statement = statement; before = None; number = number; copy = copy }) t) → (said : Answer) → MayCome b t (act.Begin mode) said
-            → BeginsSo j (event (act.Begin mode) said) b t (λ b' t'. Serves b' j t' (begun_goes said))
-        by true t out g (answer.Begun n defs) m = absurd (let e = m.stop refl in cc)
-        by false None out g (answer.Begun n defs) m =
-            λ is objects more many. subst (λ x. Serves false j (Some (new_txn mode x objects)) (begun_goes (answer.Begun x defs))) (sym is) (began_serves objects defs more many)
-        by false (Some t) out g (answer.Begun n defs) m = absurd (open_not false t out (λ e. cc))
-        by b None out g (answer.Refused why) m = refused_out (b || is_stop (Fails why)) None copy why (out_or b (is_stop (Fails why)) None out) g
-        by b (Some t) out g (answer.Refused why) m = refused_out (b || is_stop (Fails why)) (Some t) copy why (out_or b (is_stop (Fails why)) (Some t) out) g
-        by b t out g _ m = absurd m.can
+        by : (b : Bool) (t : Option Txn) → IsOut b t → Grows copy (objects_of (record { statement = statement; before = None; number = number; copy = copy }) t) → (said : Answer) (memory : Bool) → MayCome b t (act.Begin mode) said
+            → BeginsSo j (event (act.Begin mode) said) b t (λ b' t'. Serves b' j t' (begun_goes said memory))
+        by true t out g (answer.Begun n defs) memory m = absurd (let e = m.stop refl in cc)
+        by false None out g (answer.Begun n defs) true m =
+            λ is objects more many. subst (λ x. Serves false j (Some (new_txn mode x objects)) (begun_goes (answer.Begun x defs) true)) (sym is) (began_serves objects defs more many)
+        by false None out g (answer.Begun n defs) false m =
+            λ is objects more many. subst (λ x. Serves false j (Some (new_txn mode x objects)) (begun_goes (answer.Begun x defs) false)) (sym is) (ends_serve NoMemory refl objects more)
+        by false (Some t) out g (answer.Begun n defs) memory m = absurd (open_not false t out (λ e. cc))
+        by b None out g (answer.Refused why) memory m = refused_out (b || is_stop (Fails why)) None copy why (out_or b (is_stop (Fails why)) None out) g
+        by b (Some t) out g (answer.Refused why) memory m = refused_out (b || is_stop (Fails why)) (Some t) copy why (out_or b (is_stop (Fails why)) (Some t) out) g
+        by b t out g _ memory m = absurd m.can
 
   creates_serve : (b : Bool) (t : Option Txn) → IsOut b t → Grows copy (objects_of (record { statement = statement; before = None; number = number; copy = copy }) t) → is_begin statement ≡ false
       → Serves b j t (creates_with works copy statement)
-  creates_serve b t out g nb = (may b t out, λ said m. by b t out g said m)
+  creates_serve b t out g nb = (may b t out, λ said memory m. by b t out g said memory m)
     where
       may : (b : Bool) (t : Option Txn) → IsOut b t → IsTrue b ⊎ MayWant t (act.Schema statement)
       may b None out = inr tt
       may b (Some t) (inl e) = absurd (cc)
       may b (Some t) (inr e) = inl e
 
-      by : (b : Bool) (t : Option Txn) → IsOut b t → Grows copy (objects_of (record { statement = statement; before = None; number = number; copy = copy }) t) → (said : Answer) → MayCome b t (act.Schema statement) said
+      by : (b : Bool) (t : Option Txn) → IsOut b t → Grows copy (objects_of (record { statement = statement; before = None; number = number; copy = copy }) t) → (said : Answer) (memory : Bool) → MayCome b t (act.Schema statement) said
           → Proceeds j t (event (act.Schema statement) said)
-          (schema_next (λ n. says (reply.Done 0 ∷ reply.Commit n ∷ []) (outside_with copy)) (λ why. says (reply.Error why ∷ []) (outside_with copy)) (stays_out works copy) said)
+          (schema_next (λ n. says (reply.Done 0 ∷ reply.Commit n ∷ []) (outside_with copy)) (λ why. says (reply.Error why ∷ []) (outside_with copy)) (stays_out works copy) said memory)
           (Serves (b || is_stop (event (act.Schema statement) said)) j (next_txn t (event (act.Schema statement) said))
-          (schema_next (λ n. says (reply.Done 0 ∷ reply.Commit n ∷ []) (outside_with copy)) (λ why. says (reply.Error why ∷ []) (outside_with copy)) (stays_out works copy) said))
-      by b None out g (answer.Committed n) m = creates n refl nb
-      by b (Some t) out g (answer.Committed n) m = absurd (open_not b t out (λ e. let x = m.stop e in cc))
-      by b None out g (answer.Denied why) m = denies why refl nb
-      by b (Some t) out g (answer.Denied why) m = absurd (open_not b t out (λ e. let x = m.stop e in cc))
-      by b None out g (answer.Refused why) m = refused_out (b || is_stop (Fails why)) None copy why (out_or b (is_stop (Fails why)) None out) g
-      by b (Some t) out g (answer.Refused why) m = refused_out (b || is_stop (Fails why)) (Some t) copy why (out_or b (is_stop (Fails why)) (Some t) out) g
-      by b t out g _ m = absurd m.can
+          (schema_next (λ n. says (reply.Done 0 ∷ reply.Commit n ∷ []) (outside_with copy)) (λ why. says (reply.Error why ∷ []) (outside_with copy)) (stays_out works copy) said memory))
+      by b None out g (answer.Committed n) memory m = creates n refl nb
+      by b (Some t) out g (answer.Committed n) memory m = absurd (open_not b t out (λ e. let x = m.stop e in cc))
+      by b None out g (answer.Denied why) memory m = denies why refl nb
+      by b (Some t) out g (answer.Denied why) memory m = absurd (open_not b t out (λ e. let x = m.stop e in cc))
+      by b None out g (answer.Refused why) memory m = refused_out (b || is_stop (Fails why)) None copy why (out_or b (is_stop (Fails why)) None out) g
+      by b (Some t) out g (answer.Refused why) memory m = refused_out (b || is_stop (Fails why)) (Some t) copy why (out_or b (is_stop (Fails why)) (Some t) out) g
+      by b t out g _ memory m = absurd m.can
 
 -- ---- all statements
 

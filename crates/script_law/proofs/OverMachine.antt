@@ -35,10 +35,10 @@ use Rattle.txn_machine.specs.Ghosts.{the_views}
 use Rattle.txn_machine.specs.Store.{Store, schema_of, now, changes_by, Effect, Defines, run}
 use Rattle.txn_machine.specs.Store as store
 use Rattle.txn_machine.specs.State.{State, opened_state, Stop, stop_after, told_of_stop}
-use Rattle.txn_machine.specs.May.{MayAct, IsOpen, IsCreate, GoesOn}
+use Rattle.txn_machine.specs.May.{MayAct, IsOpen, IsCreate, IsOpenIn}
 use Rattle.txn_machine.specs.Steps.{Says, MayWait, Does, IsTold, Step, Did, Run, NoneIsOpen, CommitsAs, IsDenied, unbound, refused, DefinesIt, number_unchanged}
 use Rattle.txn_machine.specs.Locks.{with_one}
-use Rattle.txn_machine.specs.Alone.{Told, Story, told_after, story_after, Tells, begun_story, IsTrueIn}
+use Rattle.txn_machine.specs.Alone.{Fact, Story, told_after, story_after, Unfolds, begun_story, IsTrueIn}
 use Rattle.txn_machine.specs.Laws.{IsReached, IsReachedStory}
 use Rattle.txn_machine.specs.ViewLaws.{AreSound}
 use Rattle.txn_machine.proofs.Basics.{one_same, one_other}
@@ -62,11 +62,11 @@ use Rattle.script_law.proofs.Leaving.{end_law}
 
 -- ---- stories
 
-tells_more : (story : Story) (ds : List Did) (mid : Story) (d : Did) (s : State) → Tells story ds mid → Step mid.state d.session d.act d.said s → Tells story (ds ++ d ∷ []) (story_after mid d s)
+tells_more : (story : Story) (ds : List Did) (mid : Story) (d : Did) (s : State) → Unfolds story ds mid → Step mid.state d.session d.act d.said s → Unfolds story (ds ++ d ∷ []) (story_after mid d s)
 tells_more story [] mid d s h step = (s, subst (λ (x : Story). Step x.state d.session d.act d.said s) h step, λ k. story_after (h k) d s)
 tells_more story (x ∷ ds) mid d s h step = (h.0, h.1, tells_more (story_after story x h.0) ds mid d s h.2 step)
 
-tells_run : (story : Story) (ds : List Did) (after : Story) → Tells story ds after → Run story.state ds after.state
+tells_run : (story : Story) (ds : List Did) (after : Story) → Unfolds story ds after → Run story.state ds after.state
 tells_run story [] after h = ap (λ (x : Story). x.state) h
 tells_run story (d ∷ ds) after h = (h.0, h.1, tells_run (story_after story d h.0) ds after h.2)
 
@@ -270,7 +270,7 @@ module _ (s : State) (statement : StatementTree) (is_create : IsCreate statement
 
 -- ---- what a step changes
 
-seen_with : Store → (ℕ → List Told) → Visible
+seen_with : Store → (ℕ → List Fact) → Visible
 seen_with s told = record { origin = s.origin; history = s.history; open_of = λ j. option_map (txn_seen (schema_of s) (told j)) (s.open_of j) }
 
 abbrev DefinesNothing : Event → Type 0
@@ -303,7 +303,7 @@ module _ (story : Story) (r : IsReachedStory story) (i : ℕ) where
   abbrev v : Visible
   v = seen_of story
 
-  shown_moves : (e : Event) (l : List Told) (es : List Effect) → DefinesNothing e → Shown story i e l (run the_views s i es)
+  shown_moves : (e : Event) (l : List Fact) (es : List Effect) → DefinesNothing e → Shown story i e l (run the_views s i es)
       → seen_with (run the_views s i es) (with_one story.told i l) ≡ visible_after v i e
   unfolding seen_with
   shown_moves e l es q sh = λ k. record { origin = sh.origin k; history = sh.history k; open_of = λ j. own j k }
@@ -324,7 +324,7 @@ module _ (story : Story) (r : IsReachedStory story) (i : ℕ) where
   none_open_all : NoneIsOpen s → (j : ℕ) → s.open_of j ≡ None
   none_open_all none j = elim (session_or j) [ inl is ↦ none j is | inr n ↦ nobody_open story.state (reached_of story r) j n ]
 
-  made_moves : (statement : StatementTree) (number : ℕ) (es : List Effect) (l : List Told) → IsCreate statement → DefinesIt story.state statement number es
+  made_moves : (statement : StatementTree) (number : ℕ) (es : List Effect) (l : List Fact) → IsCreate statement → DefinesIt story.state statement number es
       → seen_with (run the_views s i es) (with_one story.told i l) ≡ visible_after v i (Creates statement number)
   unfolding seen_with
   made_moves statement number es l is_create h = ap (λ es. seen_with (run the_views s i es) (with_one story.told i l)) h.effects ∙ (λ k. record {

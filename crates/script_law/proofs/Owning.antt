@@ -12,15 +12,15 @@ use Rattle.iv_types.specs.Syntax.{StatementTree}
 use Rattle.iv_meaning.specs.Schema.{Schema}
 use Rattle.iv_meaning.specs.Database.{Database}
 use Rattle.iv_meaning.specs.Transaction.{Transaction, outside, refused_outside}
-use Rattle.iv_meaning.specs.Said.{Said, nothing, too_long, bad, runs, loads, steps, cleans, checkpoints}
-use Rattle.iv_meaning.specs.Serial.{World, Open, Unfinished, none, waits, loaded, latest, base_of, ran, set_open, set_unfinished, commits, Tells as TellsSo, EndsNow, IsRefused, GoesOn, Waits as WaitsSo, refused_by_mode, Takes, Runs, Loads, Steps, Counts, IsPassedOver, OwnPiece, EndsBy}
+use Rattle.iv_meaning.specs.Said.{Said, nothing, too_long, bad, runs, loads, unread, steps, cleans, checkpoints}
+use Rattle.iv_meaning.specs.Serial.{World, Unended, Unfinished, none, waits, loaded, latest, base_of, ran, set_open, set_unfinished, commits, OnlyReplies as TellsSo, EndsNow, IsRefused, StaysUnfinished, PrintsWait as WaitsSo, refused_by_mode, Takes, Runs, Loads, Steps, PrintsCount, IsPassedOver, OwnPiece, EndsBy}
 use Rattle.txn_machine.specs.Acts as act
 use Rattle.txn_machine.specs.Acts.{Act}
 use Rattle.txn_machine.specs.Answers as answer
 use Rattle.txn_machine.specs.Answers.{Answer}
 use Rattle.script_law.specs.Seen.{Event, Fails, Idles, event, Txn, txn_after, Visible, open_after, visible_after, committed, IsTruthful, StepLaws}
 use Rattle.script_law.specs.Programs.{Standing, outside_with, Todo, says, asks, Serves, Starts, Programs, ProgramLaws, Grows, objects_of, with_told}
-use Rattle.script_law.specs.RunLines.{Line, seat_run, seat_stepped, idle, waiting, stepping, held as is_held, Seat, Table, set_seat, Outcome, ended, stuck, stepped, next_of, RunsOn, has_ended, is_blocked, goes_on, Tells, Comes, RunsIt, LoadsIt, RefusedOr, Given, Stepped, Cleaned, cleaned_text, Cleans, cleaned_all, cleaned_one, clean_fails, CleansLine, pruned, prune_fails, SavesLine, saved, save_fails, Own}
+use Rattle.script_law.specs.RunLines.{Line, seat_run, seat_stepped, idle, waiting, stepping, held as is_held, AtTable, Table, set_seat, Outcome, ended, stuck, stepped, next_of, RunsOn, has_ended, is_blocked, goes_on, Tells, Comes, RunsIt, LoadsIt, RefusedOr, Given, Stepped, Cleaned, cleaned_text, Cleans, cleaned_all, cleaned_one, clean_fails, CleansLine, pruned, prune_fails, SavesLine, saved, save_fails, Own}
 use Rattle.script_law.specs.Laws.{AreEngines}
 use Rattle.script_law.proofs.Basics.{IsQuiet, quiet_history, if_same, if_other, base_same, latest_same, outside_ends, inside_goes}
 use Rattle.script_law.proofs.Growing.{same_grows, step_grows}
@@ -50,10 +50,10 @@ module _ {S : Type 0} (view : S → Visible) (Does : S → ℕ → Act → Answe
   pub never_stepped : (i : ℕ) (todo left : Todo) (s after : S) (moved : ℕ) (o : Outcome) → RunsOn Does programs tell i todo s moved o after → o ≡ stepped left → ⊥
   never_stepped i _ left _ _ _ _ (has_ended replies standing s) e = absurd (cc)
   never_stepped i _ left _ _ _ _ (is_blocked todo a s mid said sessions has does x) e = absurd (cc)
-  never_stepped i _ left _ _ _ _ (goes_on todo a s mid after said fewer o has does free more) e = never_stepped i (next_of todo said) left mid after fewer o more e
+  never_stepped i _ left _ _ _ _ (goes_on todo a s mid after said memory fewer o has does free more) e = never_stepped i (next_of todo said memory) left mid after fewer o more e
 
   module _ (i : ℕ) (w : World) (table : Table) (s : S) (stands : Stands s) (h : Agrees w table (view s) (Halts s)) where
-    abbrev the_seat : Seat
+    abbrev the_seat : AtTable
     the_seat = table i
 
     -- nothing changes
@@ -107,7 +107,7 @@ module _ {S : Type 0} (view : S → Visible) (Does : S → ℕ → Act → Answe
     -- `N+`
     came_stepping : (statement : StatementTree) (number : ℕ) (held : Schema) (o : Outcome) (piece : List ℕ) (table' : Table) (s' : S)
         → OnOutcome view Does Stands Halts laws programs tell i w table statement number held o s' → Comes Does programs tell i seat_stepped o table piece table'
-        → Leads (λ after. EndsNow w i statement number piece after ⊎ GoesOn w i reply.Step (loaded statement (Some number)) piece after ⊎ WaitsSo w i (loaded statement (Some number)) piece after) table' s'
+        → Leads (λ after. EndsNow w i statement number piece after ⊎ StaysUnfinished w i reply.Step (loaded statement (Some number)) piece after ⊎ WaitsSo w i (loaded statement (Some number)) piece after) table' s'
     came_stepping statement number held (ended replies standing) piece table' s' x c = (
       x.0,
       (x.1.0, inl (record { replies = replies; told = c.told; ends = x.1.1 }), subst (λ y. Agrees x.1.0 y (view s') (Halts s')) (sym c.seat) x.1.2),
@@ -142,7 +142,7 @@ module _ {S : Type 0} (view : S → Visible) (Does : S → ℕ → Act → Answe
     known_objects stopped statement number copy None e g = same_grows copy
     known_objects stopped statement number copy (Some t) e g = subst (Grows copy) (sym (laws.defined s i t stands e)) g
 
-    starts : (stopped : Bool) (run : Option Open) (standing : Standing) (t : Option Txn) (statement : StatementTree) (number : ℕ) → open_now ≡ t → Between here stopped run standing t
+    starts : (stopped : Bool) (run : Option Unended) (standing : Standing) (t : Option Txn) (statement : StatementTree) (number : ℕ) → open_now ≡ t → Between here stopped run standing t
         → programs.refuses standing statement ≡ None → Starts stopped (job statement run number standing.copy) t (programs.start standing statement)
     starts stopped None standing t statement number now b e =
         subst (λ z. Starts stopped (job statement None number standing.copy) t (programs.start z statement)) (sym b.1)
@@ -151,12 +151,12 @@ module _ {S : Type 0} (view : S → Visible) (Does : S → ℕ → Act → Answe
     starts stopped (Some o) standing None statement number now b e = absurd b
     starts stopped (Some o) standing (Some t) statement number now b e = program_laws.starts_inside stopped o t standing statement number b e
 
-    copy_grows : (stopped : Bool) (run : Option Open) (standing : Standing) (t : Option Txn) → open_now ≡ t → Between here stopped run standing t → Grows standing.copy here
+    copy_grows : (stopped : Bool) (run : Option Unended) (standing : Standing) (t : Option Txn) → open_now ≡ t → Between here stopped run standing t → Grows standing.copy here
     copy_grows stopped None standing t now b = b.2
     copy_grows stopped (Some o) standing None now b = absurd b
     copy_grows stopped (Some o) standing (Some t) now b = subst (Grows standing.copy) (b.copy_is ∙ laws.defined s i t stands now) (same_grows standing.copy)
 
-    mode_refuses : (stopped : Bool) (run : Option Open) (standing : Standing) (t : Option Txn) (statement : StatementTree) → open_now ≡ t → Between here stopped run standing t
+    mode_refuses : (stopped : Bool) (run : Option Unended) (standing : Standing) (t : Option Txn) (statement : StatementTree) → open_now ≡ t → Between here stopped run standing t
         → refused_by_mode w run statement ≡ programs.refuses standing statement
     mode_refuses stopped None standing t statement e b = sym (program_laws.refuses_outside standing.copy statement) ∙ ap (λ z. programs.refuses z statement) (sym b.1)
     mode_refuses stopped (Some o) standing None statement e b = absurd b
@@ -164,7 +164,7 @@ module _ {S : Type 0} (view : S → Visible) (Does : S → ℕ → Act → Answe
         let truth = subst (λ db. IsTruthful db t) (base_same w (view s) o t h.origin h.history b.is.mode_is b.is.number_is) (laws.truth s i t stands e) in
         sym (program_laws.refuses_inside standing o.mode (ran w o).1.saved statement b.mode_is (b.names (base_of w o) truth))
 
-    reseat : (stopped : Bool) → (IsTrue stopped → Halts s) → (run : Option Open) (standing : Standing) (t : Option Txn) → open_now ≡ t → the_seat.standing ≡ standing → the_seat.line ≡ idle → w.unfinished i ≡ none → Between here stopped run standing t
+    reseat : (stopped : Bool) → (IsTrue stopped → Halts s) → (run : Option Unended) (standing : Standing) (t : Option Txn) → open_now ≡ t → the_seat.standing ≡ standing → the_seat.line ≡ idle → w.unfinished i ≡ none → Between here stopped run standing t
         → Agrees (set_open w i run) table (view s) (Halts s)
     reseat stopped known run standing t et es el eu b = record {
       origin = h.origin;
@@ -176,7 +176,7 @@ module _ {S : Type 0} (view : S → Visible) (Does : S → ℕ → Act → Answe
     }
 
     -- it is refused by mode and savepoints
-    refused : (stopped : Bool) → (IsTrue stopped → Halts s) → (run : Option Open) (standing : Standing) (t : Option Txn) (statement : StatementTree) (why : Refusal) (piece : List ℕ) (table' : Table) (s' : S)
+    refused : (stopped : Bool) → (IsTrue stopped → Halts s) → (run : Option Unended) (standing : Standing) (t : Option Txn) (statement : StatementTree) (why : Refusal) (piece : List ℕ) (table' : Table) (s' : S)
         → w.running i ≡ run → open_now ≡ t → the_seat.standing ≡ standing → the_seat.line ≡ idle → w.unfinished i ≡ none → Between here stopped run standing t → programs.refuses standing statement ≡ Some why
         → Tells Does programs tell i (reply.Error why) table s piece table' s' → Leads (IsRefused w i statement why piece) table' s'
     refused stopped known None standing t statement why piece table' s' er et es el eu b e x =
@@ -199,7 +199,7 @@ module _ {S : Type 0} (view : S → Visible) (Does : S → ℕ → Act → Answe
         )
     refused stopped known (Some o) standing None statement why piece table' s' er et es el eu b e x = absurd b
     refused stopped known (Some o) standing (Some t) statement why piece table' s' er et es el eu b e x =
-        let other : Open = with_told o statement (reply.Error why ∷ []) in
+        let other : Unended = with_told o statement (reply.Error why ∷ []) in
         let at = refused_at stopped o t standing statement why b (λ saved is. sym (program_laws.refuses_inside standing o.mode saved statement b.mode_is is) ∙ e) in
         let goes = refused_goes o.mode (ran w o).1.saved statement why (mode_refuses stopped (Some o) standing (Some t) statement et b ∙ e) in
         subst (λ x. x) (λ k. Leads (IsRefused w i statement why piece) (sym x.table_left k) (sym x.left k)) (
@@ -236,16 +236,11 @@ module _ {S : Type 0} (view : S → Visible) (Does : S → ℕ → Act → Answe
     takes (loaded st (Some n)) standing (is_held todo) read eu es el stopped known a Goes It piece table' s' go g = tells i (reply.Error refusal.SessionWaiting) piece table' s' g
     takes _ standing _ read eu es el stopped known a Goes It piece table' s' go g = absurd a
 
-    also : (P Q : World → Type 0) (table' : Table) (s' : S) → ((after : World) → P after → Q after) → Leads P table' s' → Leads Q table' s'
-    also P Q table' s' f x = (x.0, (x.1.0, f x.1.0 x.1.1, x.1.2))
-
     now_number : (latest w).number ≡ (committed (view s)).number
     now_number = ap (λ (db : Database). db.number) (sym (latest_same w (view s) h.origin h.history))
 
     pub own_runs : (read : Result StatementTree Refusal) (piece : List ℕ) (table' : Table) (s' : S) → Own Does programs tell (runs i read) table s piece table' s' → Leads (OwnPiece (runs i read) w piece) table' s'
-    own_runs read piece table' s' (inr x) = also (TellsSo w i (reply.Error refusal.NoMemory) piece) (OwnPiece (runs i read) w piece) table' s' (λ after y. inr y) (tells i (reply.Error refusal.NoMemory) piece table' s' x)
-    own_runs read piece table' s' (inl g) = also (Takes w i (w.unfinished i) read (Runs w i) piece) (OwnPiece (runs i read) w piece) table' s' (λ after y. inl y)
-        (takes (w.unfinished i) the_seat.standing the_seat.line read refl refl refl (h.seats i).0 (h.seats i).1 (h.seats i).2 (Runs w i) (RunsIt Does programs tell i) piece table' s' go g)
+    own_runs read piece table' s' g = (takes (w.unfinished i) the_seat.standing the_seat.line read refl refl refl (h.seats i).0 (h.seats i).1 (h.seats i).2 (Runs w i) (RunsIt Does programs tell i) piece table' s' go g)
       where
         go : (statement : StatementTree) → Between here (h.seats i).0 (w.running i) the_seat.standing open_now → programs.refuses the_seat.standing statement ≡ None
             → RunsIt Does programs tell i statement the_seat.standing table s piece table' s' → Leads (Runs w i statement piece) table' s'
@@ -265,9 +260,7 @@ module _ {S : Type 0} (view : S → Visible) (Does : S → ℕ → Act → Answe
             }) x.2) x.3
 
     pub own_loads : (read : Result StatementTree Refusal) (piece : List ℕ) (table' : Table) (s' : S) → Own Does programs tell (loads i read) table s piece table' s' → Leads (OwnPiece (loads i read) w piece) table' s'
-    own_loads read piece table' s' (inr x) = also (TellsSo w i (reply.Error refusal.NoMemory) piece) (OwnPiece (loads i read) w piece) table' s' (λ after y. inr y) (tells i (reply.Error refusal.NoMemory) piece table' s' x)
-    own_loads read piece table' s' (inl g) = also (Takes w i (w.unfinished i) read (Loads w i) piece) (OwnPiece (loads i read) w piece) table' s' (λ after y. inl y)
-        (takes (w.unfinished i) the_seat.standing the_seat.line read refl refl refl (h.seats i).0 (h.seats i).1 (h.seats i).2 (Loads w i) (LoadsIt Does programs tell i) piece table' s' go g)
+    own_loads read piece table' s' g = (takes (w.unfinished i) the_seat.standing the_seat.line read refl refl refl (h.seats i).0 (h.seats i).1 (h.seats i).2 (Loads w i) (LoadsIt Does programs tell i) piece table' s' go g)
       where
         go : (statement : StatementTree) → Between here (h.seats i).0 (w.running i) the_seat.standing open_now → programs.refuses the_seat.standing statement ≡ None
             → LoadsIt Does programs tell i statement the_seat.standing table s piece table' s' → Leads (Loads w i statement piece) table' s'
@@ -356,7 +349,7 @@ module _ {S : Type 0} (view : S → Visible) (Does : S → ℕ → Act → Answe
   -- `clean` prints a count or a refusal, and all agree on the same
   abbrev CleansSo : World → Table → Cleaned → S → Type 0
   CleansSo w table end s' =
-      (Counts w (codes "CLEAN") (λ k. Unit {0}) (cleaned_text Does programs tell end) w ⊎ IsPassedOver w (cleaned_text Does programs tell end) w) × Stands s' × Agrees w table (view s') (Halts s')
+      (PrintsCount w (codes "CLEAN") (λ k. Unit {0}) (cleaned_text Does programs tell end) w ⊎ IsPassedOver w (cleaned_text Does programs tell end) w) × Stands s' × Agrees w table (view s') (Halts s')
 
   pub cleaned : (w : World) (table : Table) (removed : ℕ) (s : S) (end : Cleaned) (s' : S) → Stands s → Agrees w table (view s) (Halts s) → Cleans Does programs tell removed s end s' → CleansSo w table end s'
   cleaned w table _ _ _ _ stands h (cleaned_all removed s after does) =
@@ -378,7 +371,7 @@ module _ {S : Type 0} (view : S → Visible) (Does : S → ℕ → Act → Answe
       (inr (record { why = tell why; engines = engines why; tells = record { told = refl; left = refl } }), x.0, x.1)
 
   pub saved_line : (w : World) (table : Table) (s : S) (piece : List ℕ) (s' : S) → Stands s → Agrees w table (view s) (Halts s) → SavesLine Does programs tell s piece s'
-      → (Counts w (codes "CHECKPOINT") (λ n. n ≡ (latest w).number) piece w ⊎ IsPassedOver w piece w) × Stands s' × Agrees w table (view s') (Halts s')
+      → (PrintsCount w (codes "CHECKPOINT") (λ n. n ≡ (latest w).number) piece w ⊎ IsPassedOver w piece w) × Stands s' × Agrees w table (view s') (Halts s')
   saved_line w table _ _ _ stands h (saved s after number does) =
       let x = idle_step w table s after act.Checkpoint (answer.Saved number) stands h does (idles refl) in
       (inl (record { count = number; told = refl; right = laws.saves s after 0 number stands does ∙ ap (λ (db : Database). db.number) (latest_same w (view s) h.origin h.history); left = refl }), x.0, x.1)
@@ -393,10 +386,11 @@ module _ {S : Type 0} (view : S → Visible) (Does : S → ℕ → Act → Answe
   own bad w table s stands h piece table' s' x = tells 0 w table s stands h 0 (reply.Error refusal.BadLine) piece table' s' x
   own (runs i read) w table s stands h piece table' s' x = own_runs i w table s stands h read piece table' s' x
   own (loads i read) w table s stands h piece table' s' x = own_loads i w table s stands h read piece table' s' x
+  own (unread i) w table s stands h piece table' s' x = tells i w table s stands h i (reply.Error refusal.NoMemory) piece table' s' x
   own (steps i) w table s stands h piece table' s' x = own_steps i w table s stands h piece table' s' x
   own cleans w table s stands h piece table' s' x =
       let y = cleaned_line w table s x.1.0 s' stands h x.1.2 in
-      (y.1, (w, subst (λ l. Counts w (codes "CLEAN") (λ k. Unit {0}) l w ⊎ IsPassedOver w l w) (sym x.1.1) y.0, subst (λ z. Agrees w z (view s') (Halts s')) (sym x.0) y.2))
+      (y.1, (w, subst (λ l. PrintsCount w (codes "CLEAN") (λ k. Unit {0}) l w ⊎ IsPassedOver w l w) (sym x.1.1) y.0, subst (λ z. Agrees w z (view s') (Halts s')) (sym x.0) y.2))
   own checkpoints w table s stands h piece table' s' x =
       let y = saved_line w table s piece s' stands h x.1 in
       (y.1, (w, y.0, subst (λ z. Agrees w z (view s') (Halts s')) (sym x.0) y.2))

@@ -10,8 +10,8 @@ use Rattle.iv_types.specs.declared.statement.Mode.TheVariants.{Snapshot}
 use Rattle.iv_types.specs.Syntax.{StatementTree, begin, commit, rollback}
 use Rattle.iv_meaning.specs.Database.{Database}
 use Rattle.iv_meaning.specs.Statement.{Refused}
-use Rattle.iv_meaning.specs.Transaction.{Saved, Running, Told, outside, inside, alone_from, ended_by, refused_with, refused_outside, refused_inside, accepted, means}
-use Rattle.iv_meaning.specs.Serial.{Open}
+use Rattle.iv_meaning.specs.Transaction.{Saved, Running, Response, outside, inside, alone_from, ended_by, refused_with, refused_outside, refused_inside, accepted, means}
+use Rattle.iv_meaning.specs.Serial.{Unended}
 use Rattle.script_law.specs.Seen.{Txn, IsTruthful, IsReadyIn}
 use Rattle.script_law.specs.Programs.{Standing, AreMarks, Fits, IsOf, IsAt, lone, names_of, marked_names, with_told, stays_inside, is_begin}
 
@@ -36,7 +36,7 @@ pub inside_accepted : (mode : Mode) (statement : StatementTree) (r : Running) �
 inside_accepted mode statement r e = λ k. elim (e k) [ Some refusal ↦ refused_with refusal r | None ↦ accepted statement r ]
 
 -- a statement that is told so alone, and leaves this
-pub told_as : (stopped : Bool) (o : Open) (t : Txn) (standing : Standing) (statement : StatementTree) (replies : List Reply) (left : Database → Running) → IsOf o t
+pub told_as : (stopped : Bool) (o : Unended) (t : Txn) (standing : Standing) (statement : StatementTree) (replies : List Reply) (left : Database → Running) → IsOf o t
     → standing.mode ≡ Some o.mode → standing.copy ≡ t.objects
     → ((db : Database) → IsTruthful db t → inside o.mode statement (lone o db).1 ≡ record { replies = replies; after = left db })
     → ((db : Database) → IsTruthful db t → names_of (left db).saved ≡ marked_names standing.saved)
@@ -69,16 +69,16 @@ told_as stopped o t standing statement replies left is in_mode copy now names fi
 
     same : (db : Database) → IsTruthful db t → (lone (with_told o statement replies) db).1 ≡ left db
     same db truth = ap (λ l. (alone_from o.mode l (start db)).1) (map_more (λ (p : StatementTree × List Reply). p.0) o.told (statement, replies))
-        ∙ (alone_more o.mode before statement (start db)).1 ∙ ap (λ (x : Told). x.after) (now db truth)
+        ∙ (alone_more o.mode before statement (start db)).1 ∙ ap (λ (x : Response). x.after) (now db truth)
 
 -- a statement that leaves the transaction as it was
-pub told_at : (stopped : Bool) (o : Open) (t : Txn) (standing : Standing) (statement : StatementTree) (replies : List Reply) → IsAt stopped o t standing
+pub told_at : (stopped : Bool) (o : Unended) (t : Txn) (standing : Standing) (statement : StatementTree) (replies : List Reply) → IsAt stopped o t standing
     → ((db : Database) → IsTruthful db t → inside o.mode statement (lone o db).1 ≡ record { replies = replies; after = (lone o db).1 })
     → IsAt stopped (with_told o statement replies) t standing
 told_at stopped o t standing statement replies at now = told_as stopped o t standing statement replies (λ db. (lone o db).1) at.is at.mode_is at.copy_is now at.names at.fits at.counts at.marks at.ready at.snapshot
 
 -- a statement that the mode refuses is told so, and leaves the transaction
-pub refused_at : (stopped : Bool) (o : Open) (t : Txn) (standing : Standing) (statement : StatementTree) (why : Refusal) → IsAt stopped o t standing
+pub refused_at : (stopped : Bool) (o : Unended) (t : Txn) (standing : Standing) (statement : StatementTree) (why : Refusal) → IsAt stopped o t standing
     → ((saved : List Saved) → names_of saved ≡ marked_names standing.saved → refused_inside o.mode saved statement ≡ Some why)
     → IsAt stopped (with_told o statement (reply.Error why ∷ [])) t standing
 refused_at stopped o t standing statement why at refused = told_at stopped o t standing statement (reply.Error why ∷ []) at

@@ -5,7 +5,7 @@ use mathlib.Core.Logic.{inl}
 use Rattle.iv_types.specs.declared.statement.Mode.{Mode}
 use Rattle.iv_types.specs.declared.refusal.Refusal.{Refusal}
 use Rattle.iv_types.specs.Syntax.{StatementTree}
-use Rattle.iv_meaning.specs.Serial.{Open}
+use Rattle.iv_meaning.specs.Serial.{Unended}
 use Rattle.iv_meaning.specs.Transaction.{Saved, refused_inside, refused_outside}
 use Rattle.script_law.specs.Seen.{Txn}
 use Rattle.script_law.specs.Programs.{Standing, Todo, Job, IsAt, Starts, ProgramLaws, names_of, marked_names}
@@ -23,7 +23,7 @@ module _ (works : Works) (laws : WorkLaws works) where
   starts_by : (standing : Standing) (mode : Mode) (statement : StatementTree) → standing.mode ≡ Some mode → (programs_of works).start standing statement ≡ start_inside works mode standing statement
   starts_by standing mode statement e = λ k. elim (e k) [ None ↦ start_outside works standing.copy statement | Some m ↦ start_inside works m standing statement ]
 
-  inside : (b : Bool) (o : Open) (t : Txn) (standing : Standing) (statement : StatementTree) (number : ℕ) → IsAt b o t standing → (programs_of works).refuses standing statement ≡ None
+  inside : (b : Bool) (o : Unended) (t : Txn) (standing : Standing) (statement : StatementTree) (number : ℕ) → IsAt b o t standing → (programs_of works).refuses standing statement ≡ None
       → Starts b (record { statement = statement; before = Some o; number = number; copy = standing.copy }) (Some t) ((programs_of works).start standing statement)
   inside b o t standing statement number at e =
       subst (Starts b (record { statement = statement; before = Some o; number = number; copy = standing.copy }) (Some t)) (sym (starts_by standing o.mode statement at.mode_is))

@@ -32,7 +32,7 @@ use Rattle.txn_machine.specs.Store as store
 use Rattle.txn_machine.specs.State.{State}
 use Rattle.txn_machine.specs.May.{MayAct}
 use Rattle.txn_machine.specs.Steps.{Says, MayWait, asked, note_of, CommitsAs}
-use Rattle.txn_machine.specs.Alone.{Told, Found, WasThere, TookBack, Story, told_after, told_of_undo}
+use Rattle.txn_machine.specs.Alone.{Fact, Found, WasThere, TookBack, Story, told_after, told_of_undo}
 use Rattle.txn_machine.proofs.Basics.{one_same}
 use Rattle.txn_machine.proofs.Stepping.{now_is, now_locked}
 use Rattle.txn_machine.proofs.Looking.{view_laws}
@@ -69,7 +69,7 @@ in_order_is (c ∷ cs) = ap (λ l. l ++ sets c ∷ []) (in_order_is cs) ∙ sym 
 pub kept_is : (ks : List KeptStep) → in_order (changes (kept_seen ks)) ≡ entry_changes ks
 kept_is ks = ap in_order (changes_seen ks) ∙ in_order_is (changes_of ks)
 
-back_seen : (ks : List KeptStep) (told : List Told) → taken_back (kept_seen ks) told ≡ told_of_undo ks told
+back_seen : (ks : List KeptStep) (told : List Fact) → taken_back (kept_seen ks) told ≡ told_of_undo ks told
 back_seen [] told = refl
 back_seen (Put c ds ∷ ks) told = ap (λ l. TookBack (c ∷ l) ∷ told) (changes_seen ks)
 back_seen (Pay d ∷ ks) told = refl
@@ -154,17 +154,17 @@ module _ (story : Story) (i : ℕ) where
   abbrev v : Visible
   v = seen_of story
 
-  abbrev told : List Told
+  abbrev told : List Fact
   told = story.told i
 
   abbrev objects : Schema
   objects = schema_of s
 
   -- the session's transaction as it is seen
-  abbrev pub own : List Told → Store → Option Txn
+  abbrev pub own : List Fact → Store → Option Txn
   own l after = option_map (txn_seen objects l) (after.open_of i)
 
-  pub record Shown (e : Event) (l : List Told) (after : Store) : Type 0 where
+  pub record Shown (e : Event) (l : List Fact) (after : Store) : Type 0 where
     pub origin : after.origin ≡ s.origin
     pub history : after.history ≡ history_after v i e
     pub own_is : own l after ≡ open_after v (own told s) e
@@ -185,7 +185,7 @@ module _ (story : Story) (i : ℕ) where
     abbrev locked : List Want → Store
     locked wants = does the_views s i (Takes wants)
 
-    takes_own : (wants : List Want) (l : List Told) → own l (does the_views s i (Takes wants)) ≡ Some (txn_seen objects l (now s i))
+    takes_own : (wants : List Want) (l : List Fact) → own l (does the_views s i (Takes wants)) ≡ Some (txn_seen objects l (now s i))
     takes_own wants l = ap (option_map (txn_seen objects l)) (one_same s.open_of i (Some (record (now s i) { locks = wants ++ (now s i).locks })) i refl)
 
     loses_own : own told (does the_views s i Loses) ≡ own told s
@@ -202,7 +202,7 @@ module _ (story : Story) (i : ℕ) where
           ∙ sym (ap (λ x. open_after v x (Finds number interval rows)) the_own);
     }
       where
-        l : List Told
+        l : List Fact
         l = Found number interval rows (changes_by s i) ∷ told
 
     pub finds_then : (number : ℕ) (interval : _) (rows : List Row) → Shown (FindsThen number interval rows) (Found number interval rows [] ∷ told) s
@@ -233,7 +233,7 @@ module _ (story : Story) (i : ℕ) where
           ∙ sym (ap (λ x. open_after v x (Changes place new before many)) the_own);
     }
       where
-        l : List Told
+        l : List Fact
         l = WasThere place new before (changes_by s i) ∷ told
 
     pub pays : (wants : List Want) (first : GroupDelta) (others : List GroupDelta) → (now s i).owed ≡ first ∷ others → Shown Pays told (run the_views s i (Takes wants ∷ PaysEffect ∷ []))

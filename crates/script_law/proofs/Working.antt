@@ -11,6 +11,7 @@ use Rattle.iv_types.specs.declared.lock.GroupDelta.{GroupDelta}
 use Rattle.iv_types.specs.declared.value.Interval.{Interval}
 use Rattle.iv_types.specs.declared.lock.LockMode.{LockMode}
 use Rattle.iv_types.specs.declared.refusal.Refusal.{Refusal}
+use Rattle.iv_types.specs.declared.refusal.Refusal.TheVariants.{NoMemory}
 use Rattle.iv_types.specs.declared.refusal.EngineRefusal.{EngineRefusal}
 use Rattle.iv_types.specs.declared.refusal.EngineRefusal.TheVariants as refusal
 use Rattle.table_laws.specs.Kept.{redo}
@@ -24,11 +25,11 @@ use Rattle.txn_machine.specs.Acts.{Act}
 use Rattle.txn_machine.specs.Answers as answer
 use Rattle.txn_machine.specs.Answers.{Answer}
 use Rattle.txn_machine.specs.Deltas.{RowChange}
-use Rattle.txn_machine.specs.Alone.{Told, Found, WasThere, with_changes}
+use Rattle.txn_machine.specs.Alone.{Fact, Found, WasThere, with_changes}
 use Rattle.script_law.specs.Seen.{Event, Fails, event, is_stop, is_deadlock_event, Txn, taken_back, but_latest, owed_again, is_pay, changes, in_order, IsTruthful, txn_after, Changes, Pays}
 use Rattle.script_law.specs.Programs.{Standing, Todo, says, asks, Job, EndsInChange, AreWhole, Serves, MayCome, Proceeds, next_txn}
 use Rattle.script_law.specs.Works.{Work, done, refuses, fetches, puts, alone_on, OnlyReads, Works, WorkLaws}
-use Rattle.script_law.specs.Sessions.{Frame, reads_by, undo, failed, pays, runs, by_refusal, undo_next, rows_next, paid_next, changed_next}
+use Rattle.script_law.specs.Sessions.{Frame, reads_by, undo, failed, pays, pay_failed, runs, by_refusal, undo_next, rows_next, paid_next, changed_next}
 use Rattle.script_law.proofs.Changing.{changes_append, redo_append, with_more}
 
 -- ---- how a transaction stands since another
@@ -144,11 +145,12 @@ module _ (j : Job) (works : Works) where
   )
     where
       by : Serves false j (Some (record t { told = taken_back t.kept t.told; kept = but_latest t.kept; owed = owed_again t.kept t.owed; is_back = is_pay t.kept })) (undo works n next fail)
-          → (said : Answer) → MayCome false (Some t) act.UndoOne said
-          → Proceeds j (Some t) (event act.UndoOne said) (undo_next (undo works n next fail) fail said) (Serves (false || is_stop (event act.UndoOne said)) j (next_txn (Some t) (event act.UndoOne said)) (undo_next (undo works n next fail) fail said))
-      by rest (answer.Undone left) m = rest
-      by rest (answer.Refused why) m = subst (λ b. Serves b j (Some t) (fail why)) (sym m.can) (stops t (k ∷ later) (suc n) why h m.can)
-      by rest _ m = absurd m.can
+          → (said : Answer) (memory : Bool) → MayCome false (Some t) act.UndoOne said
+          → Proceeds j (Some t) (event act.UndoOne said) (undo_next (undo works n next fail) fail said memory)
+          (Serves (false || is_stop (event act.UndoOne said)) j (next_txn (Some t) (event act.UndoOne said)) (undo_next (undo works n next fail) fail said memory))
+      by rest (answer.Undone left) memory m = rest
+      by rest (answer.Refused why) memory m = subst (λ b. Serves b j (Some t) (fail why)) (sym m.can) (stops t (k ∷ later) (suc n) why h m.can)
+      by rest _ memory m = absurd m.can
 
   -- ---- works
 
@@ -185,6 +187,16 @@ module _ (j : Job) (works : Works) where
           by false true stop dead = fs.loses t later n (works.tell copy delta why) h (works_laws.engines copy delta why) (works_laws.deadlocks copy delta why ∙ dead)
           by false false stop dead = fs.passes t later n (works.tell copy delta why) h so (works_laws.engines copy delta why) (works_laws.deadlocks copy delta why ∙ dead)
 
+      -- for want of memory it is taken back
+      lacks_serves : (t : Txn) (later : List (Option RowChange)) (n : ℕ) → Since first t later n → Settles later t → Serves false j (Some t) (frame.back n NoMemory)
+      lacks_serves t later n h so = fs.passes t later n NoMemory h so refl refl
+
+      pay_fails : (t : Txn) (later : List (Option RowChange)) (n : ℕ) (d : GroupDelta) (memory : Bool) (why : EngineRefusal) → Since first t later n → Settles later t
+          → Serves (is_stop (Fails why)) j (Some t) (pay_failed works copy mode frame n d memory why)
+      pay_fails t later n d false (refusal.Escrow column inf sup) h so = lacks_serves t later n h so
+      pay_fails t later n d true why h so = fails_serves t later n (Some d) why h so
+      pay_fails t later n d memory why h so = fails_serves t later n (Some d) why h so
+
       -- a pay more
       since_pay : (t : Txn) (later : List (Option RowChange)) (n : ℕ) → Since first t later n → Since first (record t { kept = None ∷ t.kept; owed = t.owed - 1 }) (None ∷ later) (n + 1)
       since_pay t later n h = record {
@@ -208,14 +220,17 @@ module _ (j : Job) (works : Works) where
             (λ t' later' n' h' ends' none same truth. goes t' later' n' h' ends' none same (λ db all. let x = truth db all in record { sound = x.sound; schema = x.schema; told = x.told }))),
       )
         where
-          by : Serves false j (Some (record t { kept = None ∷ t.kept; owed = t.owed - 1 })) (pays works copy mode frame ds next (n + 1)) → (said : Answer) → MayCome false (Some t) act.Pay said
-              → Proceeds j (Some t) (event act.Pay said) (paid_next (pays works copy mode frame ds next (n + 1)) (failed works copy mode frame n (Some d)) said)
-              (Serves (false || is_stop (event act.Pay said)) j (next_txn (Some t) (event act.Pay said)) (paid_next (pays works copy mode frame ds next (n + 1)) (failed works copy mode frame n (Some d)) said))
-          by rest (answer.Paid left) m = rest
-          by rest (answer.Refused why) m = fails_serves t later n (Some d) why h (settled_by later t ends)
-          by rest (answer.Blocked sessions) m = tt
-          by rest answer.NeedsGhost m = tt
-          by rest _ m = absurd m.can
+          by : Serves false j (Some (record t { kept = None ∷ t.kept; owed = t.owed - 1 })) (pays works copy mode frame ds next (n + 1)) → (said : Answer) (memory : Bool) → MayCome false (Some t) act.Pay said
+              → Proceeds j (Some t) (event act.Pay said) (paid_next (pays works copy mode frame ds next (n + 1)) (frame.back (n + 1) NoMemory) (pay_failed works copy mode frame n d) said memory)
+              (Serves (false || is_stop (event act.Pay said)) j (next_txn (Some t) (event act.Pay said))
+              (paid_next (pays works copy mode frame ds next (n + 1)) (frame.back (n + 1) NoMemory) (pay_failed works copy mode frame n d) said memory))
+          by rest (answer.Paid left) true m = rest
+          by rest (answer.Paid left) false m =
+              lacks_serves (record t { kept = None ∷ t.kept; owed = t.owed - 1 }) (None ∷ later) (n + 1) (since_pay t later n h) (settled_by (None ∷ later) (record t { kept = None ∷ t.kept; owed = t.owed - 1 }) (settles_pay later ends))
+          by rest (answer.Refused why) memory m = pay_fails t later n d memory why h (settled_by later t ends)
+          by rest (answer.Blocked sessions) memory m = tt
+          by rest answer.NeedsGhost memory m = tt
+          by rest _ memory m = absurd m.can
 
       -- so far the work has come
       pub record Point (w : Work) (t : Txn) (later : List (Option RowChange)) (n : ℕ) : Type 0 where
@@ -225,7 +240,7 @@ module _ (j : Job) (works : Works) where
         pub leads : (db : Database) → IsTruthful db t → alone_on whole (begun_on first db) [] ≡ alone_on w (begun_on first db) (changes later)
         pub reads : first.mode ≡ Snapshot → OnlyReads w × (later ≡ []) × (first.kept ≡ [])
 
-      found_since : (t : Txn) (later : List (Option RowChange)) (n : ℕ) (x : Told) → Since first t later n → Since first (record t { told = x ∷ t.told }) later n
+      found_since : (t : Txn) (later : List (Option RowChange)) (n : ℕ) (x : Fact) → Since first t later n → Since first (record t { told = x ∷ t.told }) later n
       found_since t later n x h = record {
         kept_is = h.kept_is;
         count_is = h.count_is;
@@ -235,7 +250,7 @@ module _ (j : Job) (works : Works) where
         back = λ db all. h.back db (record { sound = all.sound; schema = all.schema; told = all.told.1 });
       }
 
-      found_settles : (later : List (Option RowChange)) (t : Txn) (x : Told) → Settles later t → Settles later (record t { told = x ∷ t.told })
+      found_settles : (later : List (Option RowChange)) (t : Txn) (x : Fact) → Settles later t → Settles later (record t { told = x ∷ t.told })
       found_settles [] t x h = h
       found_settles (k ∷ ks) t x h = h
 
@@ -318,24 +333,28 @@ module _ (j : Job) (works : Works) where
           by_mode : (m : Mode) → mode ≡ m
               → ((rows : List Row) (cs : List RowChange) → ((db : Database) → with_changes cs db ≡ with_changes (changes later) (begun_on first db))
               → Serves false j (Some (record t { told = Found index interval rows cs ∷ t.told })) (runs works copy mode frame (f rows) n))
-              → Serves false j (Some t) (asks (reads_by m index interval lock) (rows_next (λ rows. runs works copy mode frame (f rows) n) (failed works copy mode frame n None)))
+              → Serves false j (Some t) (asks (reads_by m index interval lock) (rows_next (λ rows. runs works copy mode frame (f rows) n) (frame.back n NoMemory) (failed works copy mode frame n None)))
           by_mode Serial e rest = (inr (record { mode_is = serial_by t later n p.since e; owes_nothing = p.ready }), by)
             where
-              by : (said : Answer) → MayCome false (Some t) (act.Fetch index interval lock) said
-                  → Proceeds j (Some t) (event (act.Fetch index interval lock) said) (rows_next (λ rows. runs works copy mode frame (f rows) n) (failed works copy mode frame n None) said)
-                  (Serves (false || is_stop (event (act.Fetch index interval lock) said)) j (next_txn (Some t) (event (act.Fetch index interval lock) said)) (rows_next (λ rows. runs works copy mode frame (f rows) n) (failed works copy mode frame n None) said))
-              by (answer.Rows rows) m = rest rows (changes t.kept) (λ db. on_way t later n db p.since)
-              by (answer.Refused why) m = fails_serves t later n None why p.since p.settles
-              by (answer.Blocked sessions) m = tt
-              by _ m = absurd m.can
+              by : (said : Answer) (memory : Bool) → MayCome false (Some t) (act.Fetch index interval lock) said
+                  → Proceeds j (Some t) (event (act.Fetch index interval lock) said) (rows_next (λ rows. runs works copy mode frame (f rows) n) (frame.back n NoMemory) (failed works copy mode frame n None) said memory)
+                  (Serves (false || is_stop (event (act.Fetch index interval lock) said)) j (next_txn (Some t) (event (act.Fetch index interval lock) said)) (rows_next (λ rows. runs works copy mode frame (f rows) n) (frame.back n NoMemory) (failed works copy mode frame n None) said memory))
+              by (answer.Rows rows) true m = rest rows (changes t.kept) (λ db. on_way t later n db p.since)
+              by (answer.Rows rows) false m =
+                  lacks_serves (record t { told = Found index interval rows (changes t.kept) ∷ t.told }) later n (found_since t later n (Found index interval rows (changes t.kept)) p.since) (found_settles later t (Found index interval rows (changes t.kept)) p.settles)
+              by (answer.Refused why) memory m = fails_serves t later n None why p.since p.settles
+              by (answer.Blocked sessions) memory m = tt
+              by _ memory m = absurd m.can
           by_mode Snapshot e rest = (inr (record { mode_is = p.since.mode_is ∙ mode_is ∙ e; owes_nothing = p.ready }), by)
             where
-              by : (said : Answer) → MayCome false (Some t) (act.Peek index interval) said
-                  → Proceeds j (Some t) (event (act.Peek index interval) said) (rows_next (λ rows. runs works copy mode frame (f rows) n) (failed works copy mode frame n None) said)
-                  (Serves (false || is_stop (event (act.Peek index interval) said)) j (next_txn (Some t) (event (act.Peek index interval) said)) (rows_next (λ rows. runs works copy mode frame (f rows) n) (failed works copy mode frame n None) said))
-              by (answer.Rows rows) m = let x = p.reads (mode_is ∙ e) in rest rows [] (λ db. none_changed t later db x.1 x.2)
-              by (answer.Refused why) m = fails_serves t later n None why p.since p.settles
-              by _ m = absurd m.can
+              by : (said : Answer) (memory : Bool) → MayCome false (Some t) (act.Peek index interval) said
+                  → Proceeds j (Some t) (event (act.Peek index interval) said) (rows_next (λ rows. runs works copy mode frame (f rows) n) (frame.back n NoMemory) (failed works copy mode frame n None) said memory)
+                  (Serves (false || is_stop (event (act.Peek index interval) said)) j (next_txn (Some t) (event (act.Peek index interval) said)) (rows_next (λ rows. runs works copy mode frame (f rows) n) (frame.back n NoMemory) (failed works copy mode frame n None) said memory))
+              by (answer.Rows rows) true m = let x = p.reads (mode_is ∙ e) in rest rows [] (λ db. none_changed t later db x.1 x.2)
+              by (answer.Rows rows) false m =
+                  lacks_serves (record t { told = Found index interval rows [] ∷ t.told }) later n (found_since t later n (Found index interval rows []) p.since) (found_settles later t (Found index interval rows []) p.settles)
+              by (answer.Refused why) memory m = fails_serves t later n None why p.since p.settles
+              by _ memory m = absurd m.can
       runs_serves (puts table key new f) n t later p = (
         inr (record { mode_is = serial_now table key new f t later n p; owes_nothing = p.ready }),
         by (λ before owed. pays_serves owed (λ m. runs works copy mode frame (f before) m) (n + 1) _ _ (put_since table key new t later n before (length owed) p.since) (serial_now table key new f t later n p)
@@ -350,11 +369,20 @@ module _ (j : Job) (works : Works) where
                 owed = length owed;
                 is_back = false;
               })) (pays works copy mode frame owed (λ m. runs works copy mode frame (f before) m) (n + 1)))
-              → (said : Answer) → MayCome false (Some t) (act.Put table key new) said
-              → Proceeds j (Some t) (event (act.Put table key new) said) (changed_next (λ before owed. pays works copy mode frame owed (λ m. runs works copy mode frame (f before) m) (n + 1)) (failed works copy mode frame n None) said)
+              → (said : Answer) (memory : Bool) → MayCome false (Some t) (act.Put table key new) said
+              → Proceeds j (Some t) (event (act.Put table key new) said) (changed_next (λ before owed. pays works copy mode frame owed (λ m. runs works copy mode frame (f before) m) (n + 1)) (frame.back (n + 1) NoMemory) (failed works copy mode frame n None) said memory)
               (Serves (false || is_stop (event (act.Put table key new) said)) j (next_txn (Some t) (event (act.Put table key new) said))
-              (changed_next (λ before owed. pays works copy mode frame owed (λ m. runs works copy mode frame (f before) m) (n + 1)) (failed works copy mode frame n None) said))
-          by rest (answer.Changed before owed) m = rest before owed
-          by rest (answer.Refused why) m = fails_serves t later n None why p.since p.settles
-          by rest (answer.Blocked sessions) m = tt
-          by rest _ m = absurd m.can
+              (changed_next (λ before owed. pays works copy mode frame owed (λ m. runs works copy mode frame (f before) m) (n + 1)) (frame.back (n + 1) NoMemory) (failed works copy mode frame n None) said memory))
+          by rest (answer.Changed before owed) true m = rest before owed
+          by rest (answer.Changed before owed) false m =
+              let after : Txn = record t {
+                told = WasThere (table, key) new before (changes t.kept) ∷ t.told;
+                kept = Some (record { key = (table, key); before = before; after = new }) ∷ t.kept;
+                owed = length owed;
+                is_back = false;
+              } in
+              lacks_serves after (Some (record { key = (table, key); before = before; after = new }) ∷ later) (n + 1) (put_since table key new t later n before (length owed) p.since)
+              (settled_by (Some (record { key = (table, key); before = before; after = new }) ∷ later) after (settles_put (record { key = (table, key); before = before; after = new }) later t p.settles))
+          by rest (answer.Refused why) memory m = fails_serves t later n None why p.since p.settles
+          by rest (answer.Blocked sessions) memory m = tt
+          by rest _ memory m = absurd m.can

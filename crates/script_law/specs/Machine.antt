@@ -25,7 +25,7 @@ use Rattle.txn_machine.specs.Ghosts.{IsCleanable}
 use Rattle.txn_machine.specs.Log.{Opening}
 use Rattle.txn_machine.specs.State.{State, opened_state}
 use Rattle.txn_machine.specs.Steps.{Step}
-use Rattle.txn_machine.specs.Alone.{Told, Story, story_after, begun_story}
+use Rattle.txn_machine.specs.Alone.{Fact, Story, story_after, begun_story}
 use Rattle.txn_machine.specs.Laws.{IsOpened}
 use Rattle.script_law.specs.Seen.{Txn, Visible, MayWant}
 use Rattle.script_law.specs.Programs.{Todo, Programs, ProgramLaws}
@@ -38,7 +38,7 @@ kept_seen [] = []
 kept_seen (Put c owed ∷ ks) = Some c ∷ kept_seen ks
 kept_seen (Pay d ∷ ks) = None ∷ kept_seen ks
 
-abbrev pub txn_seen : Schema → List Told → Open → Txn
+abbrev pub txn_seen : Schema → List Fact → Open → Txn
 txn_seen objects told o = record { mode = o.mode; number = o.number; objects = objects; told = told; kept = kept_seen o.kept; owed = length o.owed; is_back = not (o.back == 0) }
 
 abbrev pub seen_of : Story → Visible

@@ -13,7 +13,7 @@ use Rattle.iv_meaning.specs.Schema.{Schema}
 use Rattle.iv_meaning.specs.Database.{Database}
 use Rattle.iv_meaning.specs.Statement.{Kept, keep_all}
 use Rattle.iv_meaning.specs.Transaction.{Saved, Running, alone, outside, next_number, begin_reply, refused_outside, refused_inside}
-use Rattle.iv_meaning.specs.Serial.{Open, is_engines, is_deadlock}
+use Rattle.iv_meaning.specs.Serial.{Unended, is_engines, is_deadlock}
 use Rattle.txn_machine.specs.Acts as act
 use Rattle.txn_machine.specs.Acts.{Act}
 use Rattle.txn_machine.specs.Answers as answer
@@ -42,18 +42,19 @@ outside_with copy = record { mode = None; saved = []; kept = 0; copy = copy }
 pub data Todo : Type 0 where
   -- it has ended with these replies, and its session stands so
   says : List Reply → Standing → Todo
-  asks : Act → (Answer → Todo) → Todo
+  -- it asks for a step, and goes on by its answer, and by whether its session has memory for that
+  asks : Act → (Answer → Bool → Todo) → Todo
   -- it makes the row of the first owed delta's group, and then pays, which goes on so
-  ghosts : (Answer → Todo) → Todo
+  ghosts : (Answer → Bool → Todo) → Todo
 
 -- ---- what is known of a transaction between two statements
 
 -- the statements of a transaction run alone
-abbrev pub lone : Open → Database → List (List Reply) × Running
+abbrev pub lone : Unended → Database → List (List Reply) × Running
 lone o db = alone o.mode (map (λ p. p.0) o.told) db
 
 -- they are told there what they were told
-abbrev pub IsToldAlone : Open → Database → Type 0
+abbrev pub IsToldAlone : Unended → Database → Type 0
 IsToldAlone o db = (lone o db).0 ≡ map (λ p. p.1) o.told
 
 -- of kept steps, of which the latest stands first, so many of the oldest
@@ -90,7 +91,7 @@ pub record Fits (t : Txn) (standing : Standing) (db : Database) (r : Running) : 
   pub saved : AreSaved db t.kept r.saved standing.saved
 
 -- the engine's transaction is that of the session's lines
-pub record IsOf (o : Open) (t : Txn) : Type 0 where
+pub record IsOf (o : Unended) (t : Txn) : Type 0 where
   pub mode_is : t.mode ≡ o.mode
   pub number_is : t.number ≡ o.number
   -- wherever all that it was told is so, its statements were told what they are told alone
@@ -103,7 +104,7 @@ abbrev pub marked_names : List (List ℕ × ℕ) → List (List ℕ)
 marked_names saved = map (λ (p : List ℕ × ℕ). p.0) saved
 
 -- and it saved what the lone one does, and unless the engine is known to be stopped it keeps what that one does
-pub record IsAt (stopped : Bool) (o : Open) (t : Txn) (standing : Standing) : Type 0 where
+pub record IsAt (stopped : Bool) (o : Unended) (t : Txn) (standing : Standing) : Type 0 where
   pub is : IsOf o t
   pub mode_is : standing.mode ≡ Some o.mode
   pub copy_is : standing.copy ≡ t.objects
@@ -129,7 +130,7 @@ Grows one other = (more : Schema) × (other ≡ one ++ more)
 -- the session's copy of the definitions
 pub record Job : Type 0 where
   pub statement : StatementTree
-  pub before : Option Open
+  pub before : Option Unended
   pub number : ℕ
   pub copy : Schema
 
@@ -148,21 +149,21 @@ abbrev pub is_begin : StatementTree → Bool
 is_begin (begin mode) = true
 is_begin _ = false
 
-abbrev pub with_told : Open → StatementTree → List Reply → Open
+abbrev pub with_told : Unended → StatementTree → List Reply → Unended
 with_told o statement replies = record o { told = o.told ++ (statement, replies) ∷ [] }
 
-abbrev pub new_open : Mode → ℕ → Open
+abbrev pub new_open : Mode → ℕ → Unended
 new_open mode number = record { mode = mode; number = number; told = [] }
 
 -- a statement may end so, while its session has this transaction
 pub data IsDone (stopped : Bool) (j : Job) : Option Txn → List Reply → Standing → Type 0 where
   -- the engine refused it, which leaves no trace in the transaction
-  passed_inside : (o : Open) (t : Txn) (standing : Standing) (why : Refusal) → j.before ≡ Some o → IsTrue (is_engines why) → is_deadlock why ≡ false
+  passed_inside : (o : Unended) (t : Txn) (standing : Standing) (why : Refusal) → j.before ≡ Some o → IsTrue (is_engines why) → is_deadlock why ≡ false
       → IsAt stopped o t standing → IsDone stopped j (Some t) (reply.Error why ∷ []) standing
   -- the engine refused the transaction that it needs
   passed_outside : (t : Option Txn) (why : Refusal) (copy : Schema) → j.before ≡ None → IsTrue (is_engines why) → IsOut stopped t → Grows copy (objects_of j t)
       → IsDone stopped j t (reply.Error why ∷ []) (outside_with copy)
-  told : (o : Open) (t : Txn) (replies : List Reply) (standing : Standing) → j.before ≡ Some o → stays_inside j.statement ≡ true
+  told : (o : Unended) (t : Txn) (replies : List Reply) (standing : Standing) → j.before ≡ Some o → stays_inside j.statement ≡ true
       → IsAt stopped (with_told o j.statement replies) t standing → IsDone stopped j (Some t) replies standing
   began : (mode : Mode) (t : Txn) (standing : Standing) → j.before ≡ None → j.statement ≡ begin mode
       → IsAt stopped (new_open mode j.number) t standing → IsDone stopped j (Some t) (begin_reply mode j.number ∷ []) standing
@@ -173,11 +174,11 @@ IsLone statement t replies kept db = IsTruthful db t → (replies ≡ (outside s
 
 -- a statement may end so by a step that ends this transaction; one that ends without a commit keeps nothing any more
 pub data IsClosed (j : Job) (t : Txn) : Event → Todo → Type 0 where
-  commits : (o : Open) (number : ℕ) (standing : Standing) (copy : Schema) → j.before ≡ Some o → j.statement ≡ commit → IsAt false o t standing → Grows copy t.objects
+  commits : (o : Unended) (number : ℕ) (standing : Standing) (copy : Schema) → j.before ≡ Some o → j.statement ≡ commit → IsAt false o t standing → Grows copy t.objects
       → IsClosed j t (Commits number) (says (reply.Commit number ∷ []) (outside_with copy))
-  rolls_back : (o : Open) (copy : Schema) → j.before ≡ Some o → j.statement ≡ rollback None → IsOf o t → t.kept ≡ [] → Grows copy t.objects
+  rolls_back : (o : Unended) (copy : Schema) → j.before ≡ Some o → j.statement ≡ rollback None → IsOf o t → t.kept ≡ [] → Grows copy t.objects
       → IsClosed j t Ends (says (reply.Done 0 ∷ []) (outside_with copy))
-  loses : (o : Open) (why : Refusal) (copy : Schema) → j.before ≡ Some o → IsTrue (is_engines why) → IsTrue (is_deadlock why) → IsOf o t → t.kept ≡ [] → Grows copy t.objects
+  loses : (o : Unended) (why : Refusal) (copy : Schema) → j.before ≡ Some o → IsTrue (is_engines why) → IsTrue (is_deadlock why) → IsOf o t → t.kept ≡ [] → Grows copy t.objects
       → IsClosed j t Ends (says (reply.Error why ∷ []) (outside_with copy))
   -- a statement outside a transaction
   is_alone : (number : ℕ) (replies : List Reply) (copy : Schema) → j.before ≡ None → is_begin j.statement ≡ false → t.mode ≡ Serial
@@ -232,11 +233,12 @@ abbrev pub Serves : Bool → Job → Option Txn → Todo → Type 0
 Serves stopped j t (says replies standing) = IsDone stopped j t replies standing
 Serves stopped j t (asks a f) =
     (IsTrue stopped ⊎ MayWant t a)
-    × ((said : Answer) → MayCome stopped t a said → Proceeds j t (event a said) (f said) (Serves (stopped || is_stop (event a said)) j (next_txn t (event a said)) (f said)))
+    × ((said : Answer) (memory : Bool) → MayCome stopped t a said
+    → Proceeds j t (event a said) (f said memory) (Serves (stopped || is_stop (event a said)) j (next_txn t (event a said)) (f said memory)))
 Serves stopped j t (ghosts f) =
     (IsTrue stopped ⊎ MayWant t act.Pay)
-    × ((said : Answer) → MayCome stopped t act.Pay said
-    → Proceeds j t (event act.Pay said) (f said) (Serves (stopped || is_stop (event act.Pay said)) j (next_txn t (event act.Pay said)) (f said)))
+    × ((said : Answer) (memory : Bool) → MayCome stopped t act.Pay said
+    → Proceeds j t (event act.Pay said) (f said memory) (Serves (stopped || is_stop (event act.Pay said)) j (next_txn t (event act.Pay said)) (f said memory)))
 
 -- a transaction begins with the definitions, of which the session had a copy
 abbrev pub BeginsSo : Job → Event → Bool → Option Txn → (Bool → Option Txn → Type 0) → Type 0
@@ -249,7 +251,8 @@ BeginsSo j e stopped t More = More (stopped || is_stop e) t
 abbrev pub OpensFirst : Bool → Job → Option Txn → Todo → Type 0
 OpensFirst stopped j t (asks (act.Begin mode) f) =
     (IsTrue stopped ⊎ MayWant t (act.Begin mode))
-    × ((said : Answer) → MayCome stopped t (act.Begin mode) said → BeginsSo j (event (act.Begin mode) said) stopped t (λ stopped' t'. Serves stopped' j t' (f said)))
+    × ((said : Answer) (memory : Bool) → MayCome stopped t (act.Begin mode) said
+    → BeginsSo j (event (act.Begin mode) said) stopped t (λ stopped' t'. Serves stopped' j t' (f said memory)))
 OpensFirst stopped j t todo = ⊥
 
 -- the program of a statement that has not begun
@@ -270,6 +273,6 @@ pub record ProgramLaws (programs : Programs) : Type 0 where
   pub starts_outside : (stopped : Bool) (t : Option Txn) (copy : Schema) (statement : StatementTree) (number : ℕ) → IsOut stopped t → Grows copy (objects_of (record { statement = statement; before = None; number = number; copy = copy }) t)
       → refused_outside statement ≡ None
       → Starts stopped (record { statement = statement; before = None; number = number; copy = copy }) t (programs.start (outside_with copy) statement)
-  pub starts_inside : (stopped : Bool) (o : Open) (t : Txn) (standing : Standing) (statement : StatementTree) (number : ℕ) → IsAt stopped o t standing
+  pub starts_inside : (stopped : Bool) (o : Unended) (t : Txn) (standing : Standing) (statement : StatementTree) (number : ℕ) → IsAt stopped o t standing
       → programs.refuses standing statement ≡ None
       → Starts stopped (record { statement = statement; before = Some o; number = number; copy = standing.copy }) (Some t) (programs.start standing statement)

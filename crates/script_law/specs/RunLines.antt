@@ -10,7 +10,7 @@ use Rattle.iv_types.specs.declared.reply.Reply.{Reply}
 use Rattle.iv_types.specs.declared.reply.Reply.TheVariants as reply
 use Rattle.iv_types.specs.Syntax.{StatementTree}
 use Rattle.iv_meaning.specs.Reply.{reply_lines}
-use Rattle.iv_meaning.specs.Said.{Said, nothing, too_long, bad, runs, loads, steps, cleans, checkpoints}
+use Rattle.iv_meaning.specs.Said.{Said, nothing, too_long, bad, runs, loads, unread, steps, cleans, checkpoints}
 use Rattle.txn_machine.specs.Acts as act
 use Rattle.txn_machine.specs.Acts.{Act}
 use Rattle.txn_machine.specs.Answers as answer
@@ -28,14 +28,14 @@ pub data Line : Type 0 where
   stepping : Todo → Line
   held : Todo → Line
 
-pub record Seat : Type 0 where
+pub record AtTable : Type 0 where
   pub standing : Standing
   pub line : Line
 
 abbrev pub Table : Type 0
-Table = ℕ → Seat
+Table = ℕ → AtTable
 
-abbrev pub set_seat : Table → ℕ → Seat → Table
+abbrev pub set_seat : Table → ℕ → AtTable → Table
 set_seat table session seat = λ t. if t == session then seat else table t
 
 abbrev pub new_table : Table
@@ -54,17 +54,17 @@ printed session (stuck sessions todo) = reply_lines session (reply.Wait sessions
 printed session (stepped todo) = reply_lines session (reply.Step ∷ [])
 
 -- how the session stands is in its unfinished statement, if it has one
-abbrev pub under : Line → Seat
+abbrev pub under : Line → AtTable
 under line = record { standing = outside_with []; line = line }
 
 -- after a line `N: ..` or another try of it
-abbrev pub seat_run : Outcome → Seat
+abbrev pub seat_run : Outcome → AtTable
 seat_run (ended replies standing) = record { standing = standing; line = idle }
 seat_run (stuck sessions todo) = under (waiting todo)
 seat_run (stepped todo) = under (waiting todo)
 
 -- after a line `N/ ..` or `N+`
-abbrev pub seat_stepped : Outcome → Seat
+abbrev pub seat_stepped : Outcome → AtTable
 seat_stepped (ended replies standing) = record { standing = standing; line = idle }
 seat_stepped (stuck sessions todo) = under (held todo)
 seat_stepped (stepped todo) = under (stepping todo)
@@ -81,19 +81,19 @@ act_of (asks a f) = Some a
 act_of (ghosts f) = Some act.Ghost
 
 -- where a pay lacks its row, that is made first
-abbrev pub asked_next : Event → Answer → (Answer → Todo) → Todo
-asked_next LacksRow said f = ghosts f
-asked_next e said f = f said
+abbrev pub asked_next : Event → Answer → Bool → (Answer → Bool → Todo) → Todo
+asked_next LacksRow said memory f = ghosts f
+asked_next e said memory f = f said memory
 
-abbrev pub ghost_next : Answer → (Answer → Todo) → Todo
-ghost_next answer.Ghosted f = asks act.Pay f
-ghost_next said f = f said
+abbrev pub ghost_next : Answer → Bool → (Answer → Bool → Todo) → Todo
+ghost_next answer.Ghosted memory f = asks act.Pay f
+ghost_next said memory f = f said memory
 
--- what is left of it after a step that was answered so and not blocked
-abbrev pub next_of : Todo → Answer → Todo
-next_of (says replies standing) said = says replies standing
-next_of (asks a f) said = asked_next (event a said) said f
-next_of (ghosts f) said = ghost_next said f
+-- what is left of it after a step that was answered so and not blocked, with memory to go on or without
+abbrev pub next_of : Todo → Answer → Bool → Todo
+next_of (says replies standing) said memory = says replies standing
+next_of (asks a f) said memory = asked_next (event a said) said memory f
+next_of (ghosts f) said memory = ghost_next said memory f
 
 abbrev pub outcome_at : Todo → Outcome
 outcome_at (says replies standing) = ended replies standing
@@ -105,9 +105,9 @@ outcome_of (Waits sessions) stay next = stuck sessions stay
 outcome_of e stay next = outcome_at next
 
 -- the step was not blocked
-abbrev pub IsFree : Event → Type 0
-IsFree (Waits sessions) = ⊥
-IsFree e = Unit {0}
+abbrev pub IsNotBlocked : Event → Type 0
+IsNotBlocked (Waits sessions) = ⊥
+IsNotBlocked e = Unit {0}
 
 -- the sessions in number order
 abbrev pub up_to : ℕ → List ℕ
@@ -119,7 +119,7 @@ all_sessions = up_to 64
 
 -- The transaction that a session leaves at the end of the input: one that counts as outside has none, also where a stopped engine
 -- has one left of it.
-abbrev pub open_at : Seat → Option Txn → Option Txn
+abbrev pub open_at : AtTable → Option Txn → Option Txn
 open_at seat t = elim seat.line [
   | idle ↦ elim seat.standing.mode [ None ↦ None | Some mode ↦ t ]
   | waiting todo ↦ t
@@ -144,14 +144,14 @@ module _ {S : Type 0} (Does : S → ℕ → Act → Answer → S → Type 0) (pr
     has_ended : (replies : List Reply) (standing : Standing) (s : S) → RunsOn session (says replies standing) s 0 (ended replies standing) s
     is_blocked : (todo : Todo) (a : Act) (s mid : S) (said : Answer) (sessions : Sessions) → act_of todo ≡ Some a → Does s session a said mid → event a said ≡ Waits sessions
         → RunsOn session todo s 0 (stuck sessions todo) mid
-    goes_on : (todo : Todo) (a : Act) (s mid after : S) (said : Answer) (fewer : ℕ) (o : Outcome) → act_of todo ≡ Some a → Does s session a said mid → IsFree (event a said)
-        → RunsOn session (next_of todo said) mid fewer o after → RunsOn session todo s (fewer + 1) o after
+    goes_on : (todo : Todo) (a : Act) (s mid after : S) (said : Answer) (memory : Bool) (fewer : ℕ) (o : Outcome) → act_of todo ≡ Some a → Does s session a said mid
+        → IsNotBlocked (event a said) → RunsOn session (next_of todo said memory) mid fewer o after → RunsOn session todo s (fewer + 1) o after
 
   -- it does one step, if it has not ended
   pub data StepsOnce (session : ℕ) : Todo → S → Outcome → S → Type 0 where
     had_ended : (replies : List Reply) (standing : Standing) (s : S) → StepsOnce session (says replies standing) s (ended replies standing) s
-    steps_once : (todo : Todo) (a : Act) (s after : S) (said : Answer) → act_of todo ≡ Some a → Does s session a said after
-        → StepsOnce session todo s (outcome_of (event a said) todo (next_of todo said)) after
+    steps_once : (todo : Todo) (a : Act) (s after : S) (said : Answer) (memory : Bool) → act_of todo ≡ Some a → Does s session a said after
+        → StepsOnce session todo s (outcome_of (event a said) todo (next_of todo said memory)) after
 
   -- ---- what a line does itself
 
@@ -161,7 +161,7 @@ module _ {S : Type 0} (Does : S → ℕ → Act → Answer → S → Type 0) (pr
     pub left : s' ≡ s
 
   -- the session's statement came so far
-  pub record Comes (session : ℕ) (seat_after : Outcome → Seat) (o : Outcome) (table : Table) (piece : List ℕ) (table' : Table) : Type 0 where
+  pub record Comes (session : ℕ) (seat_after : Outcome → AtTable) (o : Outcome) (table : Table) (piece : List ℕ) (table' : Table) : Type 0 where
     pub told : piece ≡ printed session o
     pub seat : table' ≡ set_seat table session (seat_after o)
 
@@ -220,10 +220,9 @@ module _ {S : Type 0} (Does : S → ℕ → Act → Answer → S → Type 0) (pr
   Own nothing table s piece table' s' = Rests table s piece table' s'
   Own too_long table s piece table' s' = Tells 0 (reply.Error refusal.LineTooLong) table s piece table' s'
   Own bad table s piece table' s' = Tells 0 (reply.Error refusal.BadLine) table s piece table' s'
-  Own (runs session read) table s piece table' s' =
-      Given session (table session).standing (table session).line read (RunsIt session) table s piece table' s' ⊎ Tells session (reply.Error refusal.NoMemory) table s piece table' s'
-  Own (loads session read) table s piece table' s' =
-      Given session (table session).standing (table session).line read (LoadsIt session) table s piece table' s' ⊎ Tells session (reply.Error refusal.NoMemory) table s piece table' s'
+  Own (runs session read) table s piece table' s' = Given session (table session).standing (table session).line read (RunsIt session) table s piece table' s'
+  Own (loads session read) table s piece table' s' = Given session (table session).standing (table session).line read (LoadsIt session) table s piece table' s'
+  Own (unread session) table s piece table' s' = Tells session (reply.Error refusal.NoMemory) table s piece table' s'
   Own (steps session) table s piece table' s' = Stepped session (table session).line table s piece table' s'
   Own cleans table s piece table' s' = (table' ≡ table) × ((end : Cleaned) × (piece ≡ cleaned_text end) × CleansLine s end s')
   Own checkpoints table s piece table' s' = (table' ≡ table) × SavesLine s piece s'
@@ -297,10 +296,3 @@ module _ {S : Type 0} (Does : S → ℕ → Act → Answer → S → Type 0) (pr
       pub last : S
       pub of_lines : RunsLines all_sessions lines new_table s out table last
       pub leaves : LeaveAll all_sessions table last after
-
--- ---- forms of lines that are built
-
--- Until `checkpoint` is built, it is no form of a line.
-abbrev pub as_built : (has_checkpoint : Bool) → Said → Said
-as_built false checkpoints = bad
-as_built has_checkpoint said = said

@@ -24,7 +24,7 @@ use Rattle.txn_machine.specs.Acts.{Act}
 use Rattle.txn_machine.specs.Answers as answer
 use Rattle.txn_machine.specs.Answers.{Answer}
 use Rattle.txn_machine.specs.Deltas.{RowChange}
-use Rattle.txn_machine.specs.Alone.{Told, Found, WasThere, TookBack, IsTrueIn}
+use Rattle.txn_machine.specs.Alone.{Fact, Found, WasThere, TookBack, IsTrueIn}
 use Rattle.txn_machine.specs.ViewLaws.{AreSound}
 
 -- ---- steps
@@ -111,7 +111,7 @@ pub record Txn : Type 0 where
   pub number : ℕ
   pub objects : Schema
   -- the latest first
-  pub told : List Told
+  pub told : List Fact
   -- the kept steps, the latest first: a change, or a pay
   pub kept : List (Option RowChange)
   -- how many deltas it owes, and whether the first of them is coming back
@@ -139,7 +139,7 @@ pub record IsTruthful (db : Database) (t : Txn) : Type 0 where
   pub told : AllByRecursion (IsTrueIn db) t.told
 
 -- a pay that is taken back is told nothing
-abbrev pub taken_back : List (Option RowChange) → List Told → List Told
+abbrev pub taken_back : List (Option RowChange) → List Fact → List Fact
 taken_back (Some c ∷ ks) told = TookBack (c ∷ changes ks) ∷ told
 taken_back ks told = told
 

@@ -1,7 +1,7 @@
 -- No clause of `run` rests on this module: it serves contracts between crates.
 --
 -- The programs of all statements: how a session does its statements in steps.
-use Rattle.std.specs.Prelude.{ℕ, zero, suc, pos, ◌+◌, ◌-◌, ◌==◌, nat_le, Bool, List, [], ◌∷◌, ◌++◌, map, length, Option, Some, None, if◌then◌else◌}
+use Rattle.std.specs.Prelude.{ℕ, zero, suc, pos, ◌+◌, ◌-◌, ◌==◌, nat_le, Bool, false, List, [], ◌∷◌, ◌++◌, map, length, Option, Some, None, if◌then◌else◌}
 use Rattle.std.specs.Str.{bytes_eq}
 use Rattle.iv_types.specs.declared.statement.Mode.{Mode}
 use Rattle.iv_types.specs.declared.statement.Mode.TheVariants.{Serial, Snapshot}
@@ -9,8 +9,9 @@ use Rattle.iv_types.specs.declared.value.Interval.{Interval}
 use Rattle.iv_types.specs.declared.lock.LockMode.{LockMode}
 use Rattle.iv_types.specs.declared.lock.GroupDelta.{GroupDelta}
 use Rattle.iv_types.specs.declared.refusal.Refusal.{Refusal}
-use Rattle.iv_types.specs.declared.refusal.Refusal.TheVariants.{UnknownSavepoint, Limit}
+use Rattle.iv_types.specs.declared.refusal.Refusal.TheVariants.{UnknownSavepoint, Limit, NoMemory}
 use Rattle.iv_types.specs.declared.refusal.EngineRefusal.{EngineRefusal}
+use Rattle.iv_types.specs.declared.refusal.EngineRefusal.TheVariants as engine
 use Rattle.iv_types.specs.declared.reply.Reply.TheVariants as reply
 use Rattle.iv_types.specs.Syntax.{StatementTree, create_table, create_index, create_view, begin, commit, rollback, savepoint}
 use Rattle.iv_meaning.specs.Schema.{Schema}
@@ -34,42 +35,49 @@ abbrev pub by_refusal : (EngineRefusal → Todo) → Answer → Todo
 by_refusal failed (answer.Refused why) = failed why
 by_refusal failed said = unanswered
 
-abbrev pub undo_next : Todo → (EngineRefusal → Todo) → Answer → Todo
-undo_next next failed (answer.Undone left) = next
-undo_next next failed said = by_refusal failed said
+-- where there is no memory to go on, so
+abbrev pub with_memory : Bool → Todo → Todo → Todo
+with_memory memory next lacking = if memory then next else lacking
 
-abbrev pub end_next : Todo → (EngineRefusal → Todo) → Answer → Todo
-end_next next failed answer.Ended = next
-end_next next failed said = by_refusal failed said
+-- what is taken back, ended or committed needs none
 
-abbrev pub commit_next : (ℕ → Todo) → (EngineRefusal → Todo) → Answer → Todo
-commit_next next failed (answer.Committed number) = next number
-commit_next next failed said = by_refusal failed said
+abbrev pub undo_next : Todo → (EngineRefusal → Todo) → Answer → Bool → Todo
+undo_next next failed (answer.Undone left) memory = next
+undo_next next failed said memory = by_refusal failed said
 
-abbrev pub rows_next : (List Row → Todo) → (EngineRefusal → Todo) → Answer → Todo
-rows_next next failed (answer.Rows rows) = next rows
-rows_next next failed said = by_refusal failed said
+abbrev pub end_next : Todo → (EngineRefusal → Todo) → Answer → Bool → Todo
+end_next next failed answer.Ended memory = next
+end_next next failed said memory = by_refusal failed said
 
-abbrev pub changed_next : (Option Row → List GroupDelta → Todo) → (EngineRefusal → Todo) → Answer → Todo
-changed_next next failed (answer.Changed before owed) = next before owed
-changed_next next failed said = by_refusal failed said
+abbrev pub commit_next : (ℕ → Todo) → (EngineRefusal → Todo) → Answer → Bool → Todo
+commit_next next failed (answer.Committed number) memory = next number
+commit_next next failed said memory = by_refusal failed said
 
-abbrev pub paid_next : Todo → (EngineRefusal → Todo) → Answer → Todo
-paid_next next failed (answer.Paid left) = next
-paid_next next failed said = by_refusal failed said
+abbrev pub schema_next : (ℕ → Todo) → (Refusal → Todo) → (EngineRefusal → Todo) → Answer → Bool → Todo
+schema_next next denied failed (answer.Committed number) memory = next number
+schema_next next denied failed (answer.Denied why) memory = denied why
+schema_next next denied failed said memory = by_refusal failed said
 
-abbrev pub begun_next : (ℕ → ℕ → Todo) → (EngineRefusal → Todo) → Answer → Todo
-begun_next next failed (answer.Begun number defs) = next number defs
-begun_next next failed said = by_refusal failed said
+abbrev pub rows_next : (List Row → Todo) → Todo → (EngineRefusal → Todo) → Answer → Bool → Todo
+rows_next next lacking failed (answer.Rows rows) memory = with_memory memory (next rows) lacking
+rows_next next lacking failed said memory = by_refusal failed said
 
-abbrev pub defs_next : (Schema → Todo) → (EngineRefusal → Todo) → Answer → Todo
-defs_next next failed (answer.Defs objects) = next objects
-defs_next next failed said = by_refusal failed said
+abbrev pub changed_next : (Option Row → List GroupDelta → Todo) → Todo → (EngineRefusal → Todo) → Answer → Bool → Todo
+changed_next next lacking failed (answer.Changed before owed) memory = with_memory memory (next before owed) lacking
+changed_next next lacking failed said memory = by_refusal failed said
 
-abbrev pub schema_next : (ℕ → Todo) → (Refusal → Todo) → (EngineRefusal → Todo) → Answer → Todo
-schema_next next denied failed (answer.Committed number) = next number
-schema_next next denied failed (answer.Denied why) = denied why
-schema_next next denied failed said = by_refusal failed said
+-- a refusal is told with names, for which there may be no memory
+abbrev pub paid_next : Todo → Todo → (Bool → EngineRefusal → Todo) → Answer → Bool → Todo
+paid_next next lacking failed (answer.Paid left) memory = with_memory memory next lacking
+paid_next next lacking failed said memory = by_refusal (failed memory) said
+
+abbrev pub begun_next : (ℕ → ℕ → Todo) → Todo → (EngineRefusal → Todo) → Answer → Bool → Todo
+begun_next next lacking failed (answer.Begun number defs) memory = with_memory memory (next number defs) lacking
+begun_next next lacking failed said memory = by_refusal failed said
+
+abbrev pub defs_next : (Schema → Todo) → Todo → (EngineRefusal → Todo) → Answer → Bool → Todo
+defs_next next lacking failed (answer.Defs objects) memory = with_memory memory (next objects) lacking
+defs_next next lacking failed said memory = by_refusal failed said
 
 -- ---- works
 
@@ -110,21 +118,27 @@ module _ (works : Works) where
 
   module _ (copy : Schema) (mode : Mode) (frame : Frame) where
     -- the engine refused a step of the work
+    abbrev pub refused_so : ℕ → Refusal → EngineRefusal → Todo
+    refused_so n told why = if is_stop (Fails why) then frame.stopped told else if is_deadlock_event why then frame.lost n told else frame.back n told
+
     abbrev pub failed : ℕ → Option GroupDelta → EngineRefusal → Todo
-    failed n delta why =
-        let told : Refusal = works.tell copy delta why in
-        if is_stop (Fails why) then frame.stopped told else if is_deadlock_event why then frame.lost n told else frame.back n told
+    failed n delta why = refused_so n (works.tell copy delta why) why
+
+    -- what the escrow refuses is told with names, for which there may be no memory
+    abbrev pub pay_failed : ℕ → GroupDelta → Bool → EngineRefusal → Todo
+    pay_failed n d false (engine.Escrow column inf sup) = frame.back n NoMemory
+    pay_failed n d memory why = failed n (Some d) why
 
     -- what a change owes is paid, one delta after the other
     abbrev pub pays : List GroupDelta → (ℕ → Todo) → ℕ → Todo
     pays [] next n = next n
-    pays (d ∷ ds) next n = asks act.Pay (paid_next (pays ds next (n + 1)) (failed n (Some d)))
+    pays (d ∷ ds) next n = asks act.Pay (paid_next (pays ds next (n + 1)) (frame.back (n + 1) NoMemory) (pay_failed n d))
 
     abbrev pub runs : Work → ℕ → Todo
     runs (done listed count) n = frame.finish listed count n
     runs (refuses why) n = frame.back n why
-    runs (fetches index interval lock f) n = asks (reads_by mode index interval lock) (rows_next (λ rows. runs (f rows) n) (failed n None))
-    runs (puts table key new f) n = asks (act.Put table key new) (changed_next (λ before owed. pays owed (λ m. runs (f before) m) (n + 1)) (failed n None))
+    runs (fetches index interval lock f) n = asks (reads_by mode index interval lock) (rows_next (λ rows. runs (f rows) n) (frame.back n NoMemory) (failed n None))
+    runs (puts table key new f) n = asks (act.Put table key new) (changed_next (λ before owed. pays owed (λ m. runs (f before) m) (n + 1)) (frame.back (n + 1) NoMemory) (failed n None))
 
   -- ---- inside a transaction
 
@@ -183,8 +197,8 @@ module _ (works : Works) where
   abbrev pub begins_with : Mode → Schema → (Schema → ℕ → Todo) → Todo
   begins_with mode copy next =
       asks (act.Begin mode) (begun_next
-      (λ number defs. if defs == length copy then next copy number else asks act.Defs (defs_next (λ objects. next objects number) (fails_defs copy)))
-      (stays_out copy))
+      (λ number defs. if defs == length copy then next copy number else asks act.Defs (defs_next (λ objects. next objects number) (ends_with copy NoMemory) (fails_defs copy)))
+      (ends_with copy NoMemory) (stays_out copy))
 
   abbrev pub creates_with : Schema → StatementTree → Todo
   creates_with copy statement = asks (act.Schema statement) (schema_next

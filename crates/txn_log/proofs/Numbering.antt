@@ -25,7 +25,7 @@ use Rattle.iv_types.specs.Syntax.{StatementTree}
 use Rattle.iv_meaning.specs.Schema.{Object}
 use Rattle.iv_meaning.specs.Database.{Row}
 use Rattle.txn_machine.proofs.Reached.{Holds'}
-use Rattle.txn_machine.specs.May.{GoesOn, MayAct, MayPut, IsWritten}
+use Rattle.txn_machine.specs.May.{IsOpenIn, MayAct, MayPut, IsWritten}
 use Rattle.txn_machine.specs.Steps.{asked, MayWait, CommitsAs, Says, Makes}
 use Rattle.txn_machine.proofs.Basics.{one_same, one_other}
 use Rattle.txn_machine.proofs.Good.{the_open}
@@ -81,10 +81,10 @@ AllOpen s i a (e ∷ es) = OpenFor s i a e × AllOpen (does the_views s i e) i a
 open_some : (s : Store) (i : ℕ) (t : Open) → s.open_of i ≡ Some t → IsSome (s.open_of i)
 open_some s i t e = subst IsSome (sym e) refl
 
-goes_some : (s : Store) (i : ℕ) (mode : Mode) → GoesOn s i mode → IsSome (s.open_of i)
+goes_some : (s : Store) (i : ℕ) (mode : Mode) → IsOpenIn s i mode → IsSome (s.open_of i)
 goes_some s i mode g = open_some s i g.transaction g.is_open
 
-goes_mode : (s : Store) (i : ℕ) (mode : Mode) → GoesOn s i mode → (now s i).mode ≡ mode
+goes_mode : (s : Store) (i : ℕ) (mode : Mode) → IsOpenIn s i mode → (now s i).mode ≡ mode
 goes_mode s i mode g = ap (λ (t : Open). t.mode) (now_is view_laws s i g.transaction g.is_open) ∙ g.mode_is
 
 -- after new locks

@@ -30,7 +30,7 @@ use Rattle.txn_machine.specs.Records.{group_bytes, undo_bytes}
 use Rattle.txn_machine.specs.Log.{Within, Logged, Log, Opening, logs, log_all, still_owed, ghost_bytes, owed_bytes, end_bytes, block_bytes, reserved_by, reserved, carried, definition_need}
 use Rattle.txn_machine.specs.Store.{Store, opened, schema_of, now, changes_by, locks_of, change_at, Effect, Opens, Takes, Notes, Writes, Pays, Ghosts, Undoes, Loses, Ends, Commits, Defines, Cleans, Prunes, does, run}
 use Rattle.txn_machine.specs.State.{State, Stop, is_fault, stop_after, opened_state, most_steps}
-use Rattle.txn_machine.specs.May.{GoesOn, MayAct, Owes}
+use Rattle.txn_machine.specs.May.{IsOpenIn, MayAct, Owes}
 use Rattle.txn_machine.specs.Steps.{NoneIsOpen, log_need, CommitsAs, Says, Step, Did, Run, with_ghost, log_after, MayWait, MayBegin, MakesGhost}
 use Rattle.txn_machine.specs.LogLaws.{LogRoomLaw}
 use Rattle.txn_machine.proofs.Basics.{one_same, one_other}
@@ -216,10 +216,10 @@ module _ (s : State) (i : ℕ) (g : Good' s.store) (r : Roomy s.opening.log_limi
       → Roomy limit (does the_views (does the_views s.store i (Takes wants)) i f) (logs (does the_views s.store i (Takes wants)) i a f (logs s.store i a (Takes wants) s.log)) → After a es
   two a es wants f is h = subst (After a) (sym is) h
 
-  going : (mode : Mode) → GoesOn s.store i mode → s.store.open_of i ≡ Some (now s.store i)
+  going : (mode : Mode) → IsOpenIn s.store i mode → s.store.open_of i ≡ Some (now s.store i)
   going mode h = open_now s.store i h.transaction h.is_open
 
-  mode_now : (mode : Mode) → (h : GoesOn s.store i mode) → (now s.store i).mode ≡ mode
+  mode_now : (mode : Mode) → (h : IsOpenIn s.store i mode) → (now s.store i).mode ≡ mode
   mode_now mode h = ap (λ (t : Open). t.mode) (now_is view_laws s.store i h.transaction h.is_open) ∙ h.mode_is
 
   module _ (a : Act) (wants : List Want) (is : IsSession i) (open_is : s.store.open_of i ≡ Some (now s.store i)) where

@@ -51,7 +51,7 @@ use Rattle.txn_machine.specs.Store.{Store, committed, with_txn, entry_changes, c
 use Rattle.txn_machine.specs.Ghosts.{the_views, account_of, Holds}
 use Rattle.txn_machine.specs.Counts.{fetch_size, put_size, transaction_size, most_of_transaction, entry_size, kept_change_size, history_size, most_of_history, definition_sizes}
 use Rattle.txn_machine.specs.State.{State, counted}
-use Rattle.txn_machine.specs.May.{GoesOn, IsReady, Owes, FitsUnder, MayLock, MayAct, MayAsk}
+use Rattle.txn_machine.specs.May.{IsOpenIn, IsReady, Owes, FitsUnder, MayLock, MayAct, MayAsk}
 use Rattle.txn_machine.specs.Steps.{Step, Says, MayBegin, FindsIn, IsFree, CommitsAs, group_want, put_wants, first_want, waits_after, FitsLog, FitsData, used_data, definitions_after, log_after}
 use Rattle.txn_machine.specs.Example.{sale, by_shop}
 use Rattle.txn_machine.proofs.Basics.{one_same}
@@ -196,7 +196,7 @@ module _ (p : Plain) (i : ℕ) (sorted : Sorted p) (session : i ≤ 64) where
 
   -- ---- a session that goes on
 
-  abbrev pub going : (mode : Mode) → T (goes_on p i) → (txn p i).mode ≡ mode → GoesOn here.store i mode
+  abbrev pub going : (mode : Mode) → T (goes_on p i) → (txn p i).mode ≡ mode → IsOpenIn here.store i mode
   going mode h e =
       let more = right_one (is_session i) (is_some (p.of.store.open_of i) && not (txn p i).is_lost) h in
       record {

@@ -16,7 +16,7 @@ use Rattle.txn_machine.specs.Fresh.{fresh}
 use Rattle.txn_machine.specs.Ghosts.{the_views}
 use Rattle.txn_machine.specs.Store.{Store, committed, schema_of, now, paid_first, undone, entry_changes, Effect, Opens, Takes, Notes, Writes, Pays, Ghosts, Undoes, Loses, Ends, Commits, Defines, Cleans, Prunes, does, run}
 use Rattle.txn_machine.specs.State.{State}
-use Rattle.txn_machine.specs.May.{GoesOn, IsOpen}
+use Rattle.txn_machine.specs.May.{IsOpenIn, IsOpen}
 use Rattle.txn_machine.specs.Steps.{Peeks, Step, Did, Run}
 use Rattle.txn_machine.specs.ViewLaws.{AreSound}
 use Rattle.txn_machine.specs.Laws.{AreInRange, IsReached, IsReadableAt, SnapshotReadableLaw, PeekLaw}
@@ -169,14 +169,14 @@ snapshot_readable_law s r = (λ n low high. readable_at s r n low high, λ i o m
 
 -- ---- what a snapshot reads
 
-abbrev opened_by : (s : Store) (i : ℕ) → GoesOn s i Snapshot → IsOpen s i
+abbrev opened_by : (s : Store) (i : ℕ) → IsOpenIn s i Snapshot → IsOpen s i
 opened_by s i on = record { of_session = on.of_session; transaction = on.transaction; is_open = on.is_open }
 
 pub peek_law : PeekLaw
 peek_law s r i n interval = (
   λ rows after step. elim step.does [
     | inl x ↦
-        let on : GoesOn s.store i Snapshot = (may_of s i (act.Peek n interval) x.runs step.may.1).0 in
+        let on : IsOpenIn s.store i Snapshot = (may_of s i (act.Peek n interval) x.runs step.may.1).0 in
         let found : Peeks s.store i n interval rows = x.says.0 in (
           opened_by s.store i on,
           on.mode_is,

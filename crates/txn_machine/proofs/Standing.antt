@@ -24,7 +24,7 @@ use Rattle.txn_machine.specs.State.{State}
 use Rattle.txn_machine.specs.May.{MayAct}
 use Rattle.txn_machine.specs.Steps.{asked, CommitsAs, Says, Step, Did, Run}
 use Rattle.iv_meaning.specs.View.{read}
-use Rattle.txn_machine.specs.Alone.{Told, Found, WasThere, told_of_undo, told_after, Story, story_after, begun_story, Tells, IsTrueIn, with_changes}
+use Rattle.txn_machine.specs.Alone.{Fact, Found, WasThere, told_of_undo, told_after, Story, story_after, begun_story, Unfolds, IsTrueIn, with_changes}
 use Rattle.txn_machine.specs.Laws.{IsReachedStory}
 use Rattle.txn_machine.specs.KeptLaws.{oldest, NotesLaw}
 use Rattle.txn_machine.proofs.Basics.{one_same, one_other}
@@ -59,15 +59,15 @@ oldest_pay many d ks = elim (cases_lt (length ks) many) [
 
 -- ---- what is known of a transaction's notes
 
-abbrev found : Note → List KeptStep → Told
+abbrev found : Note → List KeptStep → Fact
 found n ks = Found n.index n.interval n.rows (changes_of (oldest n.kept ks))
 
-pub record NotesGood (t : Open) (told : List Told) : Type 0 where
+pub record NotesGood (t : Open) (told : List Fact) : Type 0 where
   pub each : AllByRecursion (λ n. Contains told (found n t.kept)) t.notes
   pub below : t.back ≡ 0 → AllByRecursion (λ n. n.kept ≤ length t.kept) t.notes
   pub back : t.back ≤ length t.owed
 
-none_good : (t : Open) (told : List Told) → t.notes ≡ [] → t.back ≡ 0 → NotesGood t told
+none_good : (t : Open) (told : List Fact) → t.notes ≡ [] → t.back ≡ 0 → NotesGood t told
 none_good t told e b = record {
   each = subst (AllByRecursion (λ n. Contains told (found n t.kept))) (sym e) tt;
   below = λ x. subst (AllByRecursion (λ n. n.kept ≤ length t.kept)) (sym e) tt;
@@ -89,7 +89,7 @@ each_filtered P R many (n ∷ ns) f h =
     ] refl
 
 -- one more step that is kept, and perhaps one more thing that was told
-kept_more : (ks : List KeptStep) (k : KeptStep) (told more : List Told) (ns : List Note) → ((t : Told) → Contains told t → Contains more t) → AllByRecursion (λ n. Contains told (found n ks)) ns → AllByRecursion (λ n. n.kept ≤ length ks) ns
+kept_more : (ks : List KeptStep) (k : KeptStep) (told more : List Fact) (ns : List Note) → ((t : Fact) → Contains told t → Contains more t) → AllByRecursion (λ n. Contains told (found n ks)) ns → AllByRecursion (λ n. n.kept ≤ length ks) ns
     → AllByRecursion (λ n. Contains more (found n (k ∷ ks))) ns
 kept_more ks k told more ns f h l = each_note (λ n. Contains told (found n ks)) (λ n. n.kept ≤ length ks) (λ n. Contains more (found n (k ∷ ks))) ns
     (λ n c less. subst (λ (x : List KeptStep). Contains more (Found n.index n.interval n.rows (changes_of x))) (sym (oldest_more n.kept k ks less)) (f (found n ks) c)) h l
@@ -97,14 +97,14 @@ kept_more ks k told more ns f h l = each_note (λ n. Contains told (found n ks))
 below_more : (many : ℕ) (ns : List Note) → AllByRecursion (λ n. n.kept ≤ many) ns → AllByRecursion (λ n. n.kept ≤ suc many) ns
 below_more many ns h = each_note (λ n. n.kept ≤ many) (λ n. n.kept ≤ many) (λ n. n.kept ≤ suc many) ns (λ n l m. omega (arith, l)) h h
 
-one_more : (t : Open) (told : List Told) (x : Told) → NotesGood t told → NotesGood t (x ∷ told)
+one_more : (t : Open) (told : List Fact) (x : Fact) → NotesGood t told → NotesGood t (x ∷ told)
 one_more t told x g = record {
   each = each_note (λ n. Contains told (found n t.kept)) (λ n. Contains told (found n t.kept)) (λ n. Contains (x ∷ told) (found n t.kept)) t.notes (λ n c d. contains_next x told (found n t.kept) c) g.each g.each;
   below = g.below;
   back = g.back;
 }
 
-no_back : (t : Open) (told : List Told) → NotesGood t told → t.owed ≡ [] → t.back ≡ 0
+no_back : (t : Open) (told : List Fact) → NotesGood t told → t.owed ≡ [] → t.back ≡ 0
 no_back t told g e = let b = g.back in let none : length t.owed ≡ 0 = ap length e in omega (arith, b, none)
 
 -- ---- effects
@@ -115,12 +115,12 @@ Cond s i (Writes p new) = (now s i).owed ≡ []
 Cond s i Pays = (now s i).back ≡ 0
 Cond s i _ = Unit {0}
 
-module _ (s : Store) (i : ℕ) (told : List Told) (g : NotesGood (now s i) told) where
+module _ (s : Store) (i : ℕ) (told : List Fact) (g : NotesGood (now s i) told) where
   abbrev t : Open
   t = now s i
 
   -- the transaction is this one now
-  set_to : (u : Open) (more : List Told) → NotesGood u more → NotesGood (the_open (with_one s.open_of i (Some u) i)) more
+  set_to : (u : Open) (more : List Fact) → NotesGood u more → NotesGood (the_open (with_one s.open_of i (Some u) i)) more
   set_to u more h = subst (λ (o : Option Open). NotesGood (the_open o) more) (sym (one_same s.open_of i (Some u) i refl)) h
 
   set_none : NotesGood (the_open (with_one s.open_of i None i)) []
@@ -153,7 +153,7 @@ module _ (s : Store) (i : ℕ) (told : List Told) (g : NotesGood (now s i) told)
   own_effect (Opens mode) c = set_to (begun mode (committed s).number) [] (none_good (begun mode (committed s).number) [] refl refl)
   own_effect (Takes wants) c = set_to (record t { locks = wants ++ t.locks }) told (record { each = g.each; below = g.below; back = g.back })
   own_effect (Notes n) c =
-      let first : Told = Found n.index n.interval n.rows (changes_by s i) in
+      let first : Fact = Found n.index n.interval n.rows (changes_by s i) in
       let is : found n t.kept ≡ first = ap (λ (x : List KeptStep). Found n.index n.interval n.rows (changes_of x)) (ap (λ m. oldest m t.kept) c ∙ oldest_all t.kept) in
       set_to (record t { notes = n ∷ t.notes }) (first ∷ told) (record {
         each = (
@@ -184,22 +184,22 @@ abbrev CondAll : Store → ℕ → List Effect → Type 0
 CondAll s i [] = Unit {0}
 CondAll s i (e ∷ es) = Cond s i e × CondAll (does the_views s i e) i es
 
-own_run : (s : Store) (i : ℕ) (es : List Effect) (told : List Told) → CondAll s i es → NotesGood (now s i) told → NotesGood (now (run the_views s i es) i) (tell_all s i es told)
+own_run : (s : Store) (i : ℕ) (es : List Effect) (told : List Fact) → CondAll s i es → NotesGood (now s i) told → NotesGood (now (run the_views s i es) i) (tell_all s i es told)
 own_run s i [] told c g = g
 own_run s i (e ∷ es) told c g = own_run (does the_views s i e) i es (tell s i e told) c.1 (own_effect s i told g e c.0)
 
-own_by : (s : Store) (i : ℕ) (es fs : List Effect) → es ≡ fs → CondAll s i fs → (told told' : List Told) → told' ≡ tell_all s i fs told → NotesGood (now s i) told → NotesGood (now (run the_views s i es) i) told'
+own_by : (s : Store) (i : ℕ) (es fs : List Effect) → es ≡ fs → CondAll s i fs → (told told' : List Fact) → told' ≡ tell_all s i fs told → NotesGood (now s i) told → NotesGood (now (run the_views s i es) i) told'
 own_by s i es fs e c told told' is g =
     subst (λ (l : List Effect). NotesGood (now (run the_views s i l) i) told') (sym e) (subst (NotesGood (now (run the_views s i fs) i)) (sym is) (own_run s i fs told c g))
 
 still : (s : Store) (i : ℕ) (wants : List Want) {X : Type 0} (f : Open → X) → f (record (now s i) { locks = wants ++ (now s i).locks }) ≡ f (now s i) → f (now (does the_views s i (Takes wants)) i) ≡ f (now s i)
 still s i wants f e = ap f (now_locked view_laws s i wants) ∙ e
 
-own_commits : (s : State) (i number : ℕ) (es : List Effect) (cs : List RowChange) → CommitsAs s.store i cs number es → (told : List Told) → NotesGood (now s.store i) told → NotesGood (now (run the_views s.store i es) i) []
+own_commits : (s : State) (i number : ℕ) (es : List Effect) (cs : List RowChange) → CommitsAs s.store i cs number es → (told : List Fact) → NotesGood (now s.store i) told → NotesGood (now (run the_views s.store i es) i) []
 own_commits s i number es [] h told g = own_by s.store i es (Ends ∷ []) h.1 (tt, tt) told [] refl g
 own_commits s i number es (c ∷ cs) h told g = own_by s.store i es (Commits ∷ []) h.1 (tt, tt) told [] refl g
 
-own_says : (s : State) (i : ℕ) (a : Act) (said : Answer) (es : List Effect) → MayAct s.store i a → Says s i a said es → (told : List Told) → NotesGood (now s.store i) told → NotesGood (now (run the_views s.store i es) i) (told_after s.store i a said told)
+own_says : (s : State) (i : ℕ) (a : Act) (said : Answer) (es : List Effect) → MayAct s.store i a → Says s i a said es → (told : List Fact) → NotesGood (now s.store i) told → NotesGood (now (run the_views s.store i es) i) (told_after s.store i a said told)
 own_says s i a (answer.Blocked sessions) es may h told g = own_by s.store i es [] h.2 tt told _ (told_blocked s.store i a sessions told) g
 own_says s i a (answer.Refused (refusal.Deadlock cycle)) es may h told g = own_by s.store i es (Loses ∷ []) h.2 (tt, tt) told _ (told_refused s.store i a (refusal.Deadlock cycle) told) g
 own_says s i a (answer.Refused refusal.NoMemory) es may h told g = own_by s.store i es [] h.1 tt told _ (told_refused s.store i a refusal.NoMemory told) g
@@ -264,7 +264,7 @@ story_step story d after g step j = by_session j d.session
     (λ n. subst (NotesGood (now after.store j)) (sym (one_other story.told d.session new_told j n))
     (subst (λ (o : Option Open). NotesGood (the_open o) (story.told j)) (sym (other n)) (g j)))
   where
-    new_told : List Told
+    new_told : List Fact
     new_told = told_after story.state.store d.session d.act d.said (story.told d.session)
 
     own : NotesGood (now after.store d.session) (told_after story.state.store d.session d.act d.said (story.told d.session))
@@ -285,7 +285,7 @@ story_step story d after g step j = by_session j d.session
     ]
 
 -- what was told along steps
-story_of : (story : Story) (ds : List Did) (after : State) → StoryNotes story → Run story.state ds after → (last : Story) × (last.state ≡ after) × Tells story ds last × StoryNotes last
+story_of : (story : Story) (ds : List Did) (after : State) → StoryNotes story → Run story.state ds after → (last : Story) × (last.state ≡ after) × Unfolds story ds last × StoryNotes last
 story_of story [] after g r = (story, sym r, refl, g)
 story_of story (d ∷ ds) after g r =
     let rest = story_of (story_after story d r.0) ds after (story_step story d r.0 g r.1) r.2 in

@@ -31,7 +31,7 @@ use Rattle.txn_machine.specs.Store.{Store, committed, schema_of, now, changes_by
 use Rattle.txn_machine.specs.State.{State}
 use Rattle.txn_machine.specs.May.{IsReady, MayLock, MayAct}
 use Rattle.txn_machine.specs.Steps.{asked, IsFree, Finds, note_of, CommitsAs, Says, Step, Did}
-use Rattle.txn_machine.specs.Alone.{Told, Found, WasThere, TookBack, told_after, Story, story_after, Tells, with_changes, IsTrueIn, Program, Fetch, Change, Undo, Next, Goes, without_latest}
+use Rattle.txn_machine.specs.Alone.{Fact, Found, WasThere, TookBack, told_after, Story, story_after, Unfolds, with_changes, IsTrueIn, Dialogue, Fetch, Change, Undo, Next, Goes, without_latest}
 use Rattle.txn_machine.specs.Laws.{IsReached, IsReachedStory, RepliesLaw, SnapshotRepliesLaw}
 use Rattle.txn_machine.proofs.Basics.{one_same, one_other, holds_new}
 use Rattle.txn_machine.proofs.Good.{the_open}
@@ -81,18 +81,18 @@ module _ (s : Store) (i number : ℕ) (interval : Interval) (mode : LockMode) (r
 
 -- ---- what is told by a step
 
-pub told_blocked : (s : Store) (i : ℕ) (a : Act) (x : Sessions) (told : List Told) → told_after s i a (answer.Blocked x) told ≡ told
+pub told_blocked : (s : Store) (i : ℕ) (a : Act) (x : Sessions) (told : List Fact) → told_after s i a (answer.Blocked x) told ≡ told
 told_blocked s i (act.Begin mode) x told = refl
 told_blocked s i _ x told = refl
 
-pub told_refused : (s : Store) (i : ℕ) (a : Act) (x : EngineRefusal) (told : List Told) → told_after s i a (answer.Refused x) told ≡ told
+pub told_refused : (s : Store) (i : ℕ) (a : Act) (x : EngineRefusal) (told : List Fact) → told_after s i a (answer.Refused x) told ≡ told
 told_refused s i (act.Begin mode) x told = refl
 told_refused s i _ x told = refl
 
-abbrev Noted : Store → ℕ → List Told → Type 0
+abbrev Noted : Store → ℕ → List Fact → Type 0
 Noted s i told = NoteOf s.origin s.history (s.open_of i) told
 
-own_by : (s : Store) (i : ℕ) (es fs : List Effect) → es ≡ fs → Good' s → CanAll the_views fresh view_laws s i es → TellAll s i fs → (told told' : List Told) → told' ≡ tell_all s i fs told → Noted s i told → Noted (run the_views s i es) i told'
+own_by : (s : Store) (i : ℕ) (es fs : List Effect) → es ≡ fs → Good' s → CanAll the_views fresh view_laws s i es → TellAll s i fs → (told told' : List Fact) → told' ≡ tell_all s i fs told → Noted s i told → Noted (run the_views s i es) i told'
 own_by s i es fs e g can t told told' is h =
     subst (Noted (run the_views s i es) i) (sym is)
     (subst (λ l. Noted (run the_views s i l) i (tell_all s i fs told)) (sym e) (own_run s i fs g (subst (CanAll the_views fresh view_laws s i) e can) t told h))
@@ -103,7 +103,7 @@ ready_mode s i mode r = ap (λ (t : Open). t.mode) (now_is view_laws s i r.goes_
 locked_mode : (s : Store) (i : ℕ) (wants : List Want) → (now s i).mode ≡ Serial → (now (does the_views s i (Takes wants)) i).mode ≡ Serial
 locked_mode s i wants e = ap (λ (t : Open). t.mode) (now_locked view_laws s i wants) ∙ e
 
-peeked : (s : Store) (i n : ℕ) (interval : Interval) (rows : List Row) (told : List Told) (o : Option Open) → s.open_of i ≡ o → (the_open o).mode ≡ Snapshot
+peeked : (s : Store) (i n : ℕ) (interval : Interval) (rows : List Row) (told : List Fact) (o : Option Open) → s.open_of i ≡ o → (the_open o).mode ≡ Snapshot
     → read (state_at s.origin s.history (the_open o).number) n interval ≡ rows → NoteOf s.origin s.history o told → NoteOf s.origin s.history o (Found n interval rows [] ∷ told)
 peeked s i n interval rows told None e m r h = absurd (cc)
 peeked s i n interval rows told (Some t) e m r h = record {
@@ -114,12 +114,12 @@ peeked s i n interval rows told (Some t) e m r h = record {
 abbrev can_all : (s : State) (i : ℕ) (a : Act) (said : Answer) (es : List Effect) → Good' s.store → MayAct s.store i a → Says s i a said es → CanAll the_views fresh view_laws s.store i es
 can_all = can_says view_laws may_define
 
-own_commits : (s : State) (i : ℕ) (es : List Effect) (number : ℕ) → Good' s.store → CanAll the_views fresh view_laws s.store i es → (cs : List RowChange) → CommitsAs s.store i cs number es → (told : List Told) → Noted s.store i told → Noted (run the_views s.store i es) i []
+own_commits : (s : State) (i : ℕ) (es : List Effect) (number : ℕ) → Good' s.store → CanAll the_views fresh view_laws s.store i es → (cs : List RowChange) → CommitsAs s.store i cs number es → (told : List Fact) → Noted s.store i told → Noted (run the_views s.store i es) i []
 own_commits s i es number g can [] c told h = own_by s.store i es (Ends ∷ []) c.1 g can ((tt, tt), tt) told [] refl h
 own_commits s i es number g can (x ∷ cs) c told h = own_by s.store i es (Commits ∷ []) c.1 g can ((tt, tt), tt) told [] refl h
 
 own_says : (s : State) (i : ℕ) (a : Act) (said : Answer) (es : List Effect) → Good' s.store → MayAct s.store i a → Says s i a said es → CanAll the_views fresh view_laws s.store i es
-    → (told : List Told) → Noted s.store i told → Noted (run the_views s.store i es) i (told_after s.store i a said told)
+    → (told : List Fact) → Noted s.store i told → Noted (run the_views s.store i es) i (told_after s.store i a said told)
 own_says s i a (answer.Blocked sessions) es g may h can told t = own_by s.store i es [] h.2 g can tt told (told_after s.store i a (answer.Blocked sessions) told) (told_blocked s.store i a sessions told) t
 own_says s i a (answer.Refused (refusal.Deadlock cycle)) es g may h can told t = own_by s.store i es (Loses ∷ []) h.2 g can ((tt, tt), tt) told (told_after s.store i a (answer.Refused (refusal.Deadlock cycle)) told) (told_refused s.store i a (refusal.Deadlock cycle) told) t
 own_says s i a (answer.Refused refusal.NoMemory) es g may h can told t = own_by s.store i es [] h.1 g can tt told (told_after s.store i a (answer.Refused refusal.NoMemory) told) (told_refused s.store i a refusal.NoMemory told) t
@@ -196,10 +196,10 @@ story_step story d after g step = record {
     s : State
     s = story.state
 
-    new_told : List Told
+    new_told : List Fact
     new_told = told_after story.state.store d.session d.act d.said (story.told d.session)
 
-    told_now : ℕ → List Told
+    told_now : ℕ → List Fact
     told_now = with_one story.told d.session new_told
 
     own : IsSession d.session → Noted after.store d.session (told_after story.state.store d.session d.act d.said (story.told d.session))
@@ -225,7 +225,7 @@ story_step story d after g step = record {
       | inr x ↦ subst (λ (z : State). Noted z.store j (story.told j)) (sym x.left) (g.noted j js)
     ]
 
-story_run : (story : Story) (ds : List Did) (after : Story) → StoryGood story → Tells story ds after → StoryGood after
+story_run : (story : Story) (ds : List Did) (after : Story) → StoryGood story → Unfolds story ds after → StoryGood after
 story_run story [] after g r = subst StoryGood (sym r) g
 story_run story (d ∷ ds) after g r = story_run (story_after story d r.0) ds after (story_step story d r.0 g r.1) r.2
 
@@ -237,27 +237,27 @@ story_reached story r = story_run _ r.steps story (record {
 
 -- ---- programs
 
-next_so : {R : Type 0} (IsSo : Told → Type 0) (p : Program R) (cs : List RowChange) (t : Told) (q : Program R) (ds : List RowChange) → Next (λ t. Unit {0}) p cs t q ds → IsSo t → Next IsSo p cs t q ds
+next_so : {R : Type 0} (IsSo : Fact → Type 0) (p : Dialogue R) (cs : List RowChange) (t : Fact) (q : Dialogue R) (ds : List RowChange) → Next (λ t. Unit {0}) p cs t q ds → IsSo t → Next IsSo p cs t q ds
 next_so IsSo (Fetch n i f) cs (Found m j rows kept) q ds h so = (h.0, h.1, h.2, so, h.4, h.5)
 next_so IsSo (Change p new f) cs (WasThere r o before kept) q ds h so = (h.0, h.1, h.2, so, h.4, h.5)
 next_so IsSo (Undo p) cs (TookBack kept) q ds h so = h
 next_so IsSo _ cs _ q ds h so = absurd h
 
-next_kept : {R : Type 0} (p : Program R) (cs : List RowChange) (t : Told) (q : Program R) (ds : List RowChange) (told : List Told) → Next (λ t. Unit {0}) p cs t q ds → cs ≡ kept_after told → ds ≡ kept_after (t ∷ told)
+next_kept : {R : Type 0} (p : Dialogue R) (cs : List RowChange) (t : Fact) (q : Dialogue R) (ds : List RowChange) (told : List Fact) → Next (λ t. Unit {0}) p cs t q ds → cs ≡ kept_after told → ds ≡ kept_after (t ∷ told)
 next_kept (Fetch n i f) cs (Found m j rows kept) q ds told h e = h.5 ∙ e
 next_kept (Change p new f) cs (WasThere r o before kept) q ds told h e = h.5 ∙ λ x. record { key = sym h.0 x; before = before; after = sym h.1 x } ∷ e x
 next_kept (Undo p) cs (TookBack kept) q ds told h e = h.2 ∙ ap without_latest e
 next_kept _ cs _ q ds told h e = absurd h
 
-goes_so : {R : Type 0} (IsSo : Told → Type 0) (p : Program R) (told : List Told) (q : Program R) (cs : List RowChange) → AllByRecursion IsSo told → Goes (λ t. Unit {0}) p told q cs → Goes IsSo p told q cs
+goes_so : {R : Type 0} (IsSo : Fact → Type 0) (p : Dialogue R) (told : List Fact) (q : Dialogue R) (cs : List RowChange) → AllByRecursion IsSo told → Goes (λ t. Unit {0}) p told q cs → Goes IsSo p told q cs
 goes_so IsSo p [] q cs all h = h
 goes_so IsSo p (t ∷ told) q cs all h = (h.0, h.1, goes_so IsSo p told h.0 h.1 all.1 h.2, next_so IsSo h.0 h.1 t q cs h.3 all.0)
 
-goes_kept : {R : Type 0} (p : Program R) (told : List Told) (q : Program R) (cs : List RowChange) → Goes (λ t. Unit {0}) p told q cs → cs ≡ kept_after told
+goes_kept : {R : Type 0} (p : Dialogue R) (told : List Fact) (q : Dialogue R) (cs : List RowChange) → Goes (λ t. Unit {0}) p told q cs → cs ≡ kept_after told
 goes_kept p [] q cs h = h.1
 goes_kept p (t ∷ told) q cs h = next_kept h.0 h.1 t q cs told h.3 (goes_kept p told h.0 h.1 h.2)
 
-pub notes_true : (base : Database) (locks : List Want) (told : List Told) → AllByRecursion (NoteGood base locks) told → AllByRecursion (IsTrueIn base) told
+pub notes_true : (base : Database) (locks : List Want) (told : List Fact) → AllByRecursion (NoteGood base locks) told → AllByRecursion (IsTrueIn base) told
 notes_true base locks [] h = tt
 notes_true base locks (Found n interval rows cs ∷ told) h = (h.0.so, notes_true base locks told h.1)
 notes_true base locks (WasThere p new before cs ∷ told) h = (h.0.so, notes_true base locks told h.1)

@@ -26,7 +26,7 @@ use Rattle.txn_machine.specs.Keeping.{KeptStep, Put, Pay, changes_of, Open, begu
 use Rattle.txn_machine.specs.Fresh.{fresh}
 use Rattle.txn_machine.specs.Ghosts.{Holds, MayReadIn, the_views}
 use Rattle.txn_machine.specs.Store.{Store, committed, schema_of, now, changes_by, locks_of, change_at, notes_before, paid_first, undone, entry_changes, Effect, Opens, Takes, Notes, Writes, Pays, Ghosts, Undoes, Loses, Ends, Commits, Defines, Cleans, Prunes, does, run}
-use Rattle.txn_machine.specs.Alone.{Told, Found, WasThere, TookBack, told_of_undo, with_changes, IsTrueIn, without_latest}
+use Rattle.txn_machine.specs.Alone.{Fact, Found, WasThere, TookBack, told_of_undo, with_changes, IsTrueIn, without_latest}
 use Rattle.txn_machine.specs.ViewLaws.{AreSound}
 pub use Rattle.txn_machine.specs.KeptLaws.{kept_after}
 use Rattle.txn_machine.proofs.Basics.{one_same, one_other, holds_more, read_more}
@@ -60,7 +60,7 @@ pub record WasGood (base : Database) (locks : List Want) (p : Place) (before : O
   pub key : Holds locks Exclusive p.0 p.1
   pub so : before ≡ get (redo cs base.rows) p
 
-abbrev pub NoteGood : Database → List Want → Told → Type 0
+abbrev pub NoteGood : Database → List Want → Fact → Type 0
 NoteGood base locks (Found n interval rows cs) = FoundGood base locks n interval rows cs
 NoteGood base locks (WasThere p new before cs) = WasGood base locks p before cs
 NoteGood base locks (TookBack cs) = Unit {0}
@@ -69,7 +69,7 @@ holds_all_more : (objects : Schema) (ls ms : List Want) (cs : List RowChange) �
 holds_all_more objects ls ms [] h = tt
 holds_all_more objects ls ms (c ∷ cs) h = (for_more objects ls ms c h.0, holds_all_more objects ls ms cs h.1)
 
-notes_more : (base : Database) (ls ms : List Want) (told : List Told) → AllByRecursion (NoteGood base ms) told → AllByRecursion (NoteGood base (ls ++ ms)) told
+notes_more : (base : Database) (ls ms : List Want) (told : List Fact) → AllByRecursion (NoteGood base ms) told → AllByRecursion (NoteGood base (ls ++ ms)) told
 notes_more base ls ms [] h = tt
 notes_more base ls ms (Found n interval rows cs ∷ told) h =
     (record { holds = holds_all_more base.schema ls ms cs h.0.holds; proper = h.0.proper; is_true = h.0.is_true; may = λ k l. read_more ls ms n k (h.0.may k l); so = h.0.so }, notes_more base ls ms told h.1)
@@ -78,7 +78,7 @@ notes_more base ls ms (WasThere p new before cs ∷ told) h =
 notes_more base ls ms (TookBack cs ∷ told) h = (tt, notes_more base ls ms told h.1)
 
 notes_framed : (base : Database) (number : ℕ) (rows : Rows) (locks : List Want) → Framed base.schema locks base.rows rows → AreSound base.schema base.rows → AreSound base.schema rows
-    → (told : List Told) → AllByRecursion (NoteGood base locks) told → AllByRecursion (NoteGood (record { number = number; schema = base.schema; rows = rows }) locks) told
+    → (told : List Fact) → AllByRecursion (NoteGood base locks) told → AllByRecursion (NoteGood (record { number = number; schema = base.schema; rows = rows }) locks) told
 notes_framed base number rows locks f so ss [] h = tt
 notes_framed base number rows locks f so ss (Found n interval found cs ∷ told) h =
     let r = framed_redo base.schema locks base.rows rows f so ss cs h.0.holds h.0.proper h.0.is_true in (
@@ -106,20 +106,20 @@ notes_framed base number rows locks f so ss (TookBack cs ∷ told) h = (tt, note
 
 -- ---- what a transaction was told
 
-pub record SerialTold (base : Database) (t : Open) (told : List Told) : Type 0 where
+pub record SerialTold (base : Database) (t : Open) (told : List Fact) : Type 0 where
   pub notes : AllByRecursion (NoteGood base t.locks) told
   pub trace : kept_after told ≡ changes_of t.kept
 
-pub record SnapshotTold (origin : Database) (history : List Entry) (t : Open) (told : List Told) : Type 0 where
+pub record SnapshotTold (origin : Database) (history : List Entry) (t : Open) (told : List Fact) : Type 0 where
   pub number : t.number ≤ (fold history origin).number
   pub nothing : t.kept ≡ []
   pub notes : AllByRecursion (IsTrueIn (state_at origin history t.number)) told
 
-pub record NoteFor (origin : Database) (history : List Entry) (t : Open) (told : List Told) : Type 0 where
+pub record NoteFor (origin : Database) (history : List Entry) (t : Open) (told : List Fact) : Type 0 where
   pub serial : t.mode ≡ Serial → SerialTold (fold history origin) t told
   pub snapshot : t.mode ≡ Snapshot → SnapshotTold origin history t told
 
-abbrev pub NoteOf : Database → List Entry → Option Open → List Told → Type 0
+abbrev pub NoteOf : Database → List Entry → Option Open → List Fact → Type 0
 NoteOf origin history None told = told ≡ []
 NoteOf origin history (Some t) told = NoteFor origin history t told
 
@@ -127,14 +127,14 @@ not_snapshot : Serial ≡ Snapshot → ⊥
 not_snapshot e = cc
 
 -- where none is open, what stands for a transaction was told nothing
-note_now : (s : Store) (i : ℕ) (told : List Told) → NoteOf s.origin s.history (s.open_of i) told → ((now s i).mode ≡ Serial → SerialTold (committed s) (now s i) told)
+note_now : (s : Store) (i : ℕ) (told : List Fact) → NoteOf s.origin s.history (s.open_of i) told → ((now s i).mode ≡ Serial → SerialTold (committed s) (now s i) told)
 note_now s i told h = go (s.open_of i) h
   where
     go : (o : Option Open) → NoteOf s.origin s.history o told → ((the_open o).mode ≡ Serial → SerialTold (committed s) (the_open o) told)
     go None e m = subst (λ l. SerialTold (committed s) idle l) (sym e) (record { notes = tt; trace = refl })
     go (Some t) h m = h.serial m
 
-snap_now : (s : Store) (i : ℕ) (told : List Told) → NoteOf s.origin s.history (s.open_of i) told → ((now s i).mode ≡ Snapshot → SnapshotTold s.origin s.history (now s i) told)
+snap_now : (s : Store) (i : ℕ) (told : List Fact) → NoteOf s.origin s.history (s.open_of i) told → ((now s i).mode ≡ Snapshot → SnapshotTold s.origin s.history (now s i) told)
 snap_now s i told h = go (s.open_of i) h
   where
     go : (o : Option Open) → NoteOf s.origin s.history o told → ((the_open o).mode ≡ Snapshot → SnapshotTold s.origin s.history (the_open o) told)
@@ -143,7 +143,7 @@ snap_now s i told h = go (s.open_of i) h
 
 -- ---- effects
 
-abbrev pub tell : Store → ℕ → Effect → List Told → List Told
+abbrev pub tell : Store → ℕ → Effect → List Fact → List Fact
 tell s i (Opens mode) told = []
 tell s i (Notes n) told = Found n.index n.interval n.rows (changes_by s i) ∷ told
 tell s i (Writes p new) told = WasThere p new (get s.rows p) (changes_by s i) ∷ told
@@ -159,7 +159,7 @@ CanTell s i (Defines o) = s.open_of i ≡ None
 CanTell s i _ = Unit {0}
 
 -- the transaction is this one now, of the same mode and number, and no commit came
-set_note : (s : Store) (i : ℕ) (u : Open) (told : List Told) → u.mode ≡ (now s i).mode → u.number ≡ (now s i).number → (told' : List Told)
+set_note : (s : Store) (i : ℕ) (u : Open) (told : List Fact) → u.mode ≡ (now s i).mode → u.number ≡ (now s i).number → (told' : List Fact)
     → NoteOf s.origin s.history (s.open_of i) told → (SerialTold (committed s) (now s i) told → SerialTold (committed s) u told')
     → ((now s i).mode ≡ Snapshot → (told' ≡ told) × (u.kept ≡ (now s i).kept))
     → NoteOf s.origin s.history (with_one s.open_of i (Some u) i) told'
@@ -189,12 +189,12 @@ never s i a b = absurd (not_snapshot (sym a ∙ b))
 not_nothing : (k : KeptStep) (ks : List KeptStep) → k ∷ ks ≡ [] → ⊥
 not_nothing k ks e = cc
 
-own_pays : (s : Store) (i : ℕ) (told : List Told) (owes : List GroupDelta) → (now s i).mode ≡ Serial → NoteOf s.origin s.history (s.open_of i) told
+own_pays : (s : Store) (i : ℕ) (told : List Fact) (owes : List GroupDelta) → (now s i).mode ≡ Serial → NoteOf s.origin s.history (s.open_of i) told
     → NoteOf (paid_first s i (now s i) owes).origin (paid_first s i (now s i) owes).history ((paid_first s i (now s i) owes).open_of i) told
 own_pays s i told [] m h = h
 own_pays s i told (d ∷ ds) m h = set_note s i (record (now s i) { kept = Pay d ∷ (now s i).kept; owed = ds }) told refl refl told h (λ g. record { notes = g.notes; trace = g.trace }) (never s i m)
 
-own_undoes : (s : Store) (i : ℕ) (told : List Told) (ks : List KeptStep) → (now s i).kept ≡ ks → NoteOf s.origin s.history (s.open_of i) told
+own_undoes : (s : Store) (i : ℕ) (told : List Fact) (ks : List KeptStep) → (now s i).kept ≡ ks → NoteOf s.origin s.history (s.open_of i) told
     → NoteOf (undone s i (now s i) ks).origin (undone s i (now s i) ks).history ((undone s i (now s i) ks).open_of i) (told_of_undo ks told)
 own_undoes s i told [] e h = h
 own_undoes s i told (Put c ds ∷ ks) e h = set_note s i (record (now s i) { kept = ks; owed = []; back = 0; notes = notes_before (length ks) (now s i).notes }) told refl refl (told_of_undo (Put c ds ∷ ks) told) h
@@ -202,7 +202,7 @@ own_undoes s i told (Put c ds ∷ ks) e h = set_note s i (record (now s i) { kep
 own_undoes s i told (Pay d ∷ ks) e h = set_note s i (record (now s i) { kept = ks; owed = d ∷ (now s i).owed; back = (now s i).back + 1 }) told refl refl told h
     (λ g. record { notes = g.notes; trace = g.trace ∙ ap changes_of e }) (λ x. absurd (not_nothing (Pay d) ks (sym e ∙ (snap_now s i told h x).nothing)))
 
-pub own_effect : (s : Store) (i : ℕ) (e : Effect) → Good' s → Can' s i e → CanTell s i e → IsSerial s i e → (told : List Told) → NoteOf s.origin s.history (s.open_of i) told
+pub own_effect : (s : Store) (i : ℕ) (e : Effect) → Good' s → Can' s i e → CanTell s i e → IsSerial s i e → (told : List Fact) → NoteOf s.origin s.history (s.open_of i) told
     → NoteOf (does the_views s i e).origin (does the_views s i e).history ((does the_views s i e).open_of i) (tell s i e told)
 own_effect s i (Opens mode) g can ct m told h = subst (λ (o : Option Open). NoteOf s.origin s.history o []) (sym (one_same s.open_of i (Some (begun mode (committed s).number)) i refl)) (record {
   serial = λ x. record { notes = tt; trace = refl };
@@ -258,12 +258,12 @@ state_at_push origin es e n h =
     ap (λ l. fold l origin) (filter-append (λ (x : Entry). nat_le x.number n) es (e ∷ [])
     ∙ (ap (λ b. filter (λ (x : Entry). nat_le x.number n) es ++ cond b (e ∷ []) []) (above e.number n h) ∙ append-nil (filter (λ (x : Entry). nat_le x.number n) es)))
 
-other_pays : (s : Store) (i j : ℕ) → j ≢ i → (told : List Told) (owes : List GroupDelta) → NoteOf s.origin s.history (s.open_of j) told
+other_pays : (s : Store) (i j : ℕ) → j ≢ i → (told : List Fact) (owes : List GroupDelta) → NoteOf s.origin s.history (s.open_of j) told
     → NoteOf (paid_first s i (now s i) owes).origin (paid_first s i (now s i) owes).history ((paid_first s i (now s i) owes).open_of j) told
 other_pays s i j n told [] h = h
 other_pays s i j n told (d ∷ ds) h = subst (λ (o : Option Open). NoteOf s.origin s.history o told) (sym (one_other s.open_of i (Some (record (now s i) { kept = Pay d ∷ (now s i).kept; owed = ds })) j n)) h
 
-other_undoes : (s : Store) (i j : ℕ) → j ≢ i → (told : List Told) (ks : List KeptStep) → NoteOf s.origin s.history (s.open_of j) told
+other_undoes : (s : Store) (i j : ℕ) → j ≢ i → (told : List Fact) (ks : List KeptStep) → NoteOf s.origin s.history (s.open_of j) told
     → NoteOf (undone s i (now s i) ks).origin (undone s i (now s i) ks).history ((undone s i (now s i) ks).open_of j) told
 other_undoes s i j n told [] h = h
 other_undoes s i j n told (Put c ds ∷ ks) h = subst (λ (o : Option Open). NoteOf s.origin s.history o told) (sym (one_other s.open_of i (Some (record (now s i) { kept = ks; owed = []; back = 0; notes = notes_before (length ks) (now s i).notes })) j n)) h
@@ -273,7 +273,7 @@ module _ (s : Store) (i : ℕ) (g : Good' s) (is : IsSession i) (owes : (now s i
   abbrev made : Entry
   made = record { number = (committed s).number + 1; session = i; kept = entry_changes (now s i).kept }
 
-  other_commits : (j : ℕ) → IsSession j → j ≢ i → (told : List Told) (o : Option Open) → s.open_of j ≡ o → NoteOf s.origin s.history o told → NoteOf s.origin (s.history ++ made ∷ []) o told
+  other_commits : (j : ℕ) → IsSession j → j ≢ i → (told : List Fact) (o : Option Open) → s.open_of j ≡ o → NoteOf s.origin s.history o told → NoteOf s.origin (s.history ++ made ∷ []) o told
   other_commits j js n told None e h = h
   other_commits j js n told (Some t) e h =
       let base : Database = committed s in
@@ -298,7 +298,7 @@ module _ (s : Store) (i : ℕ) (g : Good' s) (is : IsSession i) (owes : (now s i
             };
       }
 
-pub other_effect : (s : Store) (i : ℕ) (e : Effect) → Good' s → Can' s i e → (j : ℕ) → IsSession j → j ≢ i → (told : List Told) → NoteOf s.origin s.history (s.open_of j) told
+pub other_effect : (s : Store) (i : ℕ) (e : Effect) → Good' s → Can' s i e → (j : ℕ) → IsSession j → j ≢ i → (told : List Fact) → NoteOf s.origin s.history (s.open_of j) told
     → NoteOf (does the_views s i e).origin (does the_views s i e).history ((does the_views s i e).open_of j) told
 other_effect s i (Opens mode) g can j js n told h = subst (λ (o : Option Open). NoteOf s.origin s.history o told) (sym (one_other s.open_of i (Some (begun mode (committed s).number)) j n)) h
 other_effect s i (Takes wants) g can j js n told h = subst (λ (o : Option Open). NoteOf s.origin s.history o told) (sym (one_other s.open_of i (Some (record (now s i) { locks = wants ++ (now s i).locks })) j n)) h
@@ -325,17 +325,17 @@ abbrev pub TellAll : Store → ℕ → List Effect → Type 0
 TellAll s i [] = Unit {0}
 TellAll s i (e ∷ es) = (CanTell s i e × IsSerial s i e) × TellAll (does the_views s i e) i es
 
-abbrev pub tell_all : Store → ℕ → List Effect → List Told → List Told
+abbrev pub tell_all : Store → ℕ → List Effect → List Fact → List Fact
 tell_all s i [] told = told
 tell_all s i (e ∷ es) told = tell_all (does the_views s i e) i es (tell s i e told)
 
-pub own_run : (s : Store) (i : ℕ) (es : List Effect) → Good' s → CanAll the_views fresh view_laws s i es → TellAll s i es → (told : List Told) → NoteOf s.origin s.history (s.open_of i) told
+pub own_run : (s : Store) (i : ℕ) (es : List Effect) → Good' s → CanAll the_views fresh view_laws s i es → TellAll s i es → (told : List Fact) → NoteOf s.origin s.history (s.open_of i) told
     → NoteOf (run the_views s i es).origin (run the_views s i es).history ((run the_views s i es).open_of i) (tell_all s i es told)
 own_run s i [] g can t told h = h
 own_run s i (e ∷ es) g can t told h =
     own_run (does the_views s i e) i es (keeps the_views fresh view_laws s i e g can.0) can.1 t.1 (tell s i e told) (own_effect s i e g can.0 t.0.0 t.0.1 told h)
 
-pub other_run : (s : Store) (i : ℕ) (es : List Effect) → Good' s → CanAll the_views fresh view_laws s i es → (j : ℕ) → IsSession j → j ≢ i → (told : List Told) → NoteOf s.origin s.history (s.open_of j) told
+pub other_run : (s : Store) (i : ℕ) (es : List Effect) → Good' s → CanAll the_views fresh view_laws s i es → (j : ℕ) → IsSession j → j ≢ i → (told : List Fact) → NoteOf s.origin s.history (s.open_of j) told
     → NoteOf (run the_views s i es).origin (run the_views s i es).history ((run the_views s i es).open_of j) told
 other_run s i [] g can j js n told h = h
 other_run s i (e ∷ es) g can j js n told h =

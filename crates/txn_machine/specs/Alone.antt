@@ -22,19 +22,19 @@ use Rattle.txn_machine.specs.Steps.{Did, Step}
 -- ---- what is told
 
 -- what a step was told, with the changes that its transaction kept before it, the latest first
-pub data Told : Type 0 where
-  Found : (number : ℕ) (interval : Interval) (rows : List Row) (kept : List RowChange) → Told
-  WasThere : (place : Place) (new before : Option Row) (kept : List RowChange) → Told
-  TookBack : (kept : List RowChange) → Told
+pub data Fact : Type 0 where
+  Found : (number : ℕ) (interval : Interval) (rows : List Row) (kept : List RowChange) → Fact
+  WasThere : (place : Place) (new before : Option Row) (kept : List RowChange) → Fact
+  TookBack : (kept : List RowChange) → Fact
 
 -- with the latest kept step, if that is a change, taken back
-abbrev pub told_of_undo : List KeptStep → List Told → List Told
+abbrev pub told_of_undo : List KeptStep → List Fact → List Fact
 told_of_undo [] told = told
 told_of_undo (Put c owed ∷ ks) told = TookBack (changes_of (Put c owed ∷ ks)) ∷ told
 told_of_undo (Pay d ∷ ks) told = told
 
 -- what a session's open transaction was told, the latest first, after one more step of the session
-abbrev pub told_after : Store → ℕ → Act → Answer → List Told → List Told
+abbrev pub told_after : Store → ℕ → Act → Answer → List Fact → List Fact
 told_after s session (act.Begin mode) (answer.Begun number defs) told = []
 told_after s session (act.Fetch number interval mode) (answer.Rows rows) told = Found number interval rows (changes_by s session) ∷ told
 told_after s session (act.Peek number interval) (answer.Rows rows) told = Found number interval rows [] ∷ told
@@ -47,7 +47,7 @@ told_after s session _ _ told = told
 -- a state, with what each session's transaction was told so far
 pub record Story : Type 0 where
   pub state : State
-  pub told : ℕ → List Told
+  pub told : ℕ → List Fact
 
 abbrev pub story_after : Story → Did → State → Story
 story_after story d after = record {
@@ -62,7 +62,7 @@ abbrev pub with_changes : List RowChange → Database → Database
 with_changes changes db = record db { rows = redo changes db.rows }
 
 -- what was told is so in the database with the changes that were kept then, views evaluated afresh
-abbrev pub IsTrueIn : Database → Told → Type 0
+abbrev pub IsTrueIn : Database → Fact → Type 0
 IsTrueIn db (Found number interval rows kept) = read (with_changes kept db) number interval ≡ rows
 IsTrueIn db (WasThere place new before kept) = before ≡ get (redo kept db.rows) place
 IsTrueIn db (TookBack kept) = Unit {0}
@@ -70,19 +70,19 @@ IsTrueIn db (TookBack kept) = Unit {0}
 -- ---- programs
 
 -- a transaction's reads and writes, each with what follows when it is told
-pub data Program (R : Type 0) : Type 0 where
-  Done : R → Program R
-  Fetch : (number : ℕ) (interval : Interval) → (List Row → Program R) → Program R
-  Change : Place → Option Row → (Option Row → Program R) → Program R
-  Undo : Program R → Program R
+pub data Dialogue (R : Type 0) : Type 0 where
+  Done : R → Dialogue R
+  Fetch : (number : ℕ) (interval : Interval) → (List Row → Dialogue R) → Dialogue R
+  Change : Place → Option Row → (Option Row → Dialogue R) → Dialogue R
+  Undo : Dialogue R → Dialogue R
 
 abbrev pub without_latest : List RowChange → List RowChange
 without_latest [] = []
 without_latest (c ∷ cs) = cs
 
-module _ (IsSo : Told → Type 0) where
+module _ (IsSo : Fact → Type 0) where
   -- the program does one step, is told something that is so, and goes on with these changes
-  abbrev pub Next : {R : Type 0} → Program R → List RowChange → Told → Program R → List RowChange → Type 0
+  abbrev pub Next : {R : Type 0} → Dialogue R → List RowChange → Fact → Dialogue R → List RowChange → Type 0
   Next (Fetch number interval f) cs (Found n i rows kept) q ds =
       (n ≡ number) × (i ≡ interval) × (kept ≡ cs) × IsSo (Found n i rows kept) × (q ≡ f rows) × (ds ≡ cs)
   Next (Change place new f) cs (WasThere p o before kept) q ds =
@@ -91,16 +91,16 @@ module _ (IsSo : Told → Type 0) where
   Next _ cs _ q ds = ⊥
 
   -- and so on for all that was told, of which the latest stands first
-  abbrev pub Goes : {R : Type 0} → Program R → List Told → Program R → List RowChange → Type 0
+  abbrev pub Goes : {R : Type 0} → Dialogue R → List Fact → Dialogue R → List RowChange → Type 0
   Goes p [] q cs = (q ≡ p) × (cs ≡ [])
-  Goes {R} p (t ∷ ts) q cs = (middle : Program R) × (ds : List RowChange) × Goes p ts middle ds × Next middle ds t q cs
+  Goes {R} p (t ∷ ts) q cs = (middle : Dialogue R) × (ds : List RowChange) × Goes p ts middle ds × Next middle ds t q cs
 
 -- what was told leads the program here
-abbrev pub IsLed : {R : Type 0} → Program R → List Told → Program R → List RowChange → Type 0
+abbrev pub IsLed : {R : Type 0} → Dialogue R → List Fact → Dialogue R → List RowChange → Type 0
 IsLed p told q cs = Goes (λ t. Unit {0}) p told q cs
 
 -- the program that runs alone on the database is told the same, and comes here
-abbrev pub RunsAlone : {R : Type 0} → Database → Program R → List Told → Program R → List RowChange → Type 0
+abbrev pub RunsAlone : {R : Type 0} → Database → Dialogue R → List Fact → Dialogue R → List RowChange → Type 0
 RunsAlone db p told q cs = Goes (IsTrueIn db) p told q cs
 
 -- ---- runs with what was told
@@ -108,7 +108,7 @@ RunsAlone db p told q cs = Goes (IsTrueIn db) p told q cs
 abbrev pub begun_story : State → Story
 begun_story s = record { state = s; told = λ session. [] }
 
-abbrev pub Tells : Story → List Did → Story → Type 0
-Tells story [] after = after ≡ story
-Tells story (d ∷ ds) after =
-    (middle : State) × Step story.state d.session d.act d.said middle × Tells (story_after story d middle) ds after
+abbrev pub Unfolds : Story → List Did → Story → Type 0
+Unfolds story [] after = after ≡ story
+Unfolds story (d ∷ ds) after =
+    (middle : State) × Step story.state d.session d.act d.said middle × Unfolds (story_after story d middle) ds after

@@ -23,7 +23,7 @@ use Rattle.txn_machine.specs.Ghosts.{MayRead}
 use Rattle.txn_machine.specs.State.{State, most_steps}
 use Rattle.txn_machine.specs.May.{IsOpen}
 use Rattle.txn_machine.specs.Steps.{Did, Step}
-use Rattle.txn_machine.specs.Alone.{Told, Found, WasThere, TookBack, Story, IsTrueIn, without_latest, with_changes}
+use Rattle.txn_machine.specs.Alone.{Fact, Found, WasThere, TookBack, Story, IsTrueIn, without_latest, with_changes}
 use Rattle.txn_machine.specs.Laws.{IsReached, IsReachedStory, changes_above}
 use Rattle.iv_types.specs.declared.lock.GroupDelta.{GroupDelta}
 use Rattle.txn_machine.specs.Stored.{AreStored}
@@ -43,7 +43,7 @@ LengthLaw = (s : State) → IsReached s → (length s.store.history ≤ s.steps)
 -- ---- what was told
 
 -- the changes that what was told left, the latest first
-abbrev pub kept_after : List Told → List RowChange
+abbrev pub kept_after : List Fact → List RowChange
 kept_after [] = []
 kept_after (Found number interval rows kept ∷ told) = kept_after told
 kept_after (WasThere place new before kept ∷ told) = record { key = place; before = before; after = new } ∷ kept_after told

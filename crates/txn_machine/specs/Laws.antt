@@ -31,8 +31,8 @@ use Rattle.iv_types.specs.declared.session.Sessions.{Sessions}
 use Rattle.iv_types.specs.declared.session.Cycle.{Cycle}
 use Rattle.iv_types.specs.declared.refusal.EngineRefusal.TheVariants as refusal
 use Rattle.iv_types.specs.Replies.{members}
-use Rattle.txn_machine.specs.Alone.{Story, Program, begun_story, Tells, with_changes, IsLed, RunsAlone}
-use Rattle.txn_machine.specs.May.{GoesOn, IsOpen, IsReady, MayPeek, Owes}
+use Rattle.txn_machine.specs.Alone.{Story, Dialogue, begun_story, Unfolds, with_changes, IsLed, RunsAlone}
+use Rattle.txn_machine.specs.May.{IsOpenIn, IsOpen, IsReady, MayPeek, Owes}
 use Rattle.iv_meaning.specs.Escrow.{IsSession, over_sessions, paid, inf, sup, value}
 use Rattle.txn_machine.specs.Locks.{Meet}
 use Rattle.txn_machine.specs.Waiting.{WaitsOn, IsRing}
@@ -208,19 +208,19 @@ pub record IsReachedStory (story : Story) : Type 0 where
   pub opening : Opening
   pub was_opened : IsOpened db view
   pub steps : List Did
-  pub tells : Tells (begun_story (opened_state opening (opened db view))) steps story
+  pub tells : Unfolds (begun_story (opened_state opening (opened db view))) steps story
 
 -- A serial transaction that is open was told what it would have been told alone on the database that is committed now, and
 -- keeps what it would keep. This is so just before its commit, its end, each refusal, and where it never ends.
 abbrev pub RepliesLaw : Type 0
 RepliesLaw = (story : Story) → IsReachedStory story → (session : ℕ) → (o : IsOpen story.state.store session) → o.transaction.mode ≡ Serial
-    → (p q : Program (List Reply)) (cs : List RowChange) → IsLed p (story.told session) q cs
+    → (p q : Dialogue (List Reply)) (cs : List RowChange) → IsLed p (story.told session) q cs
     → RunsAlone (committed story.state.store) p (story.told session) q cs × (cs ≡ changes_by story.state.store session)
 
 -- and a snapshot on the database at its number
 abbrev pub SnapshotRepliesLaw : Type 0
 SnapshotRepliesLaw = (story : Story) → IsReachedStory story → (session : ℕ) → (o : IsOpen story.state.store session) → o.transaction.mode ≡ Snapshot
-    → (p q : Program (List Reply)) (cs : List RowChange) → IsLed p (story.told session) q cs
+    → (p q : Dialogue (List Reply)) (cs : List RowChange) → IsLed p (story.told session) q cs
     → RunsAlone (state_at story.state.store.origin story.state.store.history o.transaction.number) p (story.told session) q cs
 
 -- a commit that keeps changes is the entry of its number: what was committed before it is the state at the number before, and
@@ -305,7 +305,7 @@ PeekLaw = (s : State) → IsReached s → (session number : ℕ) (interval : Int
     → ((rows : List Row) (after : State) → Step s session (act.Peek number interval) (answer.Rows rows) after
     → (o : IsOpen s.store session) × (o.transaction.mode ≡ Snapshot)
     × (read (state_at s.store.origin s.store.history o.transaction.number) number interval ≡ rows) × (after.store ≡ s.store))
-    × (s.stop ≡ None → GoesOn s.store session Snapshot → MayPeek (numbered (schema_of s.store) number)
+    × (s.stop ≡ None → IsOpenIn s.store session Snapshot → MayPeek (numbered (schema_of s.store) number)
     → (rows : List Row) × (after : State) × Step s session (act.Peek number interval) (answer.Rows rows) after)
 
 -- ---- answers

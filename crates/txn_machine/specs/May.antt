@@ -24,7 +24,7 @@ use Rattle.txn_machine.specs.Ghosts.{Holds}
 use Rattle.txn_machine.specs.State.{State}
 
 -- the session's transaction is open, and no deadlock met it
-pub record GoesOn (s : Store) (session : ℕ) (mode : Mode) : Type 0 where
+pub record IsOpenIn (s : Store) (session : ℕ) (mode : Mode) : Type 0 where
   pub of_session : IsSession session
   pub transaction : Open
   pub is_open : s.open_of session ≡ Some transaction
@@ -33,12 +33,12 @@ pub record GoesOn (s : Store) (session : ℕ) (mode : Mode) : Type 0 where
 
 -- and it owes nothing
 pub record IsReady (s : Store) (session : ℕ) (mode : Mode) : Type 0 where
-  pub goes_on : GoesOn s session mode
+  pub goes_on : IsOpenIn s session mode
   pub owes_nothing : goes_on.transaction.owed ≡ []
 
 -- it owes a delta, and none that is coming back
 pub record Owes (s : Store) (session : ℕ) : Type 0 where
-  pub goes_on : GoesOn s session Serial
+  pub goes_on : IsOpenIn s session Serial
   pub first : GroupDelta
   pub others : List GroupDelta
   pub owed_is : goes_on.transaction.owed ≡ first ∷ others
@@ -88,7 +88,7 @@ abbrev pub MayAct : Store → ℕ → Act → Type 0
 MayAct s session (act.Begin mode) = IsSession session × (s.open_of session ≡ None)
 MayAct s session act.Defs = IsSession session
 MayAct s session (act.Fetch number interval mode) = IsReady s session Serial × MayLock mode (numbered (schema_of s) number)
-MayAct s session (act.Peek number interval) = GoesOn s session Snapshot × MayPeek (numbered (schema_of s) number)
+MayAct s session (act.Peek number interval) = IsOpenIn s session Snapshot × MayPeek (numbered (schema_of s) number)
 MayAct s session (act.Put number key new) = IsReady s session Serial × MayPut s number key new
 MayAct s session act.Pay = Owes s session
 MayAct s session act.Ghost = (o : Owes s session) × Holds (locks_of s session) Increment o.first.view o.first.group

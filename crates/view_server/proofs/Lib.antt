@@ -1,2 +1,4 @@
 pub mod Digits
+pub mod Reading
+pub mod Running
 pub mod Serving

@@ -1,20 +1,20 @@
 -- No clause of `run` rests on this module: it serves contracts between crates.
 --
--- What a line asks for, as it is read.
-use Rattle.std.specs.Prelude.{◌≡◌, ◌⊎◌, ℕ, List}
+-- What a line says, as it is read.
+use Rattle.std.specs.Prelude.{◌≡◌, ◌⊎◌, ℕ, List, Ok, Err}
 use Rattle.iv_types.specs.declared.refusal.Refusal.TheVariants.{NoMemory}
 use Rattle.iv_types.specs.Syntax.{statement_tree}
-use Rattle.iv_meaning.specs.Request.{IsRemark, IsOfSession, HasNoForm, IsFormLeft, IsRefusedText, IsStatement}
+use Rattle.iv_meaning.specs.Said.{nothing, bad, runs, unread, IsOfSession, SaysRead}
+use Rattle.iv_meaning.specs.Autocommit.{built_forms}
 use Rattle.view_server.specs.declared.asked.Request.{Request}
 use Rattle.view_server.specs.declared.asked.Request.TheVariants.{Nothing, Bad, Refused, Statement}
 
--- the parser had no memory for the text of a session's line
-pub record IsUnread (session : ℕ) (line : List ℕ) : Type 0 where
-  pub text : List ℕ
-  pub of_session : IsOfSession session text line
+-- no session's line
+abbrev pub HasNoForm : List ℕ → Type 0
+HasNoForm line = (session : ℕ) (text : List ℕ) → ¬ (IsOfSession session text line)
 
 abbrev pub AsksFor : List ℕ → Request → Type 0
-AsksFor line Nothing = IsRemark line
-AsksFor line Bad = ¬ (IsRemark line) × (HasNoForm line ⊎ IsFormLeft line)
-AsksFor line (Refused session refusal) = IsRefusedText session refusal line ⊎ ((refusal ≡ NoMemory) × IsUnread session line)
-AsksFor line (Statement session statement) = IsStatement session (statement_tree statement) line
+AsksFor line Nothing = SaysRead built_forms line nothing
+AsksFor line Bad = SaysRead built_forms line bad
+AsksFor line (Refused session refusal) = SaysRead built_forms line (runs session (Err refusal)) ⊎ ((refusal ≡ NoMemory) × SaysRead built_forms line (unread session))
+AsksFor line (Statement session statement) = SaysRead built_forms line (runs session (Ok (statement_tree statement)))

@@ -1,7 +1,7 @@
 -- What a run has read and written, by the status with which it ends.
 use Rattle.std.specs.Prelude.{◌≡◌, ◌⊎◌, ◌+◌, ◌<◌, ℕ, List, [], ◌∷◌, ◌++◌, length, map, codes, Option, Some, String, string_bytes}
 use Rattle.iv_types.specs.Faults.{Rose}
-use Rattle.iv_meaning.specs.Script.{IsScriptOutput, AnswersFirstLines, IsScriptOutputPart}
+use Rattle.iv_meaning.specs.Autocommit.{IsScriptOutput, AnswersFirstLines, IsScriptOutputPart}
 use Rattle.line_wire.specs.Wire.{WroteFront}
 use Rattle.line_wire.specs.Reading.{most_bytes}
 use Rattle.view_server.specs.declared.status.Status.{Status}

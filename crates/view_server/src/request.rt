@@ -5,9 +5,9 @@
 ghost use Rattle.std.specs.Prelude.{◌≡◌, ◌<◌, ◌≤◌, ◌^◌, ◌++◌, ℕ, List, length, Some, None, IfSome, IfNone, IsSomeAnd, IsTrue, ◌↔◌, slice_index, nat_le, if◌then◌else◌, decimal};
 ghost use Rattle.iv_types.specs.Tokens.{value_of};
 ghost use Rattle.iv_meaning.specs.Number.{BeginsWithNoDigit, digits_at_front};
-ghost use Rattle.iv_meaning.specs.Request.{IsRemark, IsOfSession, HasNoForm};
+ghost use Rattle.iv_meaning.specs.Said.{IsRemark, IsOfSession};
 ghost use Rattle.view_server.specs.Spaces.{IsBehindSpaces};
-ghost use Rattle.view_server.specs.Request.{AsksFor};
+ghost use Rattle.view_server.specs.Request.{AsksFor, HasNoForm};
 
 use crate::asked::Request;
 use crate::built_forms::built;

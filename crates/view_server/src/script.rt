@@ -3,11 +3,12 @@ ghost use Rattle.std.specs.Prelude.{◌≡◌, ◌≢◌, ◌↔◌, ◌⊎◌, 
 ghost use Rattle.iv_types.specs.Faults.{Rose, CountsFault};
 ghost use Rattle.iv_types.specs.Syntax.{statement_tree};
 ghost use Rattle.iv_meaning.specs.Database.{Database};
+ghost use Rattle.iv_meaning.specs.Serial.{World, latest};
 ghost use Rattle.iv_meaning.specs.Autocommit.{is_built};
 ghost use Rattle.line_wire.specs.declared.line.Line.TheVariants.{Text, TooLong};
 ghost use Rattle.line_wire.specs.Wire.{WroteFront};
 ghost use Rattle.list_engine.specs.Engine.{IsIn};
-ghost use Rattle.view_server.specs.Answered.{AddsAnswer, IsAnswered, IsRun, MovesOn};
+ghost use Rattle.view_server.specs.Answered.{AddsAnswer, IsAnswered, IsIdle, IsRun, MovesOn};
 ghost use Rattle.view_server.specs.Run.{IsScript, Output, Taken, SourceFaults, SinkFaults, ToldUsage, Finishes, FinishFaults};
 
 use crate::asked::Request;
@@ -66,7 +67,7 @@ fn answer(
     line: &[u8],
     text: &mut Vec<u8>,
 ) -> Result<(), NoMemory>
-    ensures { (db : Database) → IsIn engine.old db → OnOk result (IsAnswered Text line.now db text.old.items text.new.items engine.new) }
+    ensures { (w : World) → IsIdle w → IsIn engine.old (latest w) → OnOk result (IsAnswered Text line.now w text.old.items text.new.items engine.new) }
 {
     match request(alloc, line) {
         Request::Nothing => Ok(()),
@@ -86,7 +87,7 @@ fn answer_line(
     waiting: &mut Vec<u8>,
     text: &mut Vec<u8>,
 ) -> Result<(), NoMemory>
-    ensures ok { (db : Database) → IsIn engine.old db → OnOk result (IsAnswered Text line.now db waiting.old.items waiting.new.items engine.new) }
+    ensures ok { (w : World) → IsIdle w → IsIn engine.old (latest w) → OnOk result (IsAnswered Text line.now w waiting.old.items waiting.new.items engine.new) }
     ensures err { OnErr result (waiting.new.items ≡ waiting.old.items) }
 {
     text.clear();
@@ -97,7 +98,7 @@ fn answer_line(
 
 // Answers a line that was too long to be read.
 fn refuse_line(alloc: Global, waiting: &mut Vec<u8>, text: &mut Vec<u8>) -> Result<(), NoMemory>
-    ensures ok { (bytes : List ℕ) (db : Database) → OnOk result (AddsAnswer TooLong bytes db waiting.old.items waiting.new.items db) }
+    ensures ok { (bytes : List ℕ) (w : World) → OnOk result (AddsAnswer TooLong bytes w waiting.old.items waiting.new.items w) }
     ensures err { OnErr result (waiting.new.items ≡ waiting.old.items) }
 {
     text.clear();

@@ -12,9 +12,9 @@ run_by : {A E : Type 0} (r : Result A E) (session : ℕ) (tree : StatementTree) 
 run_by (Ok x) session tree db replies old new holder a e = record {
   after = a.after;
   holds = a.holds;
-  piece = reply_lines session replies;
+  replies = replies;
+  told = a.told;
   added = e;
-  run = record { replies = replies; told = a.told; printed = refl };
 }
 run_by (Err x) session tree db replies old new holder a e = tt
 

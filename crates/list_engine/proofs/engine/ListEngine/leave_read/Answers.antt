@@ -5,7 +5,7 @@ use Rattle.iv_types.specs.declared.reply.Reply.TheVariants as reply
 use Rattle.list_engine.specs.Steps.{Moves}
 use Rattle.list_engine.specs.Engine.{Stands, IsIn}
 use Rattle.list_store.proofs.HeldLemmas.{if_ok}
-use Rattle.iv_meaning.specs.Autocommit.{IsPassedOver}
+use Rattle.list_engine.specs.Whole.{IsPassedOver}
 use Rattle.list_engine.specs.declared.step.Act.TheVariants.{End}
 use Rattle.list_engine.proofs.RunningLemmas.{may_end, end_done}
 use Rattle.list_engine.proofs.RunningLemmas.{ended_is}

@@ -2,7 +2,7 @@ use Rattle.std.proofs.Common.{◌≡◌, refl, Ok, IfOk}
 use mathlib.Core.Path.{sym, ap, subst, ◌∙◌}
 use Rattle.iv_meaning.specs.Query.{BoundQuery}
 use Rattle.iv_meaning.specs.Statement.{select}
-use Rattle.iv_meaning.specs.Autocommit.{whole_meaning}
+use Rattle.list_engine.specs.Whole.{whole_meaning}
 use Rattle.sql_bind.specs.Bound.{bound_tree}
 use Rattle.query_exec.specs.Tasks.{query_in}
 use Rattle.list_engine.specs.Engine.{EndsAs}

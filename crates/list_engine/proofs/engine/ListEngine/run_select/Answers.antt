@@ -7,7 +7,7 @@ use Rattle.iv_meaning.specs.Schema.{Schema, schema_of}
 use Rattle.iv_meaning.specs.Plan.{Part, plan}
 use Rattle.iv_meaning.specs.View.{select_answer, read as reader}
 use Rattle.iv_meaning.specs.Statement.{BoundTree, select, Meaning, bound_meaning}
-use Rattle.iv_meaning.specs.Autocommit.{whole_meaning}
+use Rattle.list_engine.specs.Whole.{whole_meaning}
 use Rattle.iv_meaning.specs.Reading.{Program, program, source_of, sources_for, replies_by, replies_of}
 use Rattle.row_eval.specs.Grouped.{Gives}
 use Rattle.sql_bind.specs.Bound.{bound_tree, parts_of}

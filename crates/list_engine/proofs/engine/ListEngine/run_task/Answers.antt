@@ -6,7 +6,7 @@ use Rattle.iv_types.specs.declared.reply.Reply.TheVariants as reply
 use Rattle.iv_meaning.specs.Database.{Database}
 use Rattle.list_engine.specs.Engine.{IsIn, IsSelected, with_commit}
 use Rattle.list_store.proofs.HeldLemmas.{if_ok}
-use Rattle.iv_meaning.specs.Autocommit.{IsPassedOver}
+use Rattle.list_engine.specs.Whole.{IsPassedOver}
 use Rattle.iv_meaning.specs.Reading.{replies_by}
 use Rattle.query_laws.specs.Laws.{Asks}
 use Rattle.query_exec.specs.Tasks.{left}
