@@ -186,14 +186,21 @@ module _ (works : Works) (laws : WorkLaws works) (b : Bool) (o : Open) (t : Txn)
       marks_now (inr m) (inl e) = inl e
       marks_now (inr m) (inr c) = inr ([], t.kept, refl, c, inl refl, m)
 
-  -- ---- refused without a step
+  -- ---- what comes without a step
+
+  -- by the session's definitions the statement means what its work comes to
+  at_once : (db : Database) → IsTruthful db t → is_work statement ≡ true → (w : Work) → works.work o.mode standing.copy statement ≡ w → means statement (ran db).db ≡ alone_on w (ran db).db []
+  at_once db truth w x is =
+      let fine = (fine_ran db truth).0 in
+      sym (laws.right o.mode statement w (ran db).db fine.0) ∙ ap (λ s. alone_on (works.work o.mode s statement) (ran db).db []) (fine.1 ∙ truth.schema ∙ sym at.copy_is)
+      ∙ ap (λ y. alone_on y (ran db).db []) is
 
   denies_at_once : (why : Refusal) → is_work statement ≡ true → refused_marked o.mode standing.saved statement ≡ None → works.work o.mode standing.copy statement ≡ refuses why
       → IsDone b the_job (Some t) (reply.Error why ∷ []) standing
   denies_at_once why w e is = told o t (reply.Error why ∷ []) standing refl (work_stays statement w)
       (told_as b o t standing statement (reply.Error why ∷ []) (λ db. (lone o db).1) at.is at.mode_is at.copy_is
       (λ db truth. inside_accepted o.mode statement (ran db) (not_refused e db truth) ∙ accepted_work statement (ran db) w
-      ∙ ap (λ m. told_of m (ran db)) (laws.denies o.mode statement w standing.copy why is (ran db).db ((fine_ran db truth).0.1 ∙ truth.schema ∙ sym at.copy_is)))
+      ∙ ap (λ m. told_of m (ran db)) (at_once db truth w (refuses why) is))
       at.names at.fits at.counts at.marks at.ready at.snapshot)
 
 -- ---- where the engine is known to be stopped
@@ -223,8 +230,7 @@ module _ (works : Works) (laws : WorkLaws works) (o : Open) (t : Txn) (standing 
       (told_as true o t (record standing { kept = 0 + standing.kept }) statement (map reply.Row listed ++ reply.Done count ∷ [])
       (λ db. record (lone o db).1 { db = keep_all [] (lone o db).1.db; kept = (lone o db).1.kept ++ [] }) at.is at.mode_is at.copy_is
       (λ db truth. inside_accepted o.mode statement (lone o db).1 (not_refused works laws true o t standing at statement number e db truth) ∙ accepted_work statement (lone o db).1 w
-      ∙ ap (λ m. told_of m (lone o db).1) (laws.lists o.mode statement w standing.copy listed count is (lone o db).1.db
-      ((fine_ran works laws true o t standing at statement number db truth).0.1 ∙ truth.schema ∙ sym at.copy_is)))
+      ∙ ap (λ m. told_of m (lone o db).1) (at_once works laws true o t standing at statement number db truth w (done listed count) is))
       at.names (inl refl) (inl refl) (inl refl) (inl refl) (inl refl))
 
   work_halted : is_work statement ≡ true → refused_marked o.mode standing.saved statement ≡ None → (mode : Mode) → o.mode ≡ mode → (w : Work) → works.work o.mode standing.copy statement ≡ w
