@@ -1,0 +1,30 @@
+//! How SELECT, INSERT, UPDATE and DELETE work in steps, and that alone on a sound database each comes to what its statement
+//! means. Each function is there for its contract.
+#![tactic(auto)]
+
+ghost use Rattle.statement_law.specs.Laws.{EscrowLaw, FitsLaw, KeyLaw, StatementsLaw, WorksLaw};
+
+/// Values that fit are read from their key.
+pub fn key_law()
+    ensures { KeyLaw }
+{}
+
+/// A refusal of a view's escrow is told with the names of its view and column, and the values of its group.
+pub fn escrow_law()
+    ensures { EscrowLaw }
+{}
+
+/// Alone on a sound database the work of each statement comes to what the statement means.
+pub fn works_law()
+    ensures { WorksLaw }
+{}
+
+/// Told what is so on a sound database, each work asks only for steps that fit what is defined and stored.
+pub fn fits_law()
+    ensures { FitsLaw }
+{}
+
+/// What a script prints that is run over the machine by the programs of these works is serial.
+pub fn statements_law()
+    ensures { StatementsLaw }
+{}
