@@ -70,7 +70,7 @@ tells_run : (story : Story) (ds : List Did) (after : Story) → Tells story ds a
 tells_run story [] after h = ap (λ (x : Story). x.state) h
 tells_run story (d ∷ ds) after h = (h.0, h.1, tells_run (story_after story d h.0) ds after h.2)
 
-reached_of : (story : Story) → IsReachedStory story → IsReached story.state
+pub reached_of : (story : Story) → IsReachedStory story → IsReached story.state
 reached_of story r = record {
   db = r.db;
   view = r.view;

@@ -8,3 +8,4 @@ pub mod Telling
 pub mod Works
 pub mod Asking
 pub mod Fitting
+pub mod Asked

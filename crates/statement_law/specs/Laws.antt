@@ -1,7 +1,7 @@
 -- No clause of `run` rests on this module: it serves contracts between crates.
 --
 -- The laws of the works of statements.
-use Rattle.std.specs.Prelude.{◌≡◌, ◌⊎◌, ℕ, ℤ, ◌+◌, true, List, [], ◌∷◌, length, slice_get, Option, Some, None}
+use Rattle.std.specs.Prelude.{◌≡◌, ◌⊎◌, ℕ, ℤ, ◌+◌, true, List, [], ◌∷◌, ◌++◌, length, slice_get, Option, Some, None}
 use Rattle.std.specs.List.{All, Contains}
 use Rattle.std.specs.Option.{unwrap_or}
 use Rattle.iv_types.specs.declared.value.Kind.{Kind}
@@ -20,21 +20,24 @@ use Rattle.iv_meaning.specs.Said.{Said}
 use Rattle.iv_meaning.specs.Transaction.{refused_inside}
 use Rattle.iv_meaning.specs.Serial.{opened_with, IsSerialFrom}
 use Rattle.iv_meaning.specs.Escrow.{IsSession}
-use Rattle.txn_machine.specs.Acts as act
+use Rattle.txn_machine.specs.Acts.{Act}
+use Rattle.txn_machine.specs.Deltas.{RowChange}
+use Rattle.txn_machine.specs.May.{IsOpen, MayAct}
 use Rattle.txn_machine.specs.ViewLaws.{AreSound}
 use Rattle.txn_machine.specs.Stored.{ViewRows}
-use Rattle.txn_machine.specs.Store.{opened, committed, changes_by, locks_of}
+use Rattle.txn_machine.specs.Store.{opened, schema_of, changes_by}
 use Rattle.txn_machine.specs.Log.{Opening}
 use Rattle.txn_machine.specs.State.{opened_state}
-use Rattle.txn_machine.specs.Alone.{Story, begun_story}
+use Rattle.txn_machine.specs.Alone.{Told, Story, begun_story}
 use Rattle.txn_machine.specs.Laws.{IsOpened, IsReachedStory}
 use Rattle.script_law.specs.RunLines.{all_sessions, RunsScript}
-use Rattle.script_law.specs.Machine.{DoesOf, seen_of, IsStopped, IsFitting}
-use Rattle.script_law.specs.Works.{Work, fetches, puts, is_work, WorkLaws}
+use Rattle.script_law.specs.Machine.{DoesOf, seen_of, IsStopped, IsAlive}
+use Rattle.script_law.specs.Seen.{MayWant}
+use Rattle.script_law.specs.Works.{Work, is_work, WorkLaws}
 use Rattle.script_law.specs.Sessions.{programs_of}
 use Rattle.statement_law.specs.Telling.{values_of, column_name, tell}
 use Rattle.statement_law.specs.Statements.{statement_work, the_works}
-use Rattle.statement_law.specs.Fitting.{EachFits}
+use Rattle.statement_law.specs.Fitting.{EachFits, next_step, Leads}
 
 -- alone on a sound database each work comes to what its statement means
 abbrev pub WorksLaw : Type 0
@@ -58,6 +61,15 @@ EscrowLaw = (objects : Schema) (d : GroupDelta) (v : ViewTree) (group : Row) (co
 abbrev pub FitsLaw : Type 0
 FitsLaw = (mode : Mode) (statement : StatementTree) → is_work statement ≡ true → refused_inside mode [] statement ≡ None
     → (db : Database) → AreSound db.schema db.rows → (locks : List Want) → EachFits mode db (statement_work mode db.schema statement) locks []
+
+-- What a work asks the machine for, led there by what its transaction was told, may be asked for: the transaction is open, owes
+-- nothing, and no deadlock met it.
+abbrev pub AskedLaw : Type 0
+AskedLaw = (story : Story) → IsReachedStory story → (session : ℕ) (o : IsOpen story.state.store session)
+    → (statement : StatementTree) → is_work statement ≡ true → refused_inside o.transaction.mode [] statement ≡ None
+    → (earlier cs : List RowChange) → changes_by story.state.store session ≡ cs ++ earlier → (told before : List Told) → story.told session ≡ told ++ before
+    → (work : Work) → Leads earlier (statement_work o.transaction.mode (schema_of story.state.store) statement) told cs work
+    → (a : Act) → next_step o.transaction.mode work ≡ Some a → MayWant ((seen_of story).open_of session) a → IsAlive story session a → MayAct story.state.store session a
 
 -- ---- scripts
 

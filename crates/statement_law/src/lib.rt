@@ -2,7 +2,7 @@
 //! means. Each function is there for its contract.
 #![tactic(auto)]
 
-ghost use Rattle.statement_law.specs.Laws.{EscrowLaw, FitsLaw, KeyLaw, StatementsLaw, WorksLaw};
+ghost use Rattle.statement_law.specs.Laws.{AskedLaw, EscrowLaw, FitsLaw, KeyLaw, StatementsLaw, WorksLaw};
 
 /// Values that fit are read from their key.
 pub fn key_law()
@@ -22,6 +22,11 @@ pub fn works_law()
 /// Told what is so on a sound database, each work asks only for steps that fit what is defined and stored.
 pub fn fits_law()
     ensures { FitsLaw }
+{}
+
+/// What a work asks the machine for, where what its transaction was told led it, may be asked for.
+pub fn asked_law()
+    ensures { AskedLaw }
 {}
 
 /// What a script prints that is run over the machine by the programs of these works is serial.
