@@ -474,7 +474,7 @@ fact story after i a said r h = elim h.1.does [
   | inr x ↦ subst (λ y. FactOf story i (event a y)) (sym x.says) tt
 ]
 
-machine_laws : StepLaws seen_of DoesOf IsReachedStory IsStopped
+pub machine_laws : StepLaws seen_of DoesOf IsReachedStory IsStopped
 machine_laws = record {
   stands = stands;
   answers = answers;

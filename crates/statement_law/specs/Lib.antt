@@ -5,3 +5,4 @@ pub mod Telling
 pub mod Statements
 pub mod Fitting
 pub mod Laws
+pub mod Retrying

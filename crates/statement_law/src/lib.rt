@@ -2,6 +2,7 @@
 //! means. Each function is there for its contract.
 #![tactic(auto)]
 
+ghost use Rattle.statement_law.specs.Retrying.{EndsLaw, RetriesLaw};
 ghost use Rattle.statement_law.specs.Laws.{AskedLaw, EscrowLaw, FitsLaw, KeyLaw, StatementsLaw, WorksLaw};
 
 /// Values that fit are read from their key.
@@ -32,4 +33,14 @@ pub fn asked_law()
 /// What a script prints that is run over the machine by the programs of these works is serial.
 pub fn statements_law()
     ensures { StatementsLaw }
+{}
+
+/// A statement does no more steps than the engine will count, and one that tells it that the engine is stopped.
+pub fn ends_law()
+    ensures { EndsLaw }
+{}
+
+/// Behind a line of a script no more passes over waiting sessions move than the engine will count steps and there are sessions.
+pub fn retries_law()
+    ensures { RetriesLaw }
 {}
