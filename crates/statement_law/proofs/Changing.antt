@@ -25,7 +25,7 @@ use Rattle.txn_machine.specs.ViewLaws.{AreSound}
 use Rattle.txn_machine.proofs.Agreeing.{written_other}
 use Rattle.script_law.specs.Seen.{in_order}
 use Rattle.script_law.specs.Works.{Work, alone_on}
-use Rattle.statement_law.specs.Changing.{on_interval, by_plan, passing, puts_all, set_to, taken_out, updates, update_rows, delete_rows}
+use Rattle.statement_law.specs.Changing.{on_interval, by_plan, chosen_by, puts_all, set_to, taken_out, updates, update_rows, delete_rows}
 use Rattle.statement_law.proofs.Rows.{is_sound, Apart, apart_filter, of_listed, rows_apart}
 use Rattle.statement_law.proofs.Plans.{one_part, passes_listed}
 
@@ -138,15 +138,15 @@ module _ (db : Database) (t : TableDef) where
         )
 
     pub update_right : (mode : Mode) (ss : List BoundSet) (condition : Option Tree)
-        → alone_on (by_plan mode db.schema (update t.number ss condition) (λ rows. update_rows t ss (passing condition rows))) db [] ≡ update_meaning t ss (matching t condition db.rows)
+        → alone_on (by_plan mode db.schema (update t.number ss condition) (λ rows. update_rows t ss (chosen_by condition rows))) db [] ≡ update_meaning t ss (matching t condition db.rows)
     update_right mode ss condition =
-        ap (λ ps. alone_on (on_interval (map (source_of db.schema) ps) (λ rows. update_rows t ss (passing condition rows))) db []) (one_part db (is_sound db sound) mode t.number t is condition)
+        ap (λ ps. alone_on (on_interval (map (source_of db.schema) ps) (λ rows. update_rows t ss (chosen_by condition rows))) db []) (one_part db (is_sound db sound) mode t.number t is condition)
         ∙ (ap (λ o. alone_on (update_rows t ss o) db []) (passes_listed db (is_sound db sound) mode t.number t is condition)
         ∙ update_alone ss (matching t condition db.rows) (λ rows e. matching_there condition rows e))
 
     pub delete_right : (mode : Mode) (condition : Option Tree)
-        → alone_on (by_plan mode db.schema (delete t.number condition) (λ rows. delete_rows t (passing condition rows))) db [] ≡ delete_meaning t (matching t condition db.rows)
+        → alone_on (by_plan mode db.schema (delete t.number condition) (λ rows. delete_rows t (chosen_by condition rows))) db [] ≡ delete_meaning t (matching t condition db.rows)
     delete_right mode condition =
-        ap (λ ps. alone_on (on_interval (map (source_of db.schema) ps) (λ rows. delete_rows t (passing condition rows))) db []) (one_part db (is_sound db sound) mode t.number t is condition)
+        ap (λ ps. alone_on (on_interval (map (source_of db.schema) ps) (λ rows. delete_rows t (chosen_by condition rows))) db []) (one_part db (is_sound db sound) mode t.number t is condition)
         ∙ (ap (λ o. alone_on (delete_rows t o) db []) (passes_listed db (is_sound db sound) mode t.number t is condition)
         ∙ delete_alone (matching t condition db.rows) (λ rows e. matching_there condition rows e))

@@ -47,7 +47,7 @@ use Rattle.script_law.specs.Seen.{in_order}
 use Rattle.script_law.specs.Works.{Work, done, refuses, fetches, puts, alone_on}
 use Rattle.script_law.proofs.Changing.{kept_makes}
 use Rattle.statement_law.specs.Inserting.{unless_there, inserts, insert_work}
-use Rattle.statement_law.specs.Changing.{on_interval, by_plan, passing, puts_all, set_to, taken_out, updates, update_rows, delete_rows}
+use Rattle.statement_law.specs.Changing.{on_interval, by_plan, chosen_by, puts_all, set_to, taken_out, updates, update_rows, delete_rows}
 use Rattle.statement_law.specs.Fitting.{IsLocked, FitsPut, EachFits}
 use Rattle.statement_law.proofs.Rows.{is_sound, Apart, apart_filter, inside_is, of_listed, point_none, point_some, put_sound}
 use Rattle.statement_law.proofs.Plans.{the_part, one_part, passes_listed}
@@ -308,7 +308,7 @@ module _ (db : Database) (sound : AreSound db.schema db.rows) (t : TableDef) (is
         by (inl e) = exclusive_table (numbered db.schema source.part.index) t e
         by (inr h) = subst (MayLock Exclusive) (sym h.1) tt
 
-    given : (locks : List Want) (rows : List Row) → passing condition listing ≡ Some rows → AreGiven (want ∷ locks) rows
+    given : (locks : List Want) (rows : List Row) → chosen_by condition listing ≡ Some rows → AreGiven (want ∷ locks) rows
     given locks rows e =
         let there = matching_there db t sound is condition rows (sym (passes_listed db (is_sound db sound) Serial t.number t is condition) ∙ e) in
         let held : AllByRecursion (IsHeld db.schema t (want ∷ locks)) listing =
@@ -320,12 +320,12 @@ module _ (db : Database) (sound : AreSound db.schema db.rows) (t : TableDef) (is
         )
 
     pub update_fits : (ss : List BoundSet) → AllByRecursion (SetsNot ss) t.primary → (locks : List Want)
-        → EachFits Serial db (by_plan Serial db.schema (update t.number ss condition) (λ rows. update_rows t ss (passing condition rows))) locks []
+        → EachFits Serial db (by_plan Serial db.schema (update t.number ss condition) (λ rows. update_rows t ss (chosen_by condition rows))) locks []
     update_fits ss none locks =
-        subst (λ ps. EachFits Serial db (on_interval (map (source_of db.schema) ps) (λ rows. update_rows t ss (passing condition rows))) locks []) (sym (one_part db (is_sound db sound) Serial t.number t is condition))
-        (may_lock, update_fits_of ss none (passing condition listing) (want ∷ locks) (λ rows e. given locks rows e))
+        subst (λ ps. EachFits Serial db (on_interval (map (source_of db.schema) ps) (λ rows. update_rows t ss (chosen_by condition rows))) locks []) (sym (one_part db (is_sound db sound) Serial t.number t is condition))
+        (may_lock, update_fits_of ss none (chosen_by condition listing) (want ∷ locks) (λ rows e. given locks rows e))
 
-    pub delete_fits : (locks : List Want) → EachFits Serial db (by_plan Serial db.schema (delete t.number condition) (λ rows. delete_rows t (passing condition rows))) locks []
+    pub delete_fits : (locks : List Want) → EachFits Serial db (by_plan Serial db.schema (delete t.number condition) (λ rows. delete_rows t (chosen_by condition rows))) locks []
     delete_fits locks =
-        subst (λ ps. EachFits Serial db (on_interval (map (source_of db.schema) ps) (λ rows. delete_rows t (passing condition rows))) locks []) (sym (one_part db (is_sound db sound) Serial t.number t is condition))
-        (may_lock, delete_fits_of (passing condition listing) (want ∷ locks) (λ rows e. given locks rows e))
+        subst (λ ps. EachFits Serial db (on_interval (map (source_of db.schema) ps) (λ rows. delete_rows t (chosen_by condition rows))) locks []) (sym (one_part db (is_sound db sound) Serial t.number t is condition))
+        (may_lock, delete_fits_of (chosen_by condition listing) (want ∷ locks) (λ rows e. given locks rows e))

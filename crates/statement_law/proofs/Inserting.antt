@@ -34,8 +34,8 @@ one_more : (cs : List RowChange) (c d : RowChange) (o : Option (List (Change Pla
 one_more cs c d None count e = refl
 one_more cs c d (Some changes) count e = ap (Accepted [] count) (append_assoc (in_order cs) (sets c ∷ []) (map sets changes) ∙ ap (λ x. in_order cs ++ sets x ∷ map sets changes) e)
 
-abbrev with_row : TableDef → Row → List (Change Place Row) → List (Change Place Row)
-with_row t row changes = record { key = (t.number, key_of t row); before = None; after = Some row } ∷ changes
+abbrev with_change : TableDef → Row → List (Change Place Row) → List (Change Place Row)
+with_change t row changes = record { key = (t.number, key_of t row); before = None; after = Some row } ∷ changes
 
 abbrev put_next : TableDef → Row → List Row → ℕ → Work
 put_next t row rows count = puts t.number (key_of t row) (Some row) (λ before. inserts t rows count)
@@ -52,16 +52,16 @@ module _ (db : Database) (t : TableDef) (is : numbered db.schema t.number ≡ So
           ≡ after (record { key = (t.number, key_of t row); before = get (redo cs db.rows) (t.number, key_of t row); after = Some row } ∷ cs) (insertions t rows (set_row (redo cs db.rows) t.number (key_of t row) (Some row))) count
           → (o : Option Row) → get (redo cs db.rows) (t.number, key_of t row) ≡ o
           → alone_on (unless_there (read (with_changes cs db) t.number (point (key_of t row))) (put_next t row rows count)) db cs
-          ≡ after cs (cond (is_some (get (redo cs db.rows) (t.number, key_of t row))) None (option_map (with_row t row) (insertions t rows (set_row (redo cs db.rows) t.number (key_of t row) (Some row))))) count
+          ≡ after cs (cond (is_some (get (redo cs db.rows) (t.number, key_of t row))) None (option_map (with_change t row) (insertions t rows (set_row (redo cs db.rows) t.number (key_of t row) (Some row))))) count
       by rest None e =
           ap (λ l. alone_on (unless_there l (put_next t row rows count)) db cs) (point_none (with_changes cs db) (is_sound (with_changes cs db) sound) t is (key_of t row) e)
           ∙ (rest
           ∙ (one_more cs (record { key = (t.number, key_of t row); before = get (redo cs db.rows) (t.number, key_of t row); after = Some row }) (record { key = (t.number, key_of t row); before = None; after = Some row })
           (insertions t rows (set_row (redo cs db.rows) t.number (key_of t row) (Some row))) count (λ i. record { key = (t.number, key_of t row); before = e i; after = Some row })
-          ∙ sym (ap (λ (o : Option Row). after cs (cond (is_some o) None (option_map (with_row t row) (insertions t rows (set_row (redo cs db.rows) t.number (key_of t row) (Some row))))) count) e)))
+          ∙ sym (ap (λ (o : Option Row). after cs (cond (is_some o) None (option_map (with_change t row) (insertions t rows (set_row (redo cs db.rows) t.number (key_of t row) (Some row))))) count) e)))
       by rest (Some r) e =
           refused (read (with_changes cs db) t.number (point (key_of t row))) (point_some (with_changes cs db) (is_sound (with_changes cs db) sound) t is (key_of t row) r e)
-          ∙ sym (ap (λ (o : Option Row). after cs (cond (is_some o) None (option_map (with_row t row) (insertions t rows (set_row (redo cs db.rows) t.number (key_of t row) (Some row))))) count) e)
+          ∙ sym (ap (λ (o : Option Row). after cs (cond (is_some o) None (option_map (with_change t row) (insertions t rows (set_row (redo cs db.rows) t.number (key_of t row) (Some row))))) count) e)
         where
           refused : (l : List Row) → (l ≡ [] → ⊥) → alone_on (unless_there l (put_next t row rows count)) db cs ≡ Refused DuplicateKey
           refused [] h = absurd (h refl)

@@ -31,7 +31,7 @@ use Rattle.script_law.specs.Works.{Works}
 use Rattle.script_law.specs.Sessions.{programs_of}
 use Rattle.script_law.proofs.Basics.{if_same, if_other}
 use Rattle.script_law.proofs.OverMachine.{reached_of, machine_laws}
-use Rattle.statement_law.specs.Retrying.{steps_left, GoesOn, MovesOn, EndsLaw, RetriesLaw}
+use Rattle.statement_law.specs.Retrying.{steps_left, StepsOn, MovesOn, StepsEndLaw, RetriesEndLaw}
 use Rattle.statement_law.proofs.Stopping.{HasEnded, EndsBy, EndsOnStop, start_stops}
 
 -- ---- what is left of a statement after a step
@@ -82,12 +82,12 @@ no_act (says replies standing) a h e = cc
 no_act (asks b f) a h e = h
 no_act (ghosts f) a h e = h
 
-no_more : (n session : ℕ) (todo : Todo) (s : Story) → HasEnded todo → GoesOn n session todo s → n ≡ 0
+no_more : (n session : ℕ) (todo : Todo) (s : Story) → HasEnded todo → StepsOn n session todo s → n ≡ 0
 no_more zero session todo s h g = refl
 no_more (suc n) session todo s h (a, said, mid, has, does, free, more) = absurd (no_act todo a h has)
 
 -- so many steps are at most those that are left and one more
-goes_so : (n session : ℕ) (todo : Todo) (s : Story) → IsReachedStory s → EndsOnStop todo → GoesOn n session todo s → n ≤ steps_left s + 1
+goes_so : (n session : ℕ) (todo : Todo) (s : Story) → IsReachedStory s → EndsOnStop todo → StepsOn n session todo s → n ≤ steps_left s + 1
 goes_so zero session todo s r h g = omega arith
 goes_so (suc n) session todo s r h (a, said, mid, has, does, free, more) =
     by (goes_so n session (next_of todo said) mid (reached_by s mid session a said r does) (next_stops todo said h) more) (counts s mid session a said todo r h has does)
@@ -96,8 +96,8 @@ goes_so (suc n) session todo s r h (a, said, mid, has, does, free, more) =
     by rest (counted e) = omega (arith, rest, e)
     by rest (has_stopped e x) = let none : n ≡ 0 = no_more n session (next_of todo said) mid x more in omega (arith, none)
 
-pub ends_law : EndsLaw
-ends_law works story r session standing statement n g = goes_so n session ((programs_of works).start standing statement) story r (start_stops works standing statement) g
+pub steps_end_law : StepsEndLaw
+steps_end_law works story r session standing statement n g = goes_so n session ((programs_of works).start standing statement) story r (start_stops works standing statement) g
 
 -- ---- lines
 
@@ -392,8 +392,8 @@ module _ (works : Works) (tell : EngineRefusal → Refusal) where
       let y = passes_so one.passes one.mid_table one.mid one.more mid_table mid x.0 x.1 one.later in
       lines_so more mid_table mid rest table' s' y.0 y.1 others
 
-pub retries_law : RetriesLaw
-retries_law works tell db stored opening was_opened lines out table s run said own mid_table mid first n moves =
+pub retries_end_law : RetriesEndLaw
+retries_end_law works tell db stored opening was_opened lines out table s run said own mid_table mid first n moves =
     let begun : Story = begun_story (opened_state opening (opened db stored)) in
     let reached : IsReachedStory begun = record { db = db; view = stored; opening = opening; was_opened = was_opened; steps = []; tells = refl } in
     let x = lines_so works tell lines new_table begun out table s reached (λ session. tt) run in

@@ -25,16 +25,16 @@ use Rattle.iv_meaning.specs.Serial.{is_engines, is_deadlock}
 use Rattle.row_codec.proofs.KeyFormat.{key_byte_front}
 use Rattle.row_codec.proofs.Shifts.{shift}
 use Rattle.script_law.specs.Seen.{is_deadlock_event}
-use Rattle.statement_law.specs.Telling.{text_of, behind_text, value_of, behind, values_of, column_name, escrow_told, of_delta, tell}
+use Rattle.statement_law.specs.Telling.{text_in, behind_text, value_in, bytes_behind, values_in, column_name, escrow_told, of_delta, tell}
 use Rattle.statement_law.specs.Laws.{KeyLaw, EscrowLaw}
 
 -- ---- texts
 
-text_read : (text more : List ℕ) → text_of (flat_map key_byte text ++ 0 ∷ 0 ∷ more) ≡ text
+text_read : (text more : List ℕ) → text_in (flat_map key_byte text ++ 0 ∷ 0 ∷ more) ≡ text
 text_read [] more = refl
 text_read (zero ∷ text) more = ap (λ l. 0 ∷ l) (text_read text more)
 text_read (suc b ∷ text) more =
-    ap text_of (append_assoc (key_byte (suc b)) (flat_map key_byte text) (0 ∷ 0 ∷ more) ∙ key_byte_front b (flat_map key_byte text ++ 0 ∷ 0 ∷ more)) ∙ ap (λ l. suc b ∷ l) (text_read text more)
+    ap text_in (append_assoc (key_byte (suc b)) (flat_map key_byte text) (0 ∷ 0 ∷ more) ∙ key_byte_front b (flat_map key_byte text ++ 0 ∷ 0 ∷ more)) ∙ ap (λ l. suc b ∷ l) (text_read text more)
 
 text_behind : (text more : List ℕ) → behind_text (flat_map key_byte text ++ 0 ∷ 0 ∷ more) ≡ more
 text_behind [] more = refl
@@ -58,11 +58,11 @@ number_behind n x more = drop_at (bytes_high_first n x) more n (length-bytes_hig
 
 -- ---- columns
 
-value_read : (kind : Kind) (value : _) (more : List ℕ) → Fits kind value → (value_of kind (key_value_bytes kind value ++ more) ≡ value) × (behind kind (key_value_bytes kind value ++ more) ≡ more)
+value_read : (kind : Kind) (value : _) (more : List ℕ) → Fits kind value → (value_in kind (key_value_bytes kind value ++ more) ≡ value) × (bytes_behind kind (key_value_bytes kind value ++ more) ≡ more)
 value_read Int (Number n) more f = (ap Number (number_read w64 8 (2 ^ 63) refl n more f.sfits), number_behind 8 (cast_unsigned w64 (n +ℤ pos (2 ^ 63))) more)
 value_read Huge (Number n) more f = (ap Number (number_read w128 16 (2 ^ 127) refl n more f.0.sfits), number_behind 16 (cast_unsigned w128 (n +ℤ pos (2 ^ 127))) more)
 value_read Text (Word text) more f = (
-  ap (λ l. Word (text_of l)) (append_assoc (flat_map key_byte text) (0 ∷ 0 ∷ []) more) ∙ ap Word (text_read text more),
+  ap (λ l. Word (text_in l)) (append_assoc (flat_map key_byte text) (0 ∷ 0 ∷ []) more) ∙ ap Word (text_read text more),
   ap behind_text (append_assoc (flat_map key_byte text) (0 ∷ 0 ∷ []) more) ∙ text_behind text more,
 )
 value_read Int (Word text) more f = absurd f
@@ -75,12 +75,12 @@ key_law [] (v ∷ vs) f = absurd f
 key_law (k ∷ ks) [] f = absurd f
 key_law (k ∷ ks) (v ∷ vs) f =
     let one = value_read k v (key_bytes ks vs) f.0 in
-    λ i. one.0 i ∷ (ap (values_of ks) one.1 ∙ key_law ks vs f.1) i
+    λ i. one.0 i ∷ (ap (values_in ks) one.1 ∙ key_law ks vs f.1) i
 
 pub escrow_law : EscrowLaw
 escrow_law objects d v group column inf sup is fits key =
     ap (λ (o : Option Object). escrow_told objects o d.group column inf sup) is
-    ∙ ap (λ l. EscrowRange v.name l (column_name v column) inf sup) (ap (values_of (group_kinds objects v)) key ∙ key_law (group_kinds objects v) group fits)
+    ∙ ap (λ l. EscrowRange v.name l (column_name v column) inf sup) (ap (values_in (group_kinds objects v)) key ∙ key_law (group_kinds objects v) group fits)
 
 -- ---- a refusal of the engine's is told as one, and a deadlock as a deadlock
 

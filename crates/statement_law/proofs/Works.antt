@@ -28,7 +28,7 @@ use Rattle.script_law.proofs.OverMachine.{machine_law}
 use Rattle.script_law.proofs.Right.{programs_law}
 use Rattle.statement_law.specs.Selecting.{with_row, replied, reads}
 use Rattle.statement_law.specs.Inserting.{insert_work}
-use Rattle.statement_law.specs.Changing.{by_plan, passing, update_rows, delete_rows}
+use Rattle.statement_law.specs.Changing.{by_plan, chosen_by, update_rows, delete_rows}
 use Rattle.statement_law.specs.Telling.{tell}
 use Rattle.statement_law.specs.Fitting.{EachFits}
 use Rattle.statement_law.specs.Laws.{WorksLaw, FitsLaw, StatementsLaw}
@@ -68,7 +68,7 @@ module _ (mode : Mode) (db : Database) (sound : AreSound db.schema db.rows) wher
       let sets = sets_to (seen_as db.schema target target) ss in
       let where_ = option_map (bound (seen_as db.schema target target ∷ [])) condition in
       subst Comes b.1 (at_table target b.0.named (λ m. update m sets where_)
-      (ap (λ o. alone_on (work_on (λ t'. by_plan mode db.schema (update t.number sets where_) (λ rows. update_rows t' sets (passing where_ rows))) o) db []) b.0.named.there
+      (ap (λ o. alone_on (work_on (λ t'. by_plan mode db.schema (update t.number sets where_) (λ rows. update_rows t' sets (chosen_by where_ rows))) o) db []) b.0.named.there
       ∙ (update_right db t sound b.0.named.there mode sets where_
       ∙ sym (ap (λ o. on_table (λ t'. update_meaning t' sets (matching t' where_ db.rows)) o) b.0.named.there))))
   comes_so (s.delete target condition) w what e =
@@ -76,7 +76,7 @@ module _ (mode : Mode) (db : Database) (sound : AreSound db.schema db.rows) wher
       let t = b.0.of in
       let where_ = option_map (bound (seen_as db.schema target target ∷ [])) condition in
       subst Comes b.1 (at_table target b.0 (λ m. delete m where_)
-      (ap (λ o. alone_on (work_on (λ t'. by_plan mode db.schema (delete t.number where_) (λ rows. delete_rows t' (passing where_ rows))) o) db []) b.0.there
+      (ap (λ o. alone_on (work_on (λ t'. by_plan mode db.schema (delete t.number where_) (λ rows. delete_rows t' (chosen_by where_ rows))) o) db []) b.0.there
       ∙ (delete_right db t sound b.0.there mode where_
       ∙ sym (ap (λ o. on_table (λ t'. delete_meaning t' (matching t' where_ db.rows)) o) b.0.there))))
   comes_so _ w what e = absurd (cc)
@@ -113,14 +113,14 @@ module _ (db : Database) (sound : AreSound db.schema db.rows) where
       let sets = sets_to (seen_as db.schema target target) ss in
       let where_ = option_map (bound (seen_as db.schema target target ∷ [])) condition in
       subst FitsSo b.1 (fits_at target b.0.named (λ m. update m sets where_) (λ locks.
-      subst (λ o. EachFits Serial db (work_on (λ t'. by_plan Serial db.schema (update t.number sets where_) (λ rows. update_rows t' sets (passing where_ rows))) o) locks []) (sym b.0.named.there)
+      subst (λ o. EachFits Serial db (work_on (λ t'. by_plan Serial db.schema (update t.number sets where_) (λ rows. update_rows t' sets (chosen_by where_ rows))) o) locks []) (sym b.0.named.there)
       (update_fits db sound t b.0.named.there where_ sets b.0.keeps_key locks)))
   fits_so (s.delete target condition) w what e =
       let b = bound_delete db (is_sound db sound) target condition what e in
       let t = b.0.of in
       let where_ = option_map (bound (seen_as db.schema target target ∷ [])) condition in
       subst FitsSo b.1 (fits_at target b.0 (λ m. delete m where_) (λ locks.
-      subst (λ o. EachFits Serial db (work_on (λ t'. by_plan Serial db.schema (delete t.number where_) (λ rows. delete_rows t' (passing where_ rows))) o) locks []) (sym b.0.there)
+      subst (λ o. EachFits Serial db (work_on (λ t'. by_plan Serial db.schema (delete t.number where_) (λ rows. delete_rows t' (chosen_by where_ rows))) o) locks []) (sym b.0.there)
       (delete_fits db sound t b.0.there where_ locks)))
   fits_so _ w what e = absurd (cc)
 

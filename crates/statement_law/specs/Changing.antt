@@ -30,8 +30,8 @@ abbrev pub by_plan : Mode → Schema → BoundTree → (List Row → Work) → W
 by_plan mode objects statement next = on_interval (map (source_of objects) (plan objects statement mode)) next
 
 -- those of which the condition, if there is one, is true, unless it is refused for one
-abbrev pub passing : Option Tree → List Row → Option (List Row)
-passing condition rows = chosen (λ row. conjunction (option_to_list condition) (row ∷ [])) rows
+abbrev pub chosen_by : Option Tree → List Row → Option (List Row)
+chosen_by condition rows = chosen (λ row. conjunction (option_to_list condition) (row ∷ [])) rows
 
 -- ---- what is changed
 

@@ -35,7 +35,7 @@ use Rattle.script_law.specs.Machine.{DoesOf, seen_of, IsStopped, IsAlive}
 use Rattle.script_law.specs.Seen.{MayWant}
 use Rattle.script_law.specs.Works.{Work, is_work, WorkLaws}
 use Rattle.script_law.specs.Sessions.{programs_of}
-use Rattle.statement_law.specs.Telling.{values_of, column_name, tell}
+use Rattle.statement_law.specs.Telling.{values_in, column_name, tell}
 use Rattle.statement_law.specs.Statements.{statement_work, the_works}
 use Rattle.statement_law.specs.Fitting.{EachFits, next_step, Leads}
 
@@ -47,7 +47,7 @@ WorksLaw = WorkLaws the_works
 
 -- values that fit are read from their key
 abbrev pub KeyLaw : Type 0
-KeyLaw = (kinds : List Kind) (values : Row) → FitAll kinds values → values_of kinds (key_bytes kinds values) ≡ values
+KeyLaw = (kinds : List Kind) (values : Row) → FitAll kinds values → values_in kinds (key_bytes kinds values) ≡ values
 
 -- of a delta of a view the escrow's refusal names the view, the values of the group and the column
 abbrev pub EscrowLaw : Type 0

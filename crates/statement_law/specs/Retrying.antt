@@ -28,10 +28,10 @@ abbrev pub steps_left : Story → ℕ
 steps_left story = most_steps - story.state.steps
 
 -- so many steps of a statement may follow one another of which none is blocked
-abbrev pub GoesOn : ℕ → ℕ → Todo → Story → Type 0
-GoesOn zero session todo s = Unit {0}
-GoesOn (suc n) session todo s =
-    (a : Act) × (said : Answer) × (mid : Story) × (act_of todo ≡ Some a) × DoesOf s session a said mid × IsFree (event a said) × GoesOn n session (next_of todo said) mid
+abbrev pub StepsOn : ℕ → ℕ → Todo → Story → Type 0
+StepsOn zero session todo s = Unit {0}
+StepsOn (suc n) session todo s =
+    (a : Act) × (said : Answer) × (mid : Story) × (act_of todo ≡ Some a) × DoesOf s session a said mid × IsFree (event a said) × StepsOn n session (next_of todo said) mid
 
 -- so many passes may follow one another in each of which some step was not blocked
 abbrev pub MovesOn : Programs → (EngineRefusal → Refusal) → ℕ → Table → Story → Type 0
@@ -41,13 +41,13 @@ MovesOn programs tell (suc n) table s =
     × MovesOn programs tell n mid_table mid
 
 -- a statement does no more steps than the engine will count, and one that tells it that the engine is stopped
-abbrev pub EndsLaw : Type 0
-EndsLaw = (works : Works) (story : Story) → IsReachedStory story → (session : ℕ) (standing : Standing) (statement : StatementTree) (n : ℕ)
-    → GoesOn n session ((programs_of works).start standing statement) story → n ≤ steps_left story + 1
+abbrev pub StepsEndLaw : Type 0
+StepsEndLaw = (works : Works) (story : Story) → IsReachedStory story → (session : ℕ) (standing : Standing) (statement : StatementTree) (n : ℕ)
+    → StepsOn n session ((programs_of works).start standing statement) story → n ≤ steps_left story + 1
 
 -- behind a line of a script no more passes move than the engine will count steps and there are sessions
-abbrev pub RetriesLaw : Type 0
-RetriesLaw = (works : Works) (tell : EngineRefusal → Refusal) (db : Database) (stored : ViewRows) (opening : Opening) → IsOpened db stored
+abbrev pub RetriesEndLaw : Type 0
+RetriesEndLaw = (works : Works) (tell : EngineRefusal → Refusal) (db : Database) (stored : ViewRows) (opening : Opening) → IsOpened db stored
     → (lines : List Said) (out : List ℕ) (table : Table) (s : Story)
     → RunsLines DoesOf (programs_of works) tell all_sessions lines new_table (begun_story (opened_state opening (opened db stored))) out table s
     → (said : Said) (own : List ℕ) (mid_table : Table) (mid : Story) → Own DoesOf (programs_of works) tell said table s own mid_table mid

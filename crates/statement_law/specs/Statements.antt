@@ -12,7 +12,7 @@ use Rattle.iv_meaning.specs.Statement.{BoundTree, insert, update, delete, select
 use Rattle.script_law.specs.Works.{Work, done, refuses, Works}
 use Rattle.statement_law.specs.Selecting.{select_work}
 use Rattle.statement_law.specs.Inserting.{insert_work}
-use Rattle.statement_law.specs.Changing.{by_plan, passing, update_rows, delete_rows}
+use Rattle.statement_law.specs.Changing.{by_plan, chosen_by, update_rows, delete_rows}
 use Rattle.statement_law.specs.Telling.{tell}
 
 -- of a statement on a table; a bound one names a table
@@ -24,9 +24,9 @@ abbrev pub bound_work : Mode → Schema → BoundTree → Work
 bound_work mode objects (select query) = select_work mode objects query
 bound_work mode objects (insert number tuples) = work_on (λ t. insert_work t (tuple_rows t tuples)) (numbered objects number)
 bound_work mode objects (update number ss condition) =
-    work_on (λ t. by_plan mode objects (update number ss condition) (λ rows. update_rows t ss (passing condition rows))) (numbered objects number)
+    work_on (λ t. by_plan mode objects (update number ss condition) (λ rows. update_rows t ss (chosen_by condition rows))) (numbered objects number)
 bound_work mode objects (delete number condition) =
-    work_on (λ t. by_plan mode objects (delete number condition) (λ rows. delete_rows t (passing condition rows))) (numbered objects number)
+    work_on (λ t. by_plan mode objects (delete number condition) (λ rows. delete_rows t (chosen_by condition rows))) (numbered objects number)
 bound_work mode objects _ = done [] 0
 
 -- a statement that can't be bound is refused before its first step

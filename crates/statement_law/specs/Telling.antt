@@ -19,11 +19,11 @@ use Rattle.iv_meaning.specs.Database.{Row}
 -- ---- the values of a key
 
 -- the text at the front, up to a byte 0 that has no 255 behind it
-abbrev pub text_of : List ℕ → List ℕ
-text_of [] = []
-text_of (zero ∷ []) = []
-text_of (zero ∷ b ∷ bytes) = if b == 255 then zero ∷ text_of bytes else []
-text_of (suc a ∷ bytes) = suc a ∷ text_of bytes
+abbrev pub text_in : List ℕ → List ℕ
+text_in [] = []
+text_in (zero ∷ []) = []
+text_in (zero ∷ b ∷ bytes) = if b == 255 then zero ∷ text_in bytes else []
+text_in (suc a ∷ bytes) = suc a ∷ text_in bytes
 
 abbrev pub behind_text : List ℕ → List ℕ
 behind_text [] = []
@@ -31,19 +31,19 @@ behind_text (zero ∷ []) = []
 behind_text (zero ∷ b ∷ bytes) = if b == 255 then behind_text bytes else bytes
 behind_text (suc a ∷ bytes) = behind_text bytes
 
-abbrev pub value_of : Kind → List ℕ → Value
-value_of Int bytes = Number (pos (big_number 8 bytes) -ℤ pos (2 ^ 63))
-value_of Huge bytes = Number (pos (big_number 16 bytes) -ℤ pos (2 ^ 127))
-value_of Text bytes = Word (text_of bytes)
+abbrev pub value_in : Kind → List ℕ → Value
+value_in Int bytes = Number (pos (big_number 8 bytes) -ℤ pos (2 ^ 63))
+value_in Huge bytes = Number (pos (big_number 16 bytes) -ℤ pos (2 ^ 127))
+value_in Text bytes = Word (text_in bytes)
 
-abbrev pub behind : Kind → List ℕ → List ℕ
-behind Int bytes = drop 8 bytes
-behind Huge bytes = drop 16 bytes
-behind Text bytes = behind_text bytes
+abbrev pub bytes_behind : Kind → List ℕ → List ℕ
+bytes_behind Int bytes = drop 8 bytes
+bytes_behind Huge bytes = drop 16 bytes
+bytes_behind Text bytes = behind_text bytes
 
-abbrev pub values_of : List Kind → List ℕ → Row
-values_of [] bytes = []
-values_of (kind ∷ kinds) bytes = value_of kind bytes ∷ values_of kinds (behind kind bytes)
+abbrev pub values_in : List Kind → List ℕ → Row
+values_in [] bytes = []
+values_in (kind ∷ kinds) bytes = value_in kind bytes ∷ values_in kinds (bytes_behind kind bytes)
 
 -- ---- names
 
@@ -53,7 +53,7 @@ column_name v column = unwrap_or (slice_get v.names (length v.group + column)) [
 
 -- Of a pay that the escrow of a column refuses. Of what is no view, the names and the group are empty.
 abbrev pub escrow_told : Schema → Option Object → List ℕ → (column : ℕ) (inf sup : ℤ) → Refusal
-escrow_told objects (Some (view v)) group column inf sup = refusal.EscrowRange v.name (values_of (group_kinds objects v) group) (column_name v column) inf sup
+escrow_told objects (Some (view v)) group column inf sup = refusal.EscrowRange v.name (values_in (group_kinds objects v) group) (column_name v column) inf sup
 escrow_told objects o group column inf sup = refusal.EscrowRange [] [] [] inf sup
 
 -- of the delta that was to be paid; no step but Pay is refused so

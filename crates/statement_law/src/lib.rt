@@ -2,7 +2,7 @@
 //! means. Each function is there for its contract.
 #![tactic(auto)]
 
-ghost use Rattle.statement_law.specs.Retrying.{EndsLaw, RetriesLaw};
+ghost use Rattle.statement_law.specs.Retrying.{StepsEndLaw, RetriesEndLaw};
 ghost use Rattle.statement_law.specs.Laws.{AskedLaw, EscrowLaw, FitsLaw, KeyLaw, StatementsLaw, WorksLaw};
 
 /// Values that fit are read from their key.
@@ -36,11 +36,11 @@ pub fn statements_law()
 {}
 
 /// A statement does no more steps than the engine will count, and one that tells it that the engine is stopped.
-pub fn ends_law()
-    ensures { EndsLaw }
+pub fn steps_end_law()
+    ensures { StepsEndLaw }
 {}
 
 /// Behind a line of a script no more passes over waiting sessions move than the engine will count steps and there are sessions.
-pub fn retries_law()
-    ensures { RetriesLaw }
+pub fn retries_end_law()
+    ensures { RetriesEndLaw }
 {}
