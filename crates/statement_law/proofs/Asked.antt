@@ -51,6 +51,7 @@ use Rattle.script_law.proofs.Asking.{may_law}
 use Rattle.statement_law.specs.Fitting.{MayReadBy, IsLocked, FitsPut, EachFits, next_step, Leads, begins, finds, sets}
 use Rattle.statement_law.specs.Statements.{statement_work}
 use Rattle.statement_law.specs.Laws.{AskedLaw}
+use Rattle.statement_law.proofs.Each.{each_parts}
 use Rattle.statement_law.proofs.Works.{fits_law}
 
 -- ---- where a work is led by what is so
@@ -85,10 +86,6 @@ module _ (mode : Mode) (base : Database) (earlier : List RowChange) (May : ℕ �
         fits = subst (λ (was : Option Row). EachFits mode (with_changes earlier base) (f was) s.locks (record { key = (number, key); before = was; after = new } ∷ cs))
             (ap (λ (d : Database). get d.rows (number, key)) (sym (with_more cs earlier base)) ∙ sym h.0) s.fits.2;
       }
-
-first_part : {X : Type 0} (P : X → Type 0) (xs ys : List X) → AllByRecursion P (xs ++ ys) → AllByRecursion P xs
-first_part P [] ys h = tt
-first_part P (x ∷ xs) ys h = (h.0, first_part P xs ys h.1)
 
 last_proper : (objects : Schema) (cs ds : List RowChange) → AreProper objects (cs ++ ds) → AreProper objects ds
 last_proper objects [] ds h = h
@@ -166,8 +163,8 @@ module _ (story : Story) (r : IsReachedStory story) (session : ℕ) (o : IsOpen 
       let sound : AreSound base.schema (redo earlier base.rows) =
       sound_redo base.schema base.rows earlier g.sound (last_proper base.schema cs earlier (subst (AreProper base.schema) kept (g.each session o.of_session).proper)) in
       let good : AllByRecursion (IsGood base (MayReadIn held)) told =
-      first_part (IsGood base (MayReadIn held)) told before (subst (AllByRecursion (IsGood base (MayReadIn held))) is
-      (each_to (NoteGood base held) (IsGood base (MayReadIn held)) (told_good base held) (story.told session) (note.serial m).notes)) in
+      (each_parts (IsGood base (MayReadIn held)) told before (subst (AllByRecursion (IsGood base (MayReadIn held))) is
+      (each_to (NoteGood base held) (IsGood base (MayReadIn held)) (told_good base held) (story.told session) (note.serial m).notes))).0 in
       let stands = led Serial base earlier (MayReadIn held) (statement_work Serial base.schema statement) (fits_law Serial statement w n (with_changes earlier base) sound []) told cs work leads good in
       serial_step earlier cs kept stands.locks stands.may work stands.fits a e
 
@@ -191,8 +188,8 @@ module _ (story : Story) (r : IsReachedStory story) (session : ℕ) (o : IsOpen 
       let none : earlier ≡ [] = nothing_last cs earlier (sym kept ∙ so.1) in
       let sound : AreSound then_.schema (redo earlier then_.rows) = subst (λ l. AreSound then_.schema (redo l then_.rows)) (sym none) at.0.sound in
       let good : AllByRecursion (IsGood then_ (λ index interval. Unit {0})) told =
-      first_part (IsGood then_ (λ index interval. Unit {0})) told before (subst (AllByRecursion (IsGood then_ (λ index interval. Unit {0}))) is
-      (each_to (IsTrueIn then_) (IsGood then_ (λ index interval. Unit {0})) (told_so then_) (story.told session) (recursion_from_All (IsTrueIn then_) (story.told session) so.0))) in
+      (each_parts (IsGood then_ (λ index interval. Unit {0})) told before (subst (AllByRecursion (IsGood then_ (λ index interval. Unit {0}))) is
+      (each_to (IsTrueIn then_) (IsGood then_ (λ index interval. Unit {0})) (told_so then_) (story.told session) (recursion_from_All (IsTrueIn then_) (story.told session) so.0)))).0 in
       let fits : EachFits Snapshot (with_changes earlier then_) (statement_work Snapshot (schema_of s) statement) [] [] =
       subst (λ l. EachFits Snapshot (with_changes earlier then_) (statement_work Snapshot l statement) [] []) at.1 (fits_law Snapshot statement w n (with_changes earlier then_) sound []) in
       let stands = led Snapshot then_ earlier (λ index interval. Unit {0}) (statement_work Snapshot (schema_of s) statement) fits told cs work leads good in

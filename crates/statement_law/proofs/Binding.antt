@@ -26,6 +26,7 @@ use Rattle.iv_meaning.specs.Binding.{bind, bound_to, target_number}
 use Rattle.iv_meaning.specs.Sound.{IsSound}
 use Rattle.query_laws.proofs.Fitting.{fitting}
 use Rattle.query_laws.proofs.WholeViews.{all_of_cons}
+use Rattle.statement_law.proofs.Each.{each_parts, paired}
 use Rattle.query_laws.proofs.SoundLemmas.{rules_hold, named_numbered, neither}
 use Rattle.query_laws.proofs.Each.{each_to, each_append}
 
@@ -129,10 +130,6 @@ each_none : {X : Type 0} (ys : List X) → AllByRecursion (λ y. Unit {0}) ys
 each_none [] = tt
 each_none (y ∷ ys) = (tt, each_none ys)
 
-paired : {X : Type 0} (P Q : X → Type 0) (xs : List X) → AllByRecursion P xs → AllByRecursion Q xs → AllByRecursion (λ x. P x × Q x) xs
-paired P Q [] h k = tt
-paired P Q (x ∷ xs) h k = ((h.0, k.0), paired P Q xs h.1 k.1)
-
 -- what holds of each of some with each of others holds the other way round
 swapped : {X Y : Type 0} (P : X → Y → Type 0) (xs : List X) (ys : List Y) → AllByRecursion (λ x. AllByRecursion (P x) ys) xs → AllByRecursion (λ y. AllByRecursion (λ x. P x y) xs) ys
 swapped P [] ys h = each_none ys
@@ -206,15 +203,11 @@ map_sets : (P : ℕ → Type 0) (value : Tree) (places : List ℕ) → AllByRecu
 map_sets P value [] h = tt
 map_sets P value (p ∷ places) h = (h.0, map_sets P value places h.1)
 
-each_left : {X : Type 0} (P : X → Type 0) (xs ys : List X) → AllByRecursion P (xs ++ ys) → AllByRecursion P xs × AllByRecursion P ys
-each_left P [] ys h = (tt, h)
-each_left P (x ∷ xs) ys h = let rest = each_left P xs ys h.1 in ((h.0, rest.0), rest.1)
-
 places_sets : (P : ℕ → Type 0) (v : Visible) (ss : List SetTree) → AllByRecursion P (places_of v.columns (map (λ (x : SetTree). x.name) ss)) → AllByRecursion (λ (s : BoundSet). P s.column) (sets_to v ss)
 places_sets P v [] h = tt
 places_sets P v (x ∷ ss) h =
     let here : List ℕ = map (λ (place : ColumnAt). place.column) (columns_named x.name 0 0 v.columns) in
-    let parts = each_left P here (places_of v.columns (map (λ (x : SetTree). x.name) ss)) h in
+    let parts = each_parts P here (places_of v.columns (map (λ (x : SetTree). x.name) ss)) h in
     each_append (λ (s : BoundSet). P s.column) (map (λ place. record { column = place; value = bound (v ∷ []) x.value }) (places_of v.columns (x.name ∷ []))) (sets_to v ss)
     (map_sets P (bound (v ∷ []) x.value) (places_of v.columns (x.name ∷ [])) (subst (AllByRecursion P) (sym (append-nil here)) parts.0)) (places_sets P v ss parts.1)
 

@@ -83,17 +83,13 @@ apart_pairs key [] others a = tt
 apart_pairs key (row ∷ rows) [] a = tt
 apart_pairs key (row ∷ rows) (other ∷ others) a = (each_pair (λ r. key r ≢ key row) rows others a.0, apart_pairs key rows others a.1)
 
-pub apart_out : (t : TableDef) (rows : List Row) → Apart (key_of t) rows → Apart (row_key t) (map taken_out rows)
-apart_out t [] a = tt
-apart_out t (row ∷ rows) a = (each_out (λ r. key_of t r ≢ key_of t row) rows a.0, apart_out t rows a.1)
-  where
-    each_out : (P : Row → Type 0) (rs : List Row) → AllByRecursion P rs → AllByRecursion (λ (p : Row × Option Row). P p.0) (map taken_out rs)
-    each_out P [] h = tt
-    each_out P (r ∷ rs) h = (h.0, each_out P rs h.1)
-
 pub each_out : (P : Row → Type 0) (rows : List Row) → AllByRecursion P rows → AllByRecursion (λ (p : Row × Option Row). P p.0) (map taken_out rows)
 each_out P [] h = tt
 each_out P (row ∷ rows) h = (h.0, each_out P rows h.1)
+
+pub apart_out : (t : TableDef) (rows : List Row) → Apart (key_of t) rows → Apart (row_key t) (map taken_out rows)
+apart_out t [] a = tt
+apart_out t (row ∷ rows) a = (each_out (λ r. key_of t r ≢ key_of t row) rows a.0, apart_out t rows a.1)
 
 sets_are : (t : TableDef) (ps : List (Row × Row)) → map sets (changes_to t (map set_to ps)) ≡ map (λ p. sets (change_to t p.0 (Some p.1))) ps
 sets_are t [] = refl

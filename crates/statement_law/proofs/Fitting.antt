@@ -49,6 +49,7 @@ use Rattle.script_law.proofs.Changing.{kept_makes}
 use Rattle.statement_law.specs.Inserting.{unless_there, inserts, insert_work}
 use Rattle.statement_law.specs.Changing.{on_interval, by_plan, chosen_by, puts_all, set_to, taken_out, updates, update_rows, delete_rows}
 use Rattle.statement_law.specs.Fitting.{IsLocked, FitsPut, EachFits}
+use Rattle.statement_law.proofs.Each.{paired, each_passes}
 use Rattle.statement_law.proofs.Rows.{is_sound, Apart, apart_filter, inside_is, of_listed, point_none, point_some, put_sound}
 use Rattle.statement_law.proofs.Plans.{the_part, one_part, passes_listed}
 use Rattle.statement_law.proofs.Binding.{SetsNot, row_after_fits}
@@ -134,16 +135,6 @@ each_entry Q key [] h = subst (AllByRecursion (λ (e : List ℕ × Row). Q e.1))
 each_entry Q key (row ∷ rows) h =
     subst (AllByRecursion (λ (e : List ℕ × Row). Q e.1)) (sym (entries-insert key_total (from_entries (map (λ row. (key row, row)) rows)) (key row) row))
     (each_put Q (key row) row (entries (from_entries (map (λ row. (key row, row)) rows))) h.0 (each_entry Q key rows h.1))
-
--- those that pass a test do so
-each_passes : (P : Row → Type 0) (test : Row → Bool) (rows : List Row) → AllByRecursion P rows → AllByRecursion (λ row. (test row ≡ true) × P row) (filter test rows)
-each_passes P test [] h = tt
-each_passes P test (row ∷ rows) h =
-    let rest = each_passes P test rows h.1 in
-    elim (test row) as (λ b. test row ≡ b → AllByRecursion (λ row. (test row ≡ true) × P row) (cond b (row ∷ filter test rows) (filter test rows))) [
-      | true ↦ λ e. ((e, h.0), rest)
-      | false ↦ λ e. rest
-    ] refl
 
 each_between : (P : Row → Type 0) (key : Row → List ℕ) (interval : Interval) (rows : List Row) → AllByRecursion P rows → AllByRecursion (λ row. (lies_in (key row) interval ≡ true) × P row) (rows_between key interval rows)
 each_between P key interval rows h =
@@ -251,16 +242,6 @@ module _ (db : Database) (sound : AreSound db.schema db.rows) (t : TableDef) (is
       let tied : eq_by_cmp row_cmp p.0 p.1 ≡ true = ap (eq_by_cmp row_cmp p.0) (sym same) ∙ ap is_eq (tied_itself row_cmp_total p.0) in
       cc (sym h ∙ ap not tied)
 
-  both_each : {X : Type 0} (P Q : X → Type 0) (xs : List X) → AllByRecursion P xs → AllByRecursion Q xs → AllByRecursion (λ x. P x × Q x) xs
-  both_each P Q [] h k = tt
-  both_each P Q (x ∷ xs) h k = ((h.0, k.0), both_each P Q xs h.1 k.1)
-
-  each_kept : {X : Type 0} (P : X → Type 0) (test : X → Bool) (xs : List X) → AllByRecursion P xs → AllByRecursion (λ x. (test x ≡ true) × P x) (filter test xs)
-  each_kept P test [] h = tt
-  each_kept P test (x ∷ xs) h =
-      let rest = each_kept P test xs h.1 in
-      elim (test x) as (λ b. test x ≡ b → AllByRecursion (λ x. (test x ≡ true) × P x) (cond b (x ∷ filter test xs) (filter test xs))) [ true ↦ λ e. ((e, h.0), rest) | false ↦ λ e. rest ] refl
-
   update_fits_of : (ss : List BoundSet) → AllByRecursion (SetsNot ss) t.primary → (o : Option (List Row)) (locks : List Want) → ((rows : List Row) → o ≡ Some rows → AreGiven locks rows) → EachFits Serial db (update_rows t ss o) locks []
   update_fits_of ss none None locks h = tt
   update_fits_of ss none (Some rows) locks h = by (all_of (map (row_after t ss) rows)) refl (h rows refl)
@@ -269,14 +250,14 @@ module _ (db : Database) (sound : AreSound db.schema db.rows) (t : TableDef) (is
       by None e g = tt
       by (Some others) e g =
           let ps : List (Row × Row) = pairs rows others in
-          let all = both_each (λ (p : Row × Row). IsThere db t [] p.0) (λ (p : Row × Row). IsHeld db.schema t locks p.0 × BecomesSo ss p) ps (each_pair (IsThere db t []) rows others g.1)
-          (both_each (λ (p : Row × Row). IsHeld db.schema t locks p.0) (BecomesSo ss) ps (each_pair (IsHeld db.schema t locks) rows others g.2) (become ss rows others e)) in
+          let all = paired (λ (p : Row × Row). IsThere db t [] p.0) (λ (p : Row × Row). IsHeld db.schema t locks p.0 × BecomesSo ss p) ps (each_pair (IsThere db t []) rows others g.1)
+          (paired (λ (p : Row × Row). IsHeld db.schema t locks p.0) (BecomesSo ss) ps (each_pair (IsHeld db.schema t locks) rows others g.2) (become ss rows others e)) in
           puts_fit (map set_to (filter is_changed ps)) _ locks []
           (apart_set t (filter is_changed ps) (apart_filter (λ (p : Row × Row). key_of t p.0) is_changed ps (apart_pairs (key_of t) rows others g.0)))
           (each_set (IsThere db t []) (filter is_changed ps) (each_filtered (λ (p : Row × Row). IsThere db t [] p.0) is_changed ps (each_pair (IsThere db t []) rows others g.1)))
           (each_map (λ (p : Row × Row). (is_changed p ≡ true) × (IsThere db t [] p.0 × (IsHeld db.schema t locks p.0 × BecomesSo ss p))) (IsChange locks) set_to
           (λ p k. (row_after_fits t ss none p.0 p.1 (there_fits p.0 k.1.0) k.1.1.1, changed_differs p k.0, k.1.1.0)) (filter is_changed ps)
-          (each_kept (λ (p : Row × Row). IsThere db t [] p.0 × (IsHeld db.schema t locks p.0 × BecomesSo ss p)) is_changed ps all))
+          (each_passes (λ (p : Row × Row). IsThere db t [] p.0 × (IsHeld db.schema t locks p.0 × BecomesSo ss p)) is_changed ps all))
 
   -- ---- what the plan reads
 

@@ -1,3 +1,4 @@
+pub mod Each
 pub mod Selecting
 pub mod Plans
 pub mod Rows

@@ -2,7 +2,7 @@
 use Rattle.std.specs.Prelude.{◌≡◌, ◌≢◌, ℕ, zero, suc, ◌==◌, Bool, true, false, cond, T, List, [], ◌∷◌, map, filter, Option, Some, None, Contains}
 use Rattle.std.specs.List.{AllByRecursion, All}
 use mathlib.Core.Path.{refl, sym, ap, subst, ◌∙◌}
-use Rattle.std.proofs.Common.{arith}
+use Rattle.std.proofs.Common.{arith, eq-eqb}
 use Rattle.std.proofs.lemmas.List.Elements.{All-weaker, All-contains_itself, recursion_from_All}
 use Rattle.std.specs.FinMap.{get, entries}
 use Rattle.std.specs.Cmp.{tied_itself}
@@ -68,9 +68,6 @@ is_true : (b : Bool) → T b → b ≡ true
 is_true true h = refl
 is_true false h = absurd h
 
-itself : (n : ℕ) → (n == n) ≡ true
-itself n = grind arith
-
 -- where no row has the key, none is in its point
 none_inside : (key : Row → List ℕ) (k : List ℕ) (rows : List Row) → AllByRecursion (λ r. key r ≢ k) rows → filter (λ r. lies_in (key r) (point k)) rows ≡ []
 none_inside key k [] h = refl
@@ -114,7 +111,7 @@ module _ (db : Database) (sound : IsSound db) (t : TableDef) (is : numbered db.s
   point_some k row there e =
       let placed = row_there db sound t.number t is (t.number, k) row there refl in
       let key : k ≡ key_of t row = ap (λ (p : Place). p.1) placed.0 in
-      let entry = (Contains-rows_where place_cmp_total place_cmp-IsAntisymmetric (in_table t.number) db.rows (t.number, k) row).1 (there, itself t.number) in
+      let entry = (Contains-rows_where place_cmp_total place_cmp-IsAntisymmetric (in_table t.number) db.rows (t.number, k) row).1 (there, eq-eqb t.number t.number refl) in
       let listed : Contains (rows_of db.rows t.number) row = contains_map (λ (e : Place × Row). e.1) (rows_where (in_table t.number) (entries db.rows)) ((t.number, k), row) entry in
       some_filtered (λ r. lies_in (key_of t r) (point k)) (rows_of db.rows t.number) row listed
       (is_true (lies_in (key_of t row) (point k)) (lies_so (key_of t row) (point k) ((alone k (key_of t row)).1 (sym key)))) (sym (inside_is (point k)) ∙ e)

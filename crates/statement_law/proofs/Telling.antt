@@ -78,9 +78,9 @@ key_law (k ∷ ks) (v ∷ vs) f =
     λ i. one.0 i ∷ (ap (values_in ks) one.1 ∙ key_law ks vs f.1) i
 
 pub escrow_law : EscrowLaw
-escrow_law objects d v group column inf sup is fits key =
-    ap (λ (o : Option Object). escrow_told objects o d.group column inf sup) is
-    ∙ ap (λ l. EscrowRange v.name l (column_name v column) inf sup) (ap (values_in (group_kinds objects v)) key ∙ key_law (group_kinds objects v) group fits)
+escrow_law objects d is column inf sup =
+    ap (λ (o : Option Object). escrow_told objects o d.group column inf sup) is.view_is
+    ∙ ap (λ l. EscrowRange is.of.name l (column_name is.of column) inf sup) (ap (values_in (group_kinds objects is.of)) is.key ∙ key_law (group_kinds objects is.of) is.group is.fits)
 
 -- ---- a refusal of the engine's is told as one, and a deadlock as a deadlock
 

@@ -30,6 +30,7 @@ use Rattle.txn_machine.specs.Log.{Opening}
 use Rattle.txn_machine.specs.State.{opened_state}
 use Rattle.txn_machine.specs.Alone.{Told, Story, begun_story}
 use Rattle.txn_machine.specs.Laws.{IsOpened, IsReachedStory}
+use Rattle.txn_machine.specs.KeptLaws.{IsDelta}
 use Rattle.script_law.specs.RunLines.{all_sessions, RunsScript}
 use Rattle.script_law.specs.Machine.{DoesOf, seen_of, IsStopped, IsAlive}
 use Rattle.script_law.specs.Seen.{MayWant}
@@ -49,11 +50,10 @@ WorksLaw = WorkLaws the_works
 abbrev pub KeyLaw : Type 0
 KeyLaw = (kinds : List Kind) (values : Row) → FitAll kinds values → values_in kinds (key_bytes kinds values) ≡ values
 
--- of a delta of a view the escrow's refusal names the view, the values of the group and the column
+-- of a delta of a view, as transactions owe them, the escrow's refusal names the view, the values of the group and the column
 abbrev pub EscrowLaw : Type 0
-EscrowLaw = (objects : Schema) (d : GroupDelta) (v : ViewTree) (group : Row) (column : ℕ) (inf sup : ℤ)
-    → numbered objects d.view ≡ Some (view v) → FitAll (group_kinds objects v) group → d.group ≡ key_bytes (group_kinds objects v) group
-    → tell objects (Some d) (engine.Escrow column inf sup) ≡ EscrowRange v.name group (unwrap_or (slice_get v.names (length v.group + column)) []) inf sup
+EscrowLaw = (objects : Schema) (d : GroupDelta) (is : IsDelta objects d) (column : ℕ) (inf sup : ℤ)
+    → tell objects (Some d) (engine.Escrow column inf sup) ≡ EscrowRange is.of.name is.group (unwrap_or (slice_get is.of.names (length is.of.group + column)) []) inf sup
 
 -- ---- steps
 
