@@ -1,8 +1,7 @@
 -- What a work asks the machine for may be asked for.
-use Rattle.std.specs.Prelude.{◌≡◌, ◌≢◌, ◌⊎◌, ℕ, true, List, [], ◌∷◌, ◌++◌, Option, Some, None, Contains}
+use Rattle.std.specs.Prelude.{◌≡◌, ℕ, true, List, [], ◌∷◌, ◌++◌, Option, Some, None}
 use Rattle.std.specs.List.{AllByRecursion}
 use mathlib.Core.Path.{refl, sym, ap, subst, ◌∙◌}
-use mathlib.Core.Logic.{inl, inr}
 use Rattle.std.proofs.lemmas.List.Elements.{All-contains, All-from_recursion, recursion_from_All}
 use Rattle.std.specs.FinMap.{get}
 use Rattle.iv_types.specs.declared.statement.Mode.{Mode}
@@ -10,7 +9,6 @@ use Rattle.iv_types.specs.declared.statement.Mode.TheVariants.{Serial, Snapshot}
 use Rattle.iv_types.specs.declared.value.Interval.{Interval}
 use Rattle.iv_types.specs.declared.lock.LockMode.TheVariants.{Exclusive}
 use Rattle.iv_types.specs.declared.lock.Want.{Want}
-use Rattle.iv_types.specs.Intervals.{LiesIn}
 use Rattle.iv_types.specs.Syntax.{StatementTree}
 use Rattle.table_laws.specs.Place.{Place}
 use Rattle.table_laws.specs.Kept.{redo}
@@ -18,18 +16,17 @@ use Rattle.iv_meaning.specs.Schema.{Schema, numbered}
 use Rattle.iv_meaning.specs.Database.{Row, Rows, Database}
 use Rattle.iv_meaning.specs.View.{read}
 use Rattle.iv_meaning.specs.History.{state_at}
-use Rattle.iv_meaning.specs.Escrow.{IsSession}
 use Rattle.iv_meaning.specs.Transaction.{refused_inside}
 use Rattle.txn_machine.specs.Acts as act
 use Rattle.txn_machine.specs.Acts.{Act}
 use Rattle.txn_machine.specs.Deltas.{RowChange}
-use Rattle.txn_machine.specs.Entries.{AgreeAt, entry_key}
+use Rattle.txn_machine.specs.Entries.{AgreeAt}
 use Rattle.txn_machine.specs.Fresh.{fresh}
 use Rattle.txn_machine.specs.Ghosts.{Holds, MayReadIn, the_views}
 use Rattle.txn_machine.specs.Ghosts as ghosts
-use Rattle.txn_machine.specs.Keeping.{Open, changes_of}
-use Rattle.txn_machine.specs.Store.{Store, committed, schema_of, now, changes_by, locks_of}
-use Rattle.txn_machine.specs.May.{MayPut, MayPeek, MayLock, IsOpen, MayAct}
+use Rattle.txn_machine.specs.Keeping.{Open}
+use Rattle.txn_machine.specs.Store.{Store, committed, schema_of, changes_by, locks_of}
+use Rattle.txn_machine.specs.May.{MayPeek, IsOpen}
 use Rattle.txn_machine.specs.ViewLaws.{AreSound}
 use Rattle.txn_machine.specs.Alone.{Told, Found, WasThere, TookBack, Story, IsTrueIn, with_changes}
 use Rattle.txn_machine.specs.Laws.{IsReachedStory}
@@ -43,12 +40,11 @@ use Rattle.txn_machine.proofs.Stories.{story_reached}
 use Rattle.txn_machine.proofs.OwnRows.{told_law}
 use Rattle.txn_machine.proofs.Peeking.{snapshot_readable_law}
 use Rattle.script_law.proofs.OverMachine.{reached_of}
-use Rattle.script_law.specs.Seen.{MayWant}
-use Rattle.script_law.specs.Machine.{seen_of, IsFitting, IsAlive}
+use Rattle.script_law.specs.Machine.{IsFitting}
 use Rattle.script_law.specs.Works.{Work, done, refuses, fetches, puts, is_work}
 use Rattle.script_law.proofs.Changing.{with_more, redo_append}
 use Rattle.script_law.proofs.Asking.{may_law}
-use Rattle.statement_law.specs.Fitting.{MayReadBy, IsLocked, FitsPut, EachFits, next_step, Leads, begins, finds, sets}
+use Rattle.statement_law.specs.Fitting.{IsLocked, EachFits, next_step, Leads, begins, finds, sets}
 use Rattle.statement_law.specs.Statements.{statement_work}
 use Rattle.statement_law.specs.Laws.{AskedLaw}
 use Rattle.statement_law.proofs.Each.{each_parts}

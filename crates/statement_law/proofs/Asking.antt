@@ -17,7 +17,6 @@ use Rattle.iv_types.specs.Syntax.{Tree}
 use Rattle.iv_meaning.specs.Schema.{Schema, Object, table, index, view, as_index, indexes_of, numbered}
 use Rattle.iv_meaning.specs.Database.{Row, Database}
 use Rattle.iv_meaning.specs.Query.{Combination, BoundQuery}
-use Rattle.iv_meaning.specs.View.{read}
 use Rattle.iv_meaning.specs.Sound.{IsSound}
 use Rattle.iv_meaning.specs.Plan.{ColumnTerm, terms_for, KeyIndex, read_by, Part, part_of, best_of, part_for, parts_from, kinds_for, goes_on}
 use Rattle.iv_meaning.specs.Reading.{Program, done as replies_with, fetch, Source, in_key_order, extended, each_extended, reading, program, source_by, source_of, sources_for}

@@ -1,6 +1,6 @@
 -- What a bound INSERT, UPDATE or DELETE is of: a table of the database, whose rows it makes as they should be.
-use Rattle.std.specs.Prelude.{◌≡◌, ◌≢◌, ◌⊎◌, ℕ, zero, suc, ◌+◌, ◌==◌, ◌&&◌, ◌||◌, not, is_some, Bool, true, false, cond, List, [], ◌∷◌, ◌++◌, map, length, slice_get, Option, Some, None, Ok}
-use Rattle.std.specs.List.{AllByRecursion, flat_map, list_all, list_any, filter_map, cons_option}
+use Rattle.std.specs.Prelude.{◌≡◌, ℕ, zero, suc, ◌+◌, ◌==◌, ◌&&◌, not, is_some, Bool, true, false, cond, List, [], ◌∷◌, map, length, slice_get, Option, Some, None, Ok}
+use Rattle.std.specs.List.{AllByRecursion, flat_map, list_all, list_any, cons_option}
 use Rattle.std.specs.Option.{option_map, option_map_or, option_and_then}
 use mathlib.Core.Path.{refl, sym, ap, subst, ◌∙◌}
 use Rattle.std.proofs.Common.{arith, eqb-true, append-nil}
@@ -12,17 +12,16 @@ use Rattle.iv_types.specs.declared.catalog.TableDef.{TableDef}
 use Rattle.iv_types.specs.Definitions.{kinds_of}
 use Rattle.iv_types.specs.declared.expression.ColumnAt.{ColumnAt}
 use Rattle.iv_types.specs.Encoding.{FitAll, Fits, key_bytes}
-use Rattle.iv_types.specs.Syntax.{StatementTree, Tree, SetTree, insert, update, delete}
-use Rattle.iv_meaning.specs.Schema as schema
+use Rattle.iv_types.specs.Syntax.{Tree, SetTree, insert, update, delete}
 use Rattle.iv_meaning.specs.Schema.{Object, table, index, view, numbered, named, column_names, object_columns, items_at, key_kinds, as_table}
 use Rattle.iv_meaning.specs.Database.{Row, Database, key_of}
 use Rattle.iv_meaning.specs.Names.{Visible, seen_as, bound, columns_named}
-use Rattle.iv_meaning.specs.Shape.{rules_of, is_table, table_of, primary_places, places_of, object_number}
-use Rattle.iv_meaning.specs.Values.{Outcome, meaning, value_of}
+use Rattle.iv_meaning.specs.Shape.{is_table, primary_places, places_of, object_number}
+use Rattle.iv_meaning.specs.Values.{meaning, value_of}
 use Rattle.iv_meaning.specs.Grouping.{all_of}
 use Rattle.iv_meaning.specs.Statement as statement
 use Rattle.iv_meaning.specs.Statement.{BoundSet, fits, if_fitting, stored, tuple_values, tuple_rows, column_after, columns_after, row_after}
-use Rattle.iv_meaning.specs.Binding.{bind, bound_to, target_number}
+use Rattle.iv_meaning.specs.Binding.{bind, target_number}
 use Rattle.iv_meaning.specs.Sound.{IsSound}
 use Rattle.query_laws.proofs.Fitting.{fitting}
 use Rattle.query_laws.proofs.WholeViews.{all_of_cons}

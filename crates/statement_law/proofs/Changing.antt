@@ -1,5 +1,5 @@
 -- The works of UPDATE and DELETE come to what these mean.
-use Rattle.std.specs.Prelude.{◌≡◌, ◌≢◌, ℕ, Bool, true, false, cond, List, [], ◌∷◌, ◌++◌, map, filter, length, Option, Some, None}
+use Rattle.std.specs.Prelude.{◌≡◌, ◌≢◌, ℕ, List, [], ◌∷◌, ◌++◌, map, filter, length, Option, Some, None}
 use Rattle.std.specs.List.{AllByRecursion}
 use Rattle.std.specs.Option.{option_to_list}
 use mathlib.Core.Path.{refl, sym, ap, subst, ◌∙◌}
@@ -13,18 +13,17 @@ use Rattle.table_laws.specs.Kept.{Change, redo}
 use Rattle.iv_meaning.specs.Schema.{table, numbered}
 use Rattle.iv_meaning.specs.Database.{Row, Database, rows_of, key_of}
 use Rattle.iv_meaning.specs.Values.{is_true}
-use Rattle.iv_meaning.specs.Query.{conjunction, chosen}
+use Rattle.iv_meaning.specs.Query.{conjunction}
 use Rattle.iv_meaning.specs.Grouping.{all_of}
-use Rattle.iv_meaning.specs.Statement.{BoundTree, BoundSet, update, delete, Kept, sets, Meaning, Refused, Accepted, matching, row_after, change_to, pairs, is_changed, updated, update_meaning, delete_meaning}
-use Rattle.iv_meaning.specs.Plan.{plan}
+use Rattle.iv_meaning.specs.Statement.{BoundSet, update, delete, sets, Accepted, matching, row_after, change_to, pairs, is_changed, updated, update_meaning, delete_meaning}
 use Rattle.iv_meaning.specs.Reading.{source_of}
-use Rattle.query_laws.proofs.Each.{each_filtered, each_to}
+use Rattle.query_laws.proofs.Each.{each_filtered}
 use Rattle.query_laws.proofs.WholeViews.{chosen_is}
 use Rattle.txn_machine.specs.Deltas.{RowChange}
 use Rattle.txn_machine.specs.ViewLaws.{AreSound}
 use Rattle.txn_machine.proofs.Agreeing.{written_other}
 use Rattle.script_law.specs.Seen.{in_order}
-use Rattle.script_law.specs.Works.{Work, alone_on}
+use Rattle.script_law.specs.Works.{alone_on}
 use Rattle.statement_law.specs.Changing.{on_interval, by_plan, chosen_by, puts_all, set_to, taken_out, updates, update_rows, delete_rows}
 use Rattle.statement_law.proofs.Rows.{is_sound, Apart, apart_filter, of_listed, rows_apart}
 use Rattle.statement_law.proofs.Plans.{one_part, passes_listed}

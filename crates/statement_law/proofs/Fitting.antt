@@ -1,5 +1,5 @@
 -- The steps of INSERT, UPDATE and DELETE fit, and where steps fit what is left is sound.
-use Rattle.std.specs.Prelude.{◌≡◌, ◌≢◌, ◌⊎◌, ℕ, not, Bool, true, false, cond, List, [], ◌∷◌, ◌++◌, map, filter, Option, Some, None}
+use Rattle.std.specs.Prelude.{◌≡◌, ◌≢◌, ℕ, not, true, false, cond, List, [], ◌∷◌, map, filter, Option, Some, None}
 use Rattle.std.specs.List.{AllByRecursion}
 use Rattle.std.specs.Option.{option_to_list}
 use mathlib.Core.Path.{refl, sym, ap, subst, ◌∙◌}
@@ -8,11 +8,9 @@ use Rattle.std.specs.FinMap.{get, entries, from_entries, put, entries-insert}
 use Rattle.std.specs.FinMap.Entries.{by_order}
 use Rattle.std.specs.Cmp.{tied_itself}
 use Rattle.std.specs.Ordering.{eq_by_cmp, is_gt, is_eq}
-use Rattle.std.specs.declared.cmp.Ordering.{Ordering}
 use Rattle.std.specs.declared.cmp.Ordering.TheVariants.{Less, Equal, Greater}
 use Rattle.iv_types.specs.declared.value.Interval.{Interval}
 use Rattle.iv_types.specs.declared.catalog.TableDef.{TableDef}
-use Rattle.iv_types.specs.declared.catalog.IndexDef.{IndexDef}
 use Rattle.iv_types.specs.declared.statement.Mode.TheVariants.{Serial}
 use Rattle.iv_types.specs.declared.lock.LockMode.TheVariants.{Exclusive}
 use Rattle.iv_types.specs.declared.lock.Want.{Want}
@@ -22,8 +20,8 @@ use Rattle.iv_types.specs.Intervals.{point}
 use Rattle.iv_types.specs.Syntax.{Tree}
 use Rattle.iv_types.proofs.Orders.{row_cmp_total}
 use Rattle.table_laws.specs.Kept.{redo}
-use Rattle.iv_meaning.specs.Schema.{Schema, Object, table, index, numbered, items_at}
-use Rattle.iv_meaning.specs.Database.{Row, Rows, Database, rows_of, key_of}
+use Rattle.iv_meaning.specs.Schema.{Schema, Object, table, numbered, items_at}
+use Rattle.iv_meaning.specs.Database.{Row, Database, rows_of, key_of}
 use Rattle.iv_meaning.specs.Grouping.{all_of}
 use Rattle.iv_meaning.specs.Values.{is_true}
 use Rattle.iv_meaning.specs.Query.{conjunction}
@@ -48,9 +46,9 @@ use Rattle.script_law.specs.Works.{Work, done, refuses, fetches, puts, alone_on}
 use Rattle.script_law.proofs.Changing.{kept_makes}
 use Rattle.statement_law.specs.Inserting.{unless_there, inserts, insert_work}
 use Rattle.statement_law.specs.Changing.{on_interval, by_plan, chosen_by, puts_all, set_to, taken_out, updates, update_rows, delete_rows}
-use Rattle.statement_law.specs.Fitting.{IsLocked, FitsPut, EachFits}
+use Rattle.statement_law.specs.Fitting.{IsLocked, EachFits}
 use Rattle.statement_law.proofs.Each.{paired, each_passes}
-use Rattle.statement_law.proofs.Rows.{is_sound, Apart, apart_filter, inside_is, of_listed, point_none, point_some, put_sound}
+use Rattle.statement_law.proofs.Rows.{is_sound, Apart, apart_filter, of_listed, point_none, point_some, put_sound}
 use Rattle.statement_law.proofs.Plans.{the_part, one_part, passes_listed}
 use Rattle.statement_law.proofs.Binding.{SetsNot, row_after_fits}
 use Rattle.statement_law.proofs.Changing.{IsThere, row_key, still_there, apart_set, apart_pairs, apart_out, each_set, each_pair, each_out, matching_there}

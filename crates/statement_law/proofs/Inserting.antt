@@ -13,9 +13,9 @@ use Rattle.iv_types.specs.Intervals.{point}
 use Rattle.table_laws.specs.Place.{Place}
 use Rattle.table_laws.specs.Kept.{Change, redo}
 use Rattle.iv_meaning.specs.Schema.{table, numbered}
-use Rattle.iv_meaning.specs.Database.{Row, Rows, Database, key_of, set_row}
+use Rattle.iv_meaning.specs.Database.{Row, Database, key_of, set_row}
 use Rattle.iv_meaning.specs.View.{read}
-use Rattle.iv_meaning.specs.Statement.{Kept, sets, Meaning, Refused, Accepted, insertions, inserted, insert_meaning}
+use Rattle.iv_meaning.specs.Statement.{sets, Meaning, Refused, Accepted, insertions, inserted, insert_meaning}
 use Rattle.txn_machine.specs.Deltas.{RowChange}
 use Rattle.txn_machine.specs.Alone.{with_changes}
 use Rattle.txn_machine.specs.ViewLaws.{AreSound}

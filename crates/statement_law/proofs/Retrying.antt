@@ -1,5 +1,5 @@
 -- Statements end, and so do the passes over waiting sessions.
-use Rattle.std.specs.Prelude.{◌≡◌, ◌≢◌, ◌⊎◌, ◌≤◌, ◌<◌, ℕ, zero, suc, ◌+◌, ◌-◌, ◌==◌, ◌&&◌, not, Bool, true, false, cond, List, [], ◌∷◌, ◌++◌, length, Option, Some, None, Result, Ok, Err}
+use Rattle.std.specs.Prelude.{◌≡◌, ◌≢◌, ◌≤◌, ℕ, zero, suc, ◌+◌, ◌-◌, ◌==◌, ◌&&◌, not, Bool, true, false, cond, List, [], ◌∷◌, length, Option, Some, None, Result, Ok, Err}
 use Rattle.std.specs.List.{AllByRecursion, list_all}
 use mathlib.Core.Path.{refl, sym, ap, subst, ◌∙◌}
 use mathlib.Core.Logic.{inl, inr}
@@ -11,7 +11,6 @@ use Rattle.iv_types.specs.declared.refusal.EngineRefusal.{EngineRefusal}
 use Rattle.iv_types.specs.declared.refusal.EngineRefusal.TheVariants as engine
 use Rattle.iv_types.specs.declared.reply.Reply.{Reply}
 use Rattle.iv_types.specs.declared.reply.Reply.TheVariants as reply
-use Rattle.iv_types.specs.declared.session.Sessions.{Sessions}
 use Rattle.iv_types.specs.Syntax.{StatementTree}
 use Rattle.iv_meaning.specs.Said.{Said, nothing, too_long, bad, runs, loads, steps, cleans, checkpoints}
 use Rattle.txn_machine.specs.Acts as act
@@ -25,7 +24,7 @@ use Rattle.txn_machine.specs.Laws.{IsReachedStory}
 use Rattle.txn_machine.proofs.Lengths.{length_law}
 use Rattle.script_law.specs.Seen.{Event, Waits, LacksRow, event}
 use Rattle.script_law.specs.Programs.{Standing, Todo, says, asks, ghosts, Programs}
-use Rattle.script_law.specs.RunLines.{Line, idle, waiting, stepping, held, Seat, Table, set_seat, new_table, Outcome, ended, stuck, stepped, under, seat_run, seat_stepped, act_of, asked_next, ghost_next, next_of, outcome_at, outcome_of, IsFree, all_sessions, RunsOn, has_ended, is_blocked, goes_on, StepsOnce, had_ended, steps_once, Cleaned, Tells, Comes, RunsIt, LoadsIt, RefusedOr, Given, Stepped, Rests, Cleans, cleaned_all, cleaned_one, clean_fails, CleansLine, pruned, prune_fails, SavesLine, saved, save_fails, Tries, Pass, Passes, Own, RunsLine, RunsLines}
+use Rattle.script_law.specs.RunLines.{Line, idle, waiting, stepping, held, Seat, Table, set_seat, new_table, Outcome, ended, stuck, stepped, seat_run, seat_stepped, act_of, asked_next, ghost_next, next_of, outcome_at, outcome_of, all_sessions, RunsOn, has_ended, is_blocked, goes_on, StepsOnce, had_ended, steps_once, Cleaned, Tells, Comes, RunsIt, LoadsIt, RefusedOr, Given, Stepped, Cleans, cleaned_all, cleaned_one, clean_fails, CleansLine, pruned, prune_fails, SavesLine, saved, save_fails, Tries, Pass, Passes, Own, RunsLines}
 use Rattle.script_law.specs.Machine.{DoesOf}
 use Rattle.script_law.specs.Works.{Works}
 use Rattle.script_law.specs.Sessions.{programs_of}

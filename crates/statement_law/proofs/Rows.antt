@@ -1,16 +1,15 @@
 -- Rows of a table under their keys: what the point of a key has, rows of different keys, and rows that are set.
-use Rattle.std.specs.Prelude.{◌≡◌, ◌≢◌, ℕ, zero, suc, ◌==◌, Bool, true, false, cond, T, List, [], ◌∷◌, map, filter, Option, Some, None, Contains}
-use Rattle.std.specs.List.{AllByRecursion, All}
+use Rattle.std.specs.Prelude.{◌≡◌, ◌≢◌, ℕ, zero, suc, Bool, true, false, cond, T, List, [], ◌∷◌, filter, Option, Some, None, Contains}
+use Rattle.std.specs.List.{AllByRecursion}
 use mathlib.Core.Path.{refl, sym, ap, subst, ◌∙◌}
 use Rattle.std.proofs.Common.{arith, eq-eqb}
 use Rattle.std.proofs.lemmas.List.Elements.{All-weaker, All-contains_itself, recursion_from_All}
 use Rattle.std.specs.FinMap.{get, entries}
 use Rattle.std.specs.Cmp.{tied_itself}
-use Rattle.std.specs.declared.cmp.Ordering.TheVariants.{Less, Equal}
 use Rattle.iv_types.specs.declared.catalog.TableDef.{TableDef}
 use Rattle.iv_types.specs.Definitions.{kinds_of}
 use Rattle.iv_types.specs.Encoding.{FitAll}
-use Rattle.iv_types.specs.Intervals.{LiesIn, point}
+use Rattle.iv_types.specs.Intervals.{point}
 use Rattle.iv_types.specs.declared.value.Interval.{Interval}
 use Rattle.table_laws.specs.Place.{Place}
 use Rattle.table_laws.specs.Table.{write, rows_where}
@@ -22,7 +21,7 @@ use Rattle.iv_meaning.specs.View.{lies_in, read, object_rows}
 use Rattle.iv_meaning.specs.Sound.{IsSound, IsRow}
 use Rattle.row_codec.proofs.RangeLaws.{alone}
 use Rattle.query_laws.specs.Laws.{Rises, IsBefore}
-use Rattle.query_laws.proofs.Each.{each_to, each_filtered}
+use Rattle.query_laws.proofs.Each.{each_filtered}
 use Rattle.query_laws.proofs.Rising.{BeforeAll, first_before, rest_rises, before_less, between_rising, key_cmp, key_total}
 use Rattle.query_laws.proofs.TableRows.{rows_rise, listed_there, row_there, in_table}
 use Rattle.txn_machine.specs.ViewLaws.{AreSound}

@@ -1,19 +1,19 @@
 -- A SELECT's work comes to what it means.
 use Rattle.std.specs.Prelude.{◌≡◌, ℕ, List, [], ◌∷◌, ◌++◌, map, length, Option, Some, None, Ok}
-use mathlib.Core.Path.{refl, sym, ap, ◌∙◌}
+use mathlib.Core.Path.{refl, ap, ◌∙◌}
 use Rattle.iv_types.specs.declared.statement.Mode.{Mode}
 use Rattle.iv_types.specs.declared.reply.Reply.TheVariants as reply
 use Rattle.iv_types.specs.Syntax.{StatementTree}
 use Rattle.iv_meaning.specs.Database.{Row, Database}
 use Rattle.iv_meaning.specs.Query.{BoundQuery}
 use Rattle.iv_meaning.specs.View.{read, select_answer}
-use Rattle.iv_meaning.specs.Statement.{Meaning, select, select_meaning, bound_meaning}
+use Rattle.iv_meaning.specs.Statement.{select, select_meaning, bound_meaning}
 use Rattle.iv_meaning.specs.Binding.{bind}
 use Rattle.iv_meaning.specs.Sound.{IsSound}
 use Rattle.iv_meaning.specs.Reading.{Program, done as replies_with, fetch, program, replies_by, replies_of, sources_for}
 use Rattle.query_laws.proofs.ReadingLemmas.{reading_law}
 use Rattle.query_laws.proofs.SoundLemmas.{relations_law}
-use Rattle.script_law.specs.Works.{Work, done, alone_on}
+use Rattle.script_law.specs.Works.{done, alone_on}
 use Rattle.statement_law.specs.Selecting.{with_row, replied, reads, select_work}
 
 lists : (rows : List Row) (count : ℕ) → replied (map reply.Row rows ++ reply.Done count ∷ []) ≡ done rows count

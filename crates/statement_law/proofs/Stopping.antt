@@ -1,8 +1,7 @@
 -- Once a statement is told that the engine is stopped, it has ended: so it is with the programs of all works.
 use Rattle.std.specs.Prelude.{◌≡◌, ℕ, zero, suc, ◌+◌, ◌-◌, ◌==◌, Bool, true, false, List, [], ◌∷◌, length, Option, Some, None, if◌then◌else◌}
-use mathlib.Core.Path.{refl, sym, ap, subst, ◌∙◌}
 use Rattle.iv_types.specs.declared.statement.Mode.{Mode}
-use Rattle.iv_types.specs.declared.statement.Mode.TheVariants.{Serial, Snapshot}
+use Rattle.iv_types.specs.declared.statement.Mode.TheVariants.{Serial}
 use Rattle.iv_types.specs.declared.lock.GroupDelta.{GroupDelta}
 use Rattle.iv_types.specs.declared.refusal.Refusal.{Refusal}
 use Rattle.iv_types.specs.declared.refusal.EngineRefusal.{EngineRefusal}
@@ -16,9 +15,9 @@ use Rattle.txn_machine.specs.Acts.{Act}
 use Rattle.txn_machine.specs.Answers as answer
 use Rattle.txn_machine.specs.Answers.{Answer}
 use Rattle.script_law.specs.Seen.{Fails, is_stop, is_deadlock_event}
-use Rattle.script_law.specs.Programs.{Standing, outside_with, Todo, says, asks, ghosts}
+use Rattle.script_law.specs.Programs.{Standing, Todo, says, asks, ghosts}
 use Rattle.script_law.specs.Works.{Work, done, refuses, fetches, puts, Works}
-use Rattle.script_law.specs.Sessions.{Frame, unanswered, by_refusal, undo_next, end_next, commit_next, rows_next, changed_next, paid_next, begun_next, defs_next, schema_next, reads_by, from_marked, undo, failed, pays, runs, keeps_standing, rolls_back, inside_frame, returns_to, start_inside, stays_out, ends_with, outside_frame, fails_defs, begins_with, creates_with, start_outside, programs_of}
+use Rattle.script_law.specs.Sessions.{Frame, by_refusal, undo_next, end_next, commit_next, rows_next, changed_next, paid_next, begun_next, defs_next, schema_next, from_marked, undo, failed, pays, runs, keeps_standing, rolls_back, inside_frame, returns_to, start_inside, stays_out, ends_with, outside_frame, fails_defs, begins_with, creates_with, start_outside, programs_of}
 
 abbrev pub HasEnded : Todo → Type 0
 HasEnded (says replies standing) = Unit {0}

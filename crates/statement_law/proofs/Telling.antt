@@ -1,13 +1,10 @@
 -- Values are read from their key, and a refusal of the engine's is told as one.
-use Rattle.std.specs.Prelude.{◌≡◌, ◌≢◌, ℕ, zero, suc, ℤ, pos, ◌+ℤ◌, ◌-ℤ◌, ◌+◌, ◌^◌, ◌<◌, ◌==◌, Bool, true, false, IsTrue, List, [], ◌∷◌, ◌++◌, drop, length, Option, Some, None}
+use Rattle.std.specs.Prelude.{◌≡◌, ℕ, zero, suc, ℤ, pos, ◌+ℤ◌, ◌-ℤ◌, ◌+◌, ◌^◌, ◌<◌, false, IsTrue, List, [], ◌∷◌, ◌++◌, drop, Option, Some, None}
 use Rattle.std.specs.List.{flat_map}
 use Rattle.std.specs.Int.{Width, w64, w128, cast_unsigned, bytes_high_first}
-use Rattle.std.specs.Int.RustNames.{FitsSigned}
-use mathlib.Core.Path.{refl, sym, ap, subst, ◌∙◌}
-use lib.IntN.{negsuc}
+use mathlib.Core.Path.{refl, ap, subst, ◌∙◌}
 use lib.Signed.{mag}
 use Rattle.std.proofs.Common.{arith, append_assoc}
-use Rattle.std.proofs.Math.Dec.{eqb-suc-zero}
 use Rattle.std.proofs.lemmas.Int.{ints}
 use Rattle.std.proofs.lemmas.List.{drop_at}
 use Rattle.byteorder.specs.Endian.{big_number}
@@ -15,7 +12,7 @@ use Rattle.byteorder.specs.Numbers.{big_number-reads_back, length-bytes_high_fir
 use Rattle.iv_types.specs.declared.value.Kind.{Kind}
 use Rattle.iv_types.specs.declared.value.Kind.TheVariants.{Int, Huge, Text}
 use Rattle.iv_types.specs.declared.value.Value.TheVariants.{Number, Word}
-use Rattle.iv_types.specs.Encoding.{IsHuge, Fits, FitAll, key_byte, key_value_bytes, key_bytes}
+use Rattle.iv_types.specs.Encoding.{Fits, key_byte, key_value_bytes, key_bytes}
 use Rattle.iv_types.specs.declared.lock.GroupDelta.{GroupDelta}
 use Rattle.iv_types.specs.declared.refusal.Refusal.TheVariants.{EscrowRange}
 use Rattle.iv_types.specs.declared.refusal.EngineRefusal.{EngineRefusal}

@@ -1,6 +1,5 @@
 -- The works of statements keep the laws of works.
-use Rattle.std.specs.Prelude.{◌≡◌, ℕ, true, List, [], ◌∷◌, Option, Some, None, Result, Ok, Err}
-use Rattle.std.specs.List.{AllByRecursion}
+use Rattle.std.specs.Prelude.{◌≡◌, ℕ, true, List, [], ◌∷◌, None, Result, Ok, Err}
 use Rattle.std.specs.Option.{option_map}
 use mathlib.Core.Path.{refl, sym, ap, subst, ◌∙◌}
 use Rattle.iv_types.specs.declared.statement.Mode.{Mode}
@@ -12,7 +11,7 @@ use Rattle.iv_types.specs.declared.reply.Reply.TheVariants as reply
 use Rattle.iv_types.specs.declared.refusal.Refusal.{Refusal}
 use Rattle.iv_types.specs.Syntax as s
 use Rattle.iv_types.specs.Syntax.{StatementTree, QueryTree}
-use Rattle.iv_meaning.specs.Schema.{Schema, table, numbered}
+use Rattle.iv_meaning.specs.Schema.{Schema}
 use Rattle.iv_meaning.specs.Database.{Row, Database}
 use Rattle.iv_meaning.specs.Names.{bound, seen_as, scope_of}
 use Rattle.iv_meaning.specs.Binding.{bind, bound_query, target_number}
@@ -22,7 +21,7 @@ use Rattle.iv_meaning.specs.Reading.{Program, done as replies_with, fetch, progr
 use Rattle.iv_meaning.specs.Transaction.{means, bound_or_refused, refused_inside}
 use Rattle.query_laws.proofs.SoundLemmas.{rules_hold}
 use Rattle.txn_machine.specs.ViewLaws.{AreSound}
-use Rattle.script_law.specs.Works.{Work, done, refuses, fetches, puts, alone_on, OnlyReads, is_work, WorkLaws}
+use Rattle.script_law.specs.Works.{Work, done, refuses, fetches, puts, alone_on, OnlyReads, is_work}
 use Rattle.script_law.specs.Sessions.{programs_of}
 use Rattle.script_law.proofs.OverMachine.{machine_law}
 use Rattle.script_law.proofs.Right.{programs_law}
@@ -35,7 +34,7 @@ use Rattle.statement_law.specs.Laws.{WorksLaw, FitsLaw, StatementsLaw}
 use Rattle.statement_law.specs.Statements.{work_on, bound_work, work_if_bound, statement_work, the_works}
 use Rattle.statement_law.proofs.Rows.{is_sound}
 use Rattle.statement_law.proofs.Selecting.{select_right}
-use Rattle.statement_law.proofs.Binding.{IsNamed, number_is, tuples_fit, IsInsert, bound_insert, bound_delete, IsUpdate, bound_update, sets_to}
+use Rattle.statement_law.proofs.Binding.{IsNamed, number_is, tuples_fit, bound_insert, bound_delete, bound_update, sets_to}
 use Rattle.statement_law.proofs.Inserting.{insert_right}
 use Rattle.statement_law.proofs.Changing.{update_right, delete_right}
 use Rattle.statement_law.proofs.Asking.{select_fits}

@@ -23,7 +23,7 @@ use Rattle.txn_machine.specs.Acts as act
 use Rattle.txn_machine.specs.Acts.{Act}
 use Rattle.txn_machine.specs.Alone.{Told, Found, WasThere, with_changes}
 use Rattle.script_law.specs.Sessions.{reads_by}
-use Rattle.script_law.specs.Works.{Work, done, refuses, fetches, puts}
+use Rattle.script_law.specs.Works.{Work, fetches, puts}
 
 -- an object may be locked so and read, or be read by a snapshot
 abbrev pub MayReadBy : Mode → LockMode → Option Object → Type 0

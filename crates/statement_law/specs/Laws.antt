@@ -1,25 +1,22 @@
 -- No clause of `run` rests on this module: it serves contracts between crates.
 --
 -- The laws of the works of statements.
-use Rattle.std.specs.Prelude.{◌≡◌, ◌⊎◌, ℕ, ℤ, ◌+◌, true, List, [], ◌∷◌, ◌++◌, length, slice_get, Option, Some, None}
-use Rattle.std.specs.List.{All, Contains}
+use Rattle.std.specs.Prelude.{◌≡◌, ◌⊎◌, ℕ, ℤ, ◌+◌, true, List, [], ◌++◌, length, slice_get, Some, None}
+use Rattle.std.specs.List.{Contains}
 use Rattle.std.specs.Option.{unwrap_or}
 use Rattle.iv_types.specs.declared.value.Kind.{Kind}
 use Rattle.iv_types.specs.declared.statement.Mode.{Mode}
-use Rattle.iv_types.specs.declared.statement.Mode.TheVariants.{Serial}
 use Rattle.iv_types.specs.declared.lock.GroupDelta.{GroupDelta}
 use Rattle.iv_types.specs.declared.lock.Want.{Want}
-use Rattle.iv_types.specs.declared.refusal.Refusal.{Refusal}
 use Rattle.iv_types.specs.declared.refusal.Refusal.TheVariants.{EscrowRange}
 use Rattle.iv_types.specs.declared.refusal.EngineRefusal.TheVariants as engine
 use Rattle.iv_types.specs.Syntax.{StatementTree}
 use Rattle.iv_types.specs.Encoding.{FitAll, key_bytes}
-use Rattle.iv_meaning.specs.Schema.{Schema, view, ViewTree, numbered, group_kinds}
+use Rattle.iv_meaning.specs.Schema.{Schema}
 use Rattle.iv_meaning.specs.Database.{Row, Database}
 use Rattle.iv_meaning.specs.Said.{Said}
 use Rattle.iv_meaning.specs.Transaction.{refused_inside}
 use Rattle.iv_meaning.specs.Serial.{opened_with, IsSerialFrom}
-use Rattle.iv_meaning.specs.Escrow.{IsSession}
 use Rattle.txn_machine.specs.Acts.{Act}
 use Rattle.txn_machine.specs.Deltas.{RowChange}
 use Rattle.txn_machine.specs.May.{IsOpen, MayAct}
@@ -36,7 +33,7 @@ use Rattle.script_law.specs.Machine.{DoesOf, seen_of, IsStopped, IsAlive}
 use Rattle.script_law.specs.Seen.{MayWant}
 use Rattle.script_law.specs.Works.{Work, is_work, WorkLaws}
 use Rattle.script_law.specs.Sessions.{programs_of}
-use Rattle.statement_law.specs.Telling.{values_in, column_name, tell}
+use Rattle.statement_law.specs.Telling.{values_in, tell}
 use Rattle.statement_law.specs.Statements.{statement_work, the_works}
 use Rattle.statement_law.specs.Fitting.{EachFits, next_step, Leads}
 

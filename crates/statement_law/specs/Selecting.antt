@@ -1,7 +1,7 @@
 -- No clause of `run` rests on this module: it serves contracts between crates.
 --
 -- How a SELECT works: the intervals of its plan are locked in Share and read, one after another, and then it lists its rows.
-use Rattle.std.specs.Prelude.{ℕ, List, [], ◌∷◌}
+use Rattle.std.specs.Prelude.{List, [], ◌∷◌}
 use Rattle.iv_types.specs.declared.statement.Mode.{Mode}
 use Rattle.iv_types.specs.declared.lock.LockMode.TheVariants.{Share}
 use Rattle.iv_types.specs.declared.reply.Reply.{Reply}

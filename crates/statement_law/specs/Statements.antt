@@ -1,7 +1,7 @@
 -- No clause of `run` rests on this module: it serves contracts between crates.
 --
 -- The works of SELECT, INSERT, UPDATE and DELETE.
-use Rattle.std.specs.Prelude.{ℕ, [], Option, Some, Result, Ok, Err}
+use Rattle.std.specs.Prelude.{[], Option, Some, Result, Ok, Err}
 use Rattle.iv_types.specs.declared.statement.Mode.{Mode}
 use Rattle.iv_types.specs.declared.catalog.TableDef.{TableDef}
 use Rattle.iv_types.specs.declared.refusal.Refusal.{Refusal}
