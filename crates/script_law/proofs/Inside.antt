@@ -1,5 +1,5 @@
 -- The programs of statements inside a transaction are right.
-use Rattle.std.specs.Prelude.{◌≡◌, ◌≢◌, ◌⊎◌, ℕ, zero, suc, ◌+◌, ◌-◌, Bool, true, false, IsTrue, ◌||◌, cond, List, [], ◌∷◌, ◌++◌, map, length, Option, Some, None, if◌then◌else◌}
+use Rattle.std.specs.Prelude.{◌≡◌, ◌⊎◌, ℕ, zero, suc, ◌+◌, ◌-◌, Bool, true, false, IsTrue, ◌||◌, List, [], ◌∷◌, ◌++◌, map, length, Option, Some, None, if◌then◌else◌}
 use mathlib.Core.Path.{refl, sym, ap, subst, ◌∙◌}
 use mathlib.Core.Logic.{inl, inr}
 use Rattle.std.proofs.Common.{arith, append-nil}
@@ -13,27 +13,25 @@ use Rattle.iv_types.specs.declared.refusal.EngineRefusal.{EngineRefusal}
 use Rattle.iv_types.specs.declared.refusal.EngineRefusal.TheVariants as refusal
 use Rattle.iv_types.specs.declared.reply.Reply.{Reply}
 use Rattle.iv_types.specs.declared.reply.Reply.TheVariants as reply
-use Rattle.iv_types.specs.Syntax.{StatementTree, create_table, create_index, create_view, insert, update, delete, select, begin, commit, rollback, savepoint}
-use Rattle.iv_meaning.specs.Schema.{Schema}
+use Rattle.iv_types.specs.Syntax.{StatementTree, insert, update, delete, select, commit, rollback, savepoint}
 use Rattle.iv_meaning.specs.Database.{Row, Database}
-use Rattle.iv_meaning.specs.Statement.{Kept, keep_all, Meaning, Refused, Accepted}
-use Rattle.iv_meaning.specs.Transaction.{Saved, Running, Response, told as told_of, means, inside, accepted, refused_inside, from_named, back_to}
-use Rattle.iv_meaning.specs.Serial.{Unended, is_engines, is_deadlock}
+use Rattle.iv_meaning.specs.Statement.{keep_all, Meaning, Refused, Accepted}
+use Rattle.iv_meaning.specs.Transaction.{Saved, Running, told as told_of, means, inside, accepted, refused_inside, from_named, back_to}
+use Rattle.iv_meaning.specs.Serial.{Unended}
 use Rattle.iv_meaning.proofs.SerialLemmas.{keep_append}
 use Rattle.txn_machine.specs.Acts as act
 use Rattle.txn_machine.specs.Acts.{Act}
 use Rattle.txn_machine.specs.Answers as answer
 use Rattle.txn_machine.specs.Answers.{Answer}
 use Rattle.txn_machine.specs.Deltas.{RowChange}
-use Rattle.txn_machine.specs.Alone.{with_changes}
-use Rattle.script_law.specs.Seen.{Event, Fails, Ends, Commits, event, is_stop, is_deadlock_event, Txn, IsTruthful, kept_of, changes, in_order, IsReadyIn}
-use Rattle.script_law.specs.Programs.{Standing, outside_with, Todo, says, asks, Job, IsDone, passed_inside, told, IsClosed, commits, rolls_back as closes_back, loses, Closes, Fits, IsOf, IsAt, Grows, AreWhole, AreMarks, AreSaved, oldest, lone, names_of, marked_names, with_told, stays_inside, Serves, Starts, MayCome, Proceeds, next_txn}
+use Rattle.script_law.specs.Seen.{Fails, Ends, event, is_stop, is_deadlock_event, Txn, IsTruthful, kept_of, changes, in_order, IsReadyIn}
+use Rattle.script_law.specs.Programs.{Standing, outside_with, Todo, says, asks, Job, IsDone, passed_inside, told, commits, rolls_back as closes_back, loses, Closes, Fits, IsOf, IsAt, Grows, AreWhole, AreMarks, AreSaved, oldest, lone, names_of, marked_names, stays_inside, Serves, MayCome, Proceeds, next_txn}
 use Rattle.script_law.specs.Works.{Work, done, refuses, fetches, puts, alone_on, OnlyReads, is_work, Works, WorkLaws}
-use Rattle.script_law.specs.Sessions.{Frame, reads_by, undo, failed, runs, keeps_standing, rolls_back, inside_frame, from_marked, returns_to, start_inside, refused_marked, commit_next, end_next, undo_next, rows_next, changed_next}
+use Rattle.script_law.specs.Sessions.{undo, failed, runs, keeps_standing, rolls_back, inside_frame, from_marked, returns_to, start_inside, refused_marked, commit_next, end_next, undo_next, rows_next, changed_next}
 use Rattle.script_law.proofs.Changing.{changes_append, in_order_append, kept_makes}
 use Rattle.script_law.proofs.Refusing.{inside_accepted, told_as}
 use Rattle.script_law.proofs.Lone.{oldest_of, oldest_more, marks_more, saved_more, marked_from, from_both, refused_same, StandsFine, fine_alone}
-use Rattle.script_law.proofs.Working.{Since, since_first, since_none, begun_on, Settles, settles_back, undo_serves, ComesTo, FrameServes, Point, runs_serves}
+use Rattle.script_law.proofs.Working.{Since, since_first, since_none, begun_on, Settles, settles_back, undo_serves, ComesTo, FrameServes, runs_serves}
 
 now_so : {X : Type 0} → IsTrue false ⊎ X → X
 now_so (inl e) = absurd (cc)
@@ -186,14 +184,21 @@ module _ (works : Works) (laws : WorkLaws works) (b : Bool) (o : Unended) (t : T
       marks_now (inr m) (inl e) = inl e
       marks_now (inr m) (inr c) = inr ([], t.kept, refl, c, inl refl, m)
 
-  -- ---- refused without a step
+  -- ---- what comes without a step
+
+  -- by the session's definitions the statement means what its work comes to
+  at_once : (db : Database) → IsTruthful db t → is_work statement ≡ true → (w : Work) → works.work o.mode standing.copy statement ≡ w → means statement (ran db).db ≡ alone_on w (ran db).db []
+  at_once db truth w x is =
+      let fine = (fine_ran db truth).0 in
+      sym (laws.right o.mode statement w (ran db).db fine.0) ∙ ap (λ s. alone_on (works.work o.mode s statement) (ran db).db []) (fine.1 ∙ truth.schema ∙ sym at.copy_is)
+      ∙ ap (λ y. alone_on y (ran db).db []) is
 
   denies_at_once : (why : Refusal) → is_work statement ≡ true → refused_marked o.mode standing.saved statement ≡ None → works.work o.mode standing.copy statement ≡ refuses why
       → IsDone b the_job (Some t) (reply.Error why ∷ []) standing
   denies_at_once why w e is = told o t (reply.Error why ∷ []) standing refl (work_stays statement w)
       (told_as b o t standing statement (reply.Error why ∷ []) (λ db. (lone o db).1) at.is at.mode_is at.copy_is
       (λ db truth. inside_accepted o.mode statement (ran db) (not_refused e db truth) ∙ accepted_work statement (ran db) w
-      ∙ ap (λ m. told_of m (ran db)) (laws.denies o.mode statement w standing.copy why is (ran db).db ((fine_ran db truth).0.1 ∙ truth.schema ∙ sym at.copy_is)))
+      ∙ ap (λ m. told_of m (ran db)) (at_once db truth w (refuses why) is))
       at.names at.fits at.counts at.marks at.ready at.snapshot)
 
 -- ---- where the engine is known to be stopped
@@ -223,8 +228,7 @@ module _ (works : Works) (laws : WorkLaws works) (o : Unended) (t : Txn) (standi
       (told_as true o t (record standing { kept = 0 + standing.kept }) statement (map reply.Row listed ++ reply.Done count ∷ [])
       (λ db. record (lone o db).1 { db = keep_all [] (lone o db).1.db; kept = (lone o db).1.kept ++ [] }) at.is at.mode_is at.copy_is
       (λ db truth. inside_accepted o.mode statement (lone o db).1 (not_refused works laws true o t standing at statement number e db truth) ∙ accepted_work statement (lone o db).1 w
-      ∙ ap (λ m. told_of m (lone o db).1) (laws.lists o.mode statement w standing.copy listed count is (lone o db).1.db
-      ((fine_ran works laws true o t standing at statement number db truth).0.1 ∙ truth.schema ∙ sym at.copy_is)))
+      ∙ ap (λ m. told_of m (lone o db).1) (at_once works laws true o t standing at statement number db truth w (done listed count) is))
       at.names (inl refl) (inl refl) (inl refl) (inl refl) (inl refl))
 
   work_halted : is_work statement ≡ true → refused_marked o.mode standing.saved statement ≡ None → (mode : Mode) → o.mode ≡ mode → (w : Work) → works.work o.mode standing.copy statement ≡ w

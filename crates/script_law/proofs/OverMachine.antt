@@ -70,7 +70,7 @@ tells_run : (story : Story) (ds : List Did) (after : Story) → Unfolds story ds
 tells_run story [] after h = ap (λ (x : Story). x.state) h
 tells_run story (d ∷ ds) after h = (h.0, h.1, tells_run (story_after story d h.0) ds after h.2)
 
-reached_of : (story : Story) → IsReachedStory story → IsReached story.state
+pub reached_of : (story : Story) → IsReachedStory story → IsReached story.state
 reached_of story r = record {
   db = r.db;
   view = r.view;
@@ -474,7 +474,7 @@ fact story after i a said r h = elim h.1.does [
   | inr x ↦ subst (λ y. FactOf story i (event a y)) (sym x.says) tt
 ]
 
-machine_laws : StepLaws seen_of DoesOf IsReachedStory IsStopped
+pub machine_laws : StepLaws seen_of DoesOf IsReachedStory IsStopped
 machine_laws = record {
   stands = stands;
   answers = answers;

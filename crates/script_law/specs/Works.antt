@@ -1,7 +1,7 @@
 -- No clause of `run` rests on this module: it serves contracts between crates.
 --
 -- What a statement reads and changes, step by step, and what that leads to alone on a database.
-use Rattle.std.specs.Prelude.{◌≡◌, ℕ, ◌+◌, Bool, true, false, IsTrue, List, [], ◌∷◌, Option, Some, None}
+use Rattle.std.specs.Prelude.{◌≡◌, ℕ, Bool, true, false, IsTrue, List, [], ◌∷◌, Option, None}
 use Rattle.std.specs.FinMap.{get}
 use Rattle.iv_types.specs.declared.statement.Mode.{Mode}
 use Rattle.iv_types.specs.declared.statement.Mode.TheVariants.{Snapshot}
@@ -67,11 +67,6 @@ pub record WorkLaws (works : Works) : Type 0 where
       → alone_on (works.work mode db.schema statement) db [] ≡ means statement db
   pub sound : (statement : StatementTree) → is_work statement ≡ true → (db : Database) → AreSound db.schema db.rows
       → (listed : List Row) (count : ℕ) (kept : List Kept) → means statement db ≡ Accepted listed count kept → AreSound (keep_all kept db).schema (keep_all kept db).rows
-  -- what a work comes to without a step, as a SELECT whose condition is never true, it does by the definitions alone
-  pub lists : (mode : Mode) (statement : StatementTree) → is_work statement ≡ true → (objects : Schema) (listed : List Row) (count : ℕ)
-      → works.work mode objects statement ≡ done listed count → (db : Database) → db.schema ≡ objects → means statement db ≡ Accepted listed count []
-  pub denies : (mode : Mode) (statement : StatementTree) → is_work statement ≡ true → (objects : Schema) (why : Refusal) → works.work mode objects statement ≡ refuses why
-      → (db : Database) → db.schema ≡ objects → means statement db ≡ Refused why
   -- a snapshot may do only what changes nothing
   pub reads : (statement : StatementTree) → is_work statement ≡ true → refused_inside Snapshot [] statement ≡ None → (objects : Schema) → OnlyReads (works.work Snapshot objects statement)
   -- a refusal of the engine's is told as one, and a deadlock as a deadlock

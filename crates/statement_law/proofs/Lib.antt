@@ -1,0 +1,14 @@
+pub mod Each
+pub mod Selecting
+pub mod Plans
+pub mod Rows
+pub mod Binding
+pub mod Inserting
+pub mod Changing
+pub mod Telling
+pub mod Works
+pub mod Asking
+pub mod Fitting
+pub mod Asked
+pub mod Stopping
+pub mod Retrying
