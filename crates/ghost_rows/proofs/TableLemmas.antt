@@ -7,7 +7,8 @@ use Rattle.std.specs.FinMap.{find, put, is_sorted, entries, from_sorted, get-ent
 use Rattle.std.specs.FinMap.Entries.{below_all, is_sorted-put, find-put}
 use Rattle.std.specs.Ordering.{eq_by_cmp, is_lt}
 use Rattle.table_laws.specs.Place.{Place, place_cmp}
-use Rattle.table_laws.specs.Table.{rows_where, passing}
+use Rattle.table_laws.specs.Table.{rows_where}
+use Rattle.table_laws.specs.Sums.{passing}
 use Rattle.table_laws.proofs.Place.{place_cmp_total, place_cmp-IsAntisymmetric}
 use Rattle.table_laws.proofs.Tables.{same_key, other_key, rows_where_sorted, find-rows_where}
 use Rattle.table_store.specs.Lists.{IsPlace}

@@ -4,7 +4,8 @@ use Rattle.std.specs.Prelude.{◌==◌, cond}
 use Rattle.std.specs.List.{All}
 use Rattle.std.proofs.lemmas.Bool.{eqb-true, eqb-false, eq-eqb, and_parts, and_from, false≢true}
 use Rattle.std.proofs.lemmas.List.Elements.{All-nil, All-cons}
-use Rattle.iv_meaning.specs.Lines.{begins_with_lf, is_return, lines_of, onto_first, HasFirstLine, AreLines}
+use Rattle.iv_meaning.specs.Lines.{begins_with_lf, is_return, lines_of, onto_first}
+use Rattle.iv_meaning.specs.LineLaws.{HasFirstLine, AreLines}
 
 abbrev HasNoLf : List ℕ → Type 0
 HasNoLf line = All (λ b. b ≢ 10) line

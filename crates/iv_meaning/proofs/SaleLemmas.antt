@@ -9,10 +9,9 @@ use Rattle.iv_types.specs.declared.value.Value.TheVariants.{Number}
 use Rattle.iv_types.specs.declared.statement.Mode.TheVariants.{Serial, Snapshot}
 use Rattle.iv_types.specs.Syntax.{StatementTree, savepoint, rollback}
 use Rattle.table_laws.specs.Place.{Place, place_cmp}
-use Rattle.table_laws.specs.Kept.{Change}
+use Rattle.table_laws.specs.Table.{Change, write, rows_where}
 use Rattle.table_laws.proofs.Place.{place_cmp_total, place_cmp-IsAntisymmetric}
 use Rattle.iv_meaning.specs.Database.{Row, Rows, Database, key_of}
-use Rattle.table_laws.specs.Table.{write, rows_where}
 use Rattle.iv_types.specs.Syntax.{at}
 use Rattle.iv_meaning.specs.Values.{is_true}
 use Rattle.iv_meaning.specs.Query.{BoundQuery, plain, combinations, conjunction, answer}

@@ -1,4 +1,5 @@
 pub mod Lines
+pub mod LineLaws
 pub mod Reply
 pub mod Number
 pub mod Script

@@ -1,5 +1,5 @@
 //! Laws about the definitions.
-ghost use Rattle.iv_meaning.specs.Lines.{LinesLaw};
+ghost use Rattle.iv_meaning.specs.LineLaws.{LinesLaw};
 ghost use Rattle.iv_meaning.specs.SerialLaws.{CommitLaw, HistoryLaw, LatestLaw, OutsideLaw, SaysLaw, SessionLaw, StateLaw};
 
 /// `lines_of` cuts an input into its lines.

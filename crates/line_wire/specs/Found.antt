@@ -4,7 +4,8 @@
 use Rattle.std.specs.Prelude.{◌≡◌, ◌≢◌, ◌+◌, ◌<◌, ◌≤◌, ℕ, List, [], ◌++◌, length, Option, Some, Result, Ok, Err}
 use Rattle.iv_meaning.specs.Lines.{first_line, after_line, longest_line}
 use Rattle.iv_types.specs.Faults.{Rose}
-use Rattle.line_wire.specs.Reading.{Reading, most_bytes, before_lf}
+use Rattle.line_wire.specs.Reading.{Reading, before_lf}
+use Rattle.line_wire.specs.Wire.{most_bytes}
 use Rattle.line_wire.specs.declared.line.Line.{Line}
 use Rattle.line_wire.specs.declared.line.Line.TheVariants.{Text, TooLong, End}
 use Rattle.line_wire.specs.declared.line.LineFault.{LineFault}

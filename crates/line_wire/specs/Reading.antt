@@ -1,5 +1,8 @@
+-- No clause of `run` rests on this module: it serves contracts between crates.
+--
 -- Where a reader of lines stands.
-use Rattle.std.specs.Prelude.{◌≡◌, ◌≢◌, ◌⊎◌, ℕ, ◌+◌, ◌-◌, ◌*◌, ◌^◌, ◌==◌, List, [], ◌∷◌, ◌++◌, length, if◌then◌else◌}
+use Rattle.std.specs.Prelude.{◌≡◌, ◌≢◌, ◌⊎◌, ℕ, ◌+◌, ◌-◌, ◌*◌, ◌==◌, List, [], ◌∷◌, ◌++◌, length, if◌then◌else◌}
+use Rattle.line_wire.specs.Wire.{most_bytes}
 
 pub record Reading : Type 0 where
   -- the bytes that were taken from the source and are not read yet
@@ -8,10 +11,6 @@ pub record Reading : Type 0 where
   pub taken : ℕ
   -- the line that was read last
   pub text : List ℕ
-
--- the most bytes that are taken from a source
-abbrev pub most_bytes : ℕ
-most_bytes = 2 ^ 40
 
 -- the most bytes of a line that are kept: those of the longest line that is read, and a CR
 abbrev pub most_kept : ℕ

@@ -1,5 +1,5 @@
 -- What the calls of a source and a sink do.
-use Rattle.std.specs.Prelude.{◌≡◌, ◌≤◌, ℕ, List, [], ◌++◌, length, take, drop, Option, Some}
+use Rattle.std.specs.Prelude.{◌≡◌, ◌≤◌, ◌^◌, ℕ, List, [], ◌++◌, length, take, drop, Option, Some}
 
 -- the next bytes, so many, went to the front of a piece, and none only at the end
 pub record Gives (bytes : List ℕ) (count : ℕ) (piece : List ℕ) (left : Option (List ℕ)) : Type 0 where
@@ -13,3 +13,7 @@ pub record WroteFront (before bytes : List ℕ) (written : Option (List ℕ)) : 
   pub count : ℕ
   pub few : count ≤ length bytes
   pub same : written ≡ Some (before ++ take count bytes)
+
+-- the most bytes that are taken from a source
+abbrev pub most_bytes : ℕ
+most_bytes = 2 ^ 40

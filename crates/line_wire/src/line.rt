@@ -2,8 +2,8 @@
 ghost use Rattle.std.specs.Prelude.{◌≡◌, ◌<◌, ◌≤◌, ◌^◌, ◌+◌, ◌-◌, ◌∷◌, ◌++◌, ◌⊎◌, ℕ, List, [], length, take, nat_lt, true, false, IfSome, IfNone, IfOk, OnOk, OnErr, MatchBool, Option, if◌then◌else◌, ◌==◌, ◌≢◌, ◌↔◌, IsTrue, vec_capacity};
 ghost use Rattle.iv_types.specs.Faults.{CountsFault};
 ghost use Rattle.iv_meaning.specs.Lines.{after_line, longest_line};
-ghost use Rattle.line_wire.specs.Wire.{Gives};
-ghost use Rattle.line_wire.specs.Reading.{most_bytes, most_kept, before_lf, DropsReturn, lines_left};
+ghost use Rattle.line_wire.specs.Wire.{Gives, most_bytes};
+ghost use Rattle.line_wire.specs.Reading.{most_kept, before_lf, DropsReturn, lines_left};
 ghost use Rattle.line_wire.specs.Found.{Found, Filled, Took, Nearer, CountsReadFault};
 
 use crate::Source;

@@ -14,7 +14,8 @@ use Rattle.iv_types.specs.declared.catalog.TableDef.{TableDef}
 use Rattle.iv_types.specs.Definitions.{kinds_of}
 use Rattle.iv_types.specs.Encoding.{FitAll}
 use Rattle.table_laws.specs.Place.{Place, place_cmp}
-use Rattle.table_laws.specs.Table.{rows_where, passing}
+use Rattle.table_laws.specs.Table.{rows_where}
+use Rattle.table_laws.specs.Sums.{passing}
 use Rattle.table_laws.proofs.Place.{place_cmp_total, place_cmp-IsAntisymmetric}
 use Rattle.table_laws.proofs.Tables.{by_key, same_key, other_key, rows_where_sorted, find-rows_where, rows_where-write, Contains-rows_where, get-write_at, get-write_other}
 use Rattle.iv_meaning.specs.Schema.{numbered, table}

@@ -9,7 +9,8 @@ use Rattle.iv_types.specs.declared.catalog.TableDef.{TableDef}
 use Rattle.iv_types.specs.declared.statement.Mode.{Mode}
 use Rattle.iv_types.specs.Syntax.{Tree}
 use Rattle.table_laws.specs.Place.{Place}
-use Rattle.table_laws.specs.Kept.{Change, redo}
+use Rattle.table_laws.specs.Kept.{redo}
+use Rattle.table_laws.specs.Table.{Change}
 use Rattle.iv_meaning.specs.Schema.{table, numbered}
 use Rattle.iv_meaning.specs.Database.{Row, Database, rows_of, key_of}
 use Rattle.iv_meaning.specs.Values.{is_true}

@@ -11,7 +11,8 @@ use Rattle.iv_types.specs.Definitions.{kinds_of}
 use Rattle.iv_types.specs.Encoding.{FitAll}
 use Rattle.iv_types.specs.Intervals.{point}
 use Rattle.table_laws.specs.Place.{Place}
-use Rattle.table_laws.specs.Kept.{Change, redo}
+use Rattle.table_laws.specs.Kept.{redo}
+use Rattle.table_laws.specs.Table.{Change}
 use Rattle.iv_meaning.specs.Schema.{table, numbered}
 use Rattle.iv_meaning.specs.Database.{Row, Database, key_of, set_row}
 use Rattle.iv_meaning.specs.View.{read}

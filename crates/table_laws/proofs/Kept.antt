@@ -9,8 +9,9 @@ use Rattle.std.proofs.lemmas.List.Elements.{All-head, All-tail}
 use Rattle.std.specs.FinMap.{FinMap, get, IsAntisymmetric}
 use Rattle.std.specs.declared.cmp.Ordering.{Ordering}
 use Rattle.std.specs.Cmp.{IsTotalOrder}
-use Rattle.table_laws.specs.Table.{write, part, total}
-use Rattle.table_laws.specs.Kept.{Change, Touches, changed, redo, take_back, AreTrue}
+use Rattle.table_laws.specs.Table.{write, Change}
+use Rattle.table_laws.specs.Sums.{part, total}
+use Rattle.table_laws.specs.Kept.{Touches, changed, redo, take_back, AreTrue}
 use Rattle.table_laws.specs.Kept.{redo_all, take_back_all, IsSession, AreSessions, IsStored}
 use Rattle.table_laws.proofs.Tables.{by_key, get-write_other, get-write_at, same_table, total-write}
 

@@ -10,9 +10,9 @@ use Rattle.std.proofs.lemmas.Int.{ints}
 use Rattle.std.specs.FinMap.{FinMap, get, IsAntisymmetric, nat_cmp-IsAntisymmetric}
 use Rattle.std.specs.declared.cmp.Ordering.{Ordering}
 use Rattle.std.specs.Cmp.{IsTotalOrder, nat_cmp_total}
-use Rattle.table_laws.specs.Table.{write, total}
-use Rattle.table_laws.specs.Sums.{sum_to}
-use Rattle.table_laws.specs.Kept.{Change, Touches, changed, with_kept, redo, take_back, AreTrue, IsSession, IsAlone, IsStored}
+use Rattle.table_laws.specs.Table.{write, Change}
+use Rattle.table_laws.specs.Sums.{total, sum_to}
+use Rattle.table_laws.specs.Kept.{Touches, changed, with_kept, redo, take_back, AreTrue, IsSession, IsAlone, IsStored}
 use Rattle.table_laws.proofs.Tables.{by_key, get-write_other, get-write_at, same_table}
 use Rattle.table_laws.proofs.Kept.{by_touch, redo_untouched, redo_touched, true_agree, back_untouched, back_touched, total-redo}
 use Rattle.table_laws.proofs.Sums.{sum_to_same}

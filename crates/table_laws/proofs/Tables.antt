@@ -13,7 +13,8 @@ use Rattle.std.specs.declared.cmp.Ordering.{Ordering}
 use Rattle.std.specs.declared.cmp.Ordering.TheVariants.{Less, Equal, Greater}
 use Rattle.std.specs.Ordering.{eq_by_cmp, is_eq, is_lt}
 use Rattle.std.specs.Cmp.{IsTotalOrder, tied_itself}
-use Rattle.table_laws.specs.Table.{write, sum_of, total, part, rows_where, passing}
+use Rattle.table_laws.specs.Table.{write, rows_where}
+use Rattle.table_laws.specs.Sums.{sum_of, total, part, passing}
 
 -- ---- tests
 

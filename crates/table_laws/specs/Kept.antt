@@ -1,15 +1,12 @@
+-- No clause of `run` rests on this module: it serves contracts between crates.
+--
 -- Changes of rows that a transaction keeps, the latest first: what they make of a table, and how they are taken back.
 use Rattle.std.specs.Prelude.{◌≡◌, ◌≢◌, ◌⊎◌, ℕ, ◌≤◌, ◌==◌, List, [], ◌∷◌, All, Contains, Option, if◌then◌else◌}
 use Rattle.std.specs.Prelude.{ℤ, pos, ◌+ℤ◌, ◌-ℤ◌}
 use Rattle.std.specs.FinMap.{FinMap, get}
 use Rattle.std.specs.declared.cmp.Ordering.{Ordering}
-use Rattle.table_laws.specs.Table.{write, part}
-
--- the row that stood under a key, if one did, and the row that stands there after, if one does
-pub record Change (K X : Type 0) : Type 0 where
-  pub key : K
-  pub before : Option X
-  pub after : Option X
+use Rattle.table_laws.specs.Table.{write, Change}
+use Rattle.table_laws.specs.Sums.{part}
 
 -- one of the sessions 1 to n
 abbrev pub IsSession : ℕ → ℕ → Type 0

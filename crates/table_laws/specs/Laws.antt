@@ -6,10 +6,10 @@ use Rattle.std.specs.Prelude.{ℤ, pos, ◌+ℤ◌, ◌≤ℤ◌}
 use Rattle.std.specs.FinMap.{FinMap, get, entries, is_sorted, IsAntisymmetric}
 use Rattle.std.specs.Cmp.{IsTotalOrder}
 use Rattle.std.specs.declared.cmp.Ordering.{Ordering}
-use Rattle.table_laws.specs.Table.{write, rows_where, sum_of, total, part, passing}
-use Rattle.table_laws.specs.Sums.{sum_to}
+use Rattle.table_laws.specs.Table.{write, rows_where, Change}
+use Rattle.table_laws.specs.Sums.{sum_of, total, part, passing, sum_to}
 use Rattle.table_laws.specs.Place.{place_cmp}
-use Rattle.table_laws.specs.Kept.{Change, Touches, changed, with_kept, redo, take_back, AreTrue, redo_all, take_back_all}
+use Rattle.table_laws.specs.Kept.{Touches, changed, with_kept, redo, take_back, AreTrue, redo_all, take_back_all}
 use Rattle.table_laws.specs.Kept.{IsSession, AreSessions, IsAlone, IsStored}
 
 -- a total order, in which only a key itself ties with it

@@ -9,7 +9,8 @@ use Rattle.std.proofs.lemmas.List.Elements.{Contains-append_left, Contains-appen
 use Rattle.iv_types.specs.declared.lock.LockMode.{LockMode}
 use Rattle.iv_types.specs.declared.lock.LockMode.TheVariants.{Share, Exclusive, Increment}
 use Rattle.iv_types.specs.declared.lock.Want.{Want}
-use Rattle.table_laws.specs.Kept.{IsSession, Touches, Change}
+use Rattle.table_laws.specs.Kept.{IsSession, Touches}
+use Rattle.table_laws.specs.Table.{Change}
 use Rattle.table_laws.proofs.Kept.{by_touch}
 use Rattle.table_laws.proofs.Place.{place_cmp_total, place_cmp-IsAntisymmetric}
 use Rattle.table_laws.proofs.Stored.{by_session}

@@ -15,7 +15,8 @@ use Rattle.iv_types.specs.declared.catalog.TableDef.{TableDef}
 use Rattle.iv_types.specs.declared.catalog.IndexDef.{IndexDef}
 use Rattle.iv_types.specs.Intervals.{LiesIn, IsBelow}
 use Rattle.table_laws.specs.Place.{Place}
-use Rattle.table_laws.specs.Table.{rows_where, passing}
+use Rattle.table_laws.specs.Table.{rows_where}
+use Rattle.table_laws.specs.Sums.{passing}
 use Rattle.table_laws.proofs.Tables.{passing_some, passing_true, rows_where_same, same_table, entries-retain_keys}
 use Rattle.table_laws.proofs.Place.{place_cmp_total, place_cmp-IsAntisymmetric}
 use Rattle.iv_meaning.specs.Schema.{Schema, Object, table, index, numbered, as_table}

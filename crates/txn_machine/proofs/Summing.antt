@@ -16,7 +16,8 @@ use Rattle.std.specs.Str.{bytes_eq}
 use Rattle.iv_types.specs.declared.lock.GroupDelta.{GroupDelta}
 use Rattle.iv_types.specs.declared.catalog.Second.{Second}
 use Rattle.table_laws.specs.Place.{Place}
-use Rattle.table_laws.specs.Table.{rows_where, sum_of, total, part}
+use Rattle.table_laws.specs.Table.{rows_where}
+use Rattle.table_laws.specs.Sums.{sum_of, total, part}
 use Rattle.table_laws.proofs.Tables.{total-write, total_same, total_plus}
 use Rattle.table_laws.proofs.Place.{place_cmp_total, place_cmp-IsAntisymmetric}
 use Rattle.iv_meaning.specs.Schema.{Schema, ViewTree, sources_of}

@@ -16,8 +16,7 @@ use Rattle.iv_types.specs.declared.catalog.Second.{Second}
 use Rattle.iv_types.specs.Encoding.{key_bytes}
 use Rattle.iv_types.specs.Intervals.{point, prefix_interval}
 use Rattle.table_laws.specs.Place.{Place}
-use Rattle.table_laws.specs.Table.{write, rows_where}
-use Rattle.table_laws.specs.Kept.{Change}
+use Rattle.table_laws.specs.Table.{write, rows_where, Change}
 use Rattle.iv_meaning.specs.Schema.{Schema, table, numbered, ViewTree, as_view, indexes_of, items_at, key_kinds, group_kinds}
 use Rattle.iv_meaning.specs.Database.{Row, Rows, rows_of}
 use Rattle.iv_meaning.specs.Values.{is_true, value_at}

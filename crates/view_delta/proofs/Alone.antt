@@ -27,7 +27,8 @@ use Rattle.iv_types.specs.declared.value.Value.TheVariants.{Number, Word}
 use Rattle.iv_types.specs.declared.expression.ColumnAt.{ColumnAt}
 use Rattle.iv_types.specs.Encoding.{Fits, FitAll, IsHuge, key_bytes}
 use Rattle.table_laws.specs.Place.{Place, place_cmp}
-use Rattle.table_laws.specs.Table.{write, rows_where, passing}
+use Rattle.table_laws.specs.Table.{write, rows_where}
+use Rattle.table_laws.specs.Sums.{passing}
 use Rattle.table_laws.proofs.Place.{place_cmp_total, place_cmp-IsAntisymmetric}
 use Rattle.table_laws.proofs.Tables.{by_bool, by_key, same_key, other_key, get-write_same, get-write_other, rows_where_sorted, find-rows_where}
 use Rattle.iv_meaning.specs.Schema.{Schema, ViewTree, numbered, kinds_of_table, kind_at, group_kinds}

@@ -21,7 +21,8 @@ use Rattle.iv_types.specs.Encoding.{FitAll, key_bytes, row_cmp}
 use Rattle.iv_types.proofs.Orders.{row_cmp_total}
 use Rattle.row_codec.proofs.KeyOrders.{key_order}
 use Rattle.table_laws.specs.Place.{Place, place_cmp}
-use Rattle.table_laws.specs.Table.{rows_where, sum_of, total, part}
+use Rattle.table_laws.specs.Table.{rows_where}
+use Rattle.table_laws.specs.Sums.{sum_of, total, part}
 use Rattle.table_laws.proofs.Place.{place_cmp_total, place_cmp-IsAntisymmetric}
 use Rattle.table_laws.proofs.Tables.{by_bool, total-write, sum_of_where}
 use Rattle.iv_meaning.specs.Schema.{Schema, ViewTree, table, numbered, kinds_of_table, group_kinds, sources_of}

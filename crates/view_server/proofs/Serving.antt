@@ -11,13 +11,13 @@ use Rattle.iv_meaning.specs.Said.{Said}
 use Rattle.iv_meaning.specs.Serial.{World, Unended, opened_with, IsEnd}
 use Rattle.iv_meaning.specs.Script.{AnswersLines}
 use Rattle.iv_meaning.specs.Autocommit.{built_forms, AnswersWhole, IsScriptOutput, AnswersFirstLines}
-use Rattle.line_wire.specs.Wire.{WroteFront}
-use Rattle.line_wire.specs.Reading.{Reading, most_bytes}
+use Rattle.line_wire.specs.Wire.{WroteFront, most_bytes}
+use Rattle.line_wire.specs.Reading.{Reading}
 use Rattle.line_wire.specs.Found.{FoundLine, Reads}
 use Rattle.line_wire.specs.declared.line.Line.{Line}
 use Rattle.line_wire.specs.declared.line.Line.TheVariants.{Text, TooLong, End}
-use Rattle.view_server.specs.Answered.{IsIdle, IsAnsweredSo, AnswersLine, AddsAnswer, MovesOn}
-use Rattle.view_server.specs.Run.{Answered, Output, Taken, TookAll, Finishes, FinishFaults}
+use Rattle.view_server.specs.Answered.{IsIdle, IsAnsweredSo, AnswersLine, AddsAnswer, MovesOn, Finishes, FinishFaults}
+use Rattle.view_server.specs.Run.{Answered, Output, Taken, TookAll}
 use Rattle.view_server.specs.declared.status.Status.{Status}
 use Rattle.view_server.specs.declared.status.Status.TheVariants.{WriteFault}
 

@@ -1,7 +1,7 @@
 -- No clause of `run` rests on this module: it serves contracts between crates.
 --
 -- How a line that was read is answered.
-use Rattle.std.specs.Prelude.{◌≡◌, ◌<◌, ◌≤◌, ℕ, List, ◌++◌, length, Option, Some, None}
+use Rattle.std.specs.Prelude.{◌≡◌, ◌⊎◌, ◌<◌, ◌≤◌, ℕ, List, ◌++◌, length, Option, Some, None}
 use Rattle.iv_types.specs.declared.reply.Reply.{Reply}
 use Rattle.iv_types.specs.Syntax.{StatementTree}
 use Rattle.iv_meaning.specs.Lines.{longest_line}
@@ -13,8 +13,12 @@ use Rattle.iv_meaning.specs.Autocommit.{built_forms, AnswersWhole}
 use Rattle.list_engine.specs.declared.engine.ListEngine.{ListEngine}
 use Rattle.list_engine.specs.Whole.{IsTold}
 use Rattle.list_engine.specs.Engine.{IsIn}
+use Rattle.line_wire.specs.Wire.{WroteFront}
 use Rattle.line_wire.specs.declared.line.Line.{Line}
 use Rattle.line_wire.specs.declared.line.Line.TheVariants.{Text, TooLong, End}
+use Rattle.iv_types.specs.Faults.{Rose}
+use Rattle.view_server.specs.declared.status.Status.{Status}
+use Rattle.view_server.specs.declared.status.Status.TheVariants.{WriteFault}
 
 -- no transaction is open, and no statement is unfinished
 pub record IsIdle (w : World) : Type 0 where
@@ -57,3 +61,11 @@ pub record MovesOn (before waiting now : List ℕ) (written : Option (List ℕ))
   pub front : List ℕ
   pub whole : front ++ now ≡ waiting
   pub wrote : written ≡ Some (before ++ front)
+
+-- what waited was written, or the sink failed with some front of it written
+abbrev pub Finishes : Status → Status → List ℕ → List ℕ → Option (List ℕ) → Type 0
+Finishes status result before waiting written =
+    ((result ≡ status) × (written ≡ Some (before ++ waiting))) ⊎ ((result ≡ WriteFault) × WroteFront before waiting written)
+
+abbrev pub FinishFaults : Status → Status → ℕ → ℕ → Type 0
+FinishFaults status result before now = ((result ≡ status) × (now ≡ before)) ⊎ ((result ≡ WriteFault) × Rose before now)

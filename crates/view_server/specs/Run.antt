@@ -2,8 +2,7 @@
 use Rattle.std.specs.Prelude.{◌≡◌, ◌⊎◌, ◌+◌, ◌<◌, ℕ, List, [], ◌∷◌, ◌++◌, length, map, codes, Option, Some, String, string_bytes}
 use Rattle.iv_types.specs.Faults.{Rose}
 use Rattle.iv_meaning.specs.Autocommit.{IsScriptOutput, AnswersFirstLines, IsScriptOutputPart}
-use Rattle.line_wire.specs.Wire.{WroteFront}
-use Rattle.line_wire.specs.Reading.{most_bytes}
+use Rattle.line_wire.specs.Wire.{WroteFront, most_bytes}
 use Rattle.view_server.specs.declared.status.Status.{Status}
 use Rattle.view_server.specs.declared.status.Status.TheVariants.{Done, Usage, ReadFault, WriteFault, NoMemory, TooMuch}
 
@@ -71,11 +70,3 @@ SinkFaults TooMuch before now = now ≡ before
 abbrev pub ToldUsage : List ℕ → Option (List ℕ) → ℕ → ℕ → Type 0
 ToldUsage before written faults_before faults_now =
     (written ≡ Some (before ++ usage_text)) ⊎ (Rose faults_before faults_now × WroteFront before usage_text written)
-
--- what waited was written, or the sink failed with some front of it written
-abbrev pub Finishes : Status → Status → List ℕ → List ℕ → Option (List ℕ) → Type 0
-Finishes status result before waiting written =
-    ((result ≡ status) × (written ≡ Some (before ++ waiting))) ⊎ ((result ≡ WriteFault) × WroteFront before waiting written)
-
-abbrev pub FinishFaults : Status → Status → ℕ → ℕ → Type 0
-FinishFaults status result before now = ((result ≡ status) × (now ≡ before)) ⊎ ((result ≡ WriteFault) × Rose before now)

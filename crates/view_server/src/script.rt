@@ -8,8 +8,8 @@ ghost use Rattle.iv_meaning.specs.Autocommit.{is_built};
 ghost use Rattle.line_wire.specs.declared.line.Line.TheVariants.{Text, TooLong};
 ghost use Rattle.line_wire.specs.Wire.{WroteFront};
 ghost use Rattle.list_engine.specs.Engine.{IsIn};
-ghost use Rattle.view_server.specs.Answered.{AddsAnswer, IsAnswered, IsIdle, IsRun, MovesOn};
-ghost use Rattle.view_server.specs.Run.{IsScript, Output, Taken, SourceFaults, SinkFaults, ToldUsage, Finishes, FinishFaults};
+ghost use Rattle.view_server.specs.Answered.{AddsAnswer, IsAnswered, IsIdle, IsRun, MovesOn, Finishes, FinishFaults};
+ghost use Rattle.view_server.specs.Run.{IsScript, Output, Taken, SourceFaults, SinkFaults, ToldUsage};
 
 use crate::asked::Request;
 use crate::print::{push_refusal, push_replies};

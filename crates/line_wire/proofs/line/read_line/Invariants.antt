@@ -1,5 +1,6 @@
 use Rattle.std.proofs.Common.{◌≡◌, ◌<◌, ◌≤◌, ◌+◌, ◌++◌, ℕ, List, length, Some, true}
-use Rattle.line_wire.specs.Reading.{most_bytes, most_kept, lines_left}
+use Rattle.line_wire.specs.Reading.{most_kept, lines_left}
+use Rattle.line_wire.specs.Wire.{most_bytes}
 use Rattle.line_wire.proofs.Gathering.{Gathering}
 use Rattle.line_wire.proofs.line.read_line.Given as goal
 

@@ -2,7 +2,7 @@ use Rattle.std.proofs.Common.{◌≢◌, ◌∙◌, ◌++◌, ℕ, List, refl, s
 use Rattle.iv_meaning.specs.Database.{created}
 use Rattle.iv_meaning.specs.Serial.{opened_with}
 use Rattle.line_wire.specs.declared.line.Line.TheVariants.{Text, TooLong, End}
-use Rattle.view_server.specs.Run.{Finishes}
+use Rattle.view_server.specs.Answered.{Finishes}
 use Rattle.view_server.specs.declared.status.Status.TheVariants.{Done, ReadFault, NoMemory, TooMuch}
 use Rattle.view_server.proofs.Serving.{Serving, begun, moved, served, first_lines, whole, front, ended, taken_by, took_all}
 use Rattle.view_server.proofs.script.answer_lines.Goals as goal
