@@ -31,15 +31,15 @@ use Rattle.script_law.specs.Sessions.{programs_of}
 use Rattle.script_law.proofs.Basics.{if_same, if_other}
 use Rattle.script_law.proofs.OverMachine.{reached_of, machine_laws}
 use Rattle.statement_law.specs.Retrying.{steps_left, StepsOn, MovesOn, StepsEndLaw, RetriesEndLaw}
-use Rattle.statement_law.proofs.Stopping.{HasEnded, EndsBy, EndsOnStop, start_stops}
+use Rattle.statement_law.proofs.Refused.{HasEnded, KeepsBy, EndsIfStopped, EndsOnStop, start_stops}
 
 -- ---- what is left of a statement after a step
 
-asked_stops : (e : Event) (said : Answer) (f : Answer → Todo) → ((s : Answer) → EndsBy s (f s) × EndsOnStop (f s)) → EndsOnStop (asked_next e said f)
+asked_stops : (e : Event) (said : Answer) (f : Answer → Todo) → ((s : Answer) → KeepsBy EndsIfStopped s (f s) × EndsOnStop (f s)) → EndsOnStop (asked_next e said f)
 asked_stops LacksRow said f h = h
 asked_stops _ said f h = (h said).1
 
-ghost_stops : (said : Answer) (f : Answer → Todo) → ((s : Answer) → EndsBy s (f s) × EndsOnStop (f s)) → EndsOnStop (ghost_next said f)
+ghost_stops : (said : Answer) (f : Answer → Todo) → ((s : Answer) → KeepsBy EndsIfStopped s (f s) × EndsOnStop (f s)) → EndsOnStop (ghost_next said f)
 ghost_stops answer.Ghosted f h = h
 ghost_stops said f h = (h said).1
 
