@@ -1,7 +1,6 @@
 -- No clause of `run` rests on this module: it serves contracts between crates.
 --
 -- What a statement does once a step of it met a deadlock: it takes back and ends.
-use Rattle.std.specs.Prelude.{}
 use Rattle.iv_types.specs.declared.refusal.EngineRefusal.TheVariants as engine
 use Rattle.iv_types.specs.Syntax.{StatementTree}
 use Rattle.txn_machine.specs.Acts as act
