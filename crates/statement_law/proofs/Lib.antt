@@ -10,5 +10,5 @@ pub mod Works
 pub mod Asking
 pub mod Fitting
 pub mod Asked
-pub mod Stopping
+pub mod Refused
 pub mod Retrying

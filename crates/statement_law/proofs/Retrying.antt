@@ -31,15 +31,15 @@ use Rattle.script_law.specs.Sessions.{programs_of}
 use Rattle.script_law.proofs.Basics.{if_same, if_other}
 use Rattle.script_law.proofs.OverMachine.{reached_of, machine_laws}
 use Rattle.statement_law.specs.Retrying.{steps_left, StepsOn, MovesOn, StepsEndLaw, RetriesEndLaw}
-use Rattle.statement_law.proofs.Stopping.{HasEnded, EndsBy, EndsOnStop, start_stops}
+use Rattle.statement_law.proofs.Refused.{HasEnded, KeepsBy, EndsIfStopped, EndsOnStop, start_stops}
 
 -- ---- what is left of a statement after a step
 
-asked_stops : (e : Event) (said : Answer) (memory : Bool) (f : Answer → Bool → Todo) → ((s : Answer) (m : Bool) → EndsBy s (f s m) × EndsOnStop (f s m)) → EndsOnStop (asked_next e said memory f)
+asked_stops : (e : Event) (said : Answer) (memory : Bool) (f : Answer → Bool → Todo) → ((s : Answer) (m : Bool) → KeepsBy EndsIfStopped s (f s m) × EndsOnStop (f s m)) → EndsOnStop (asked_next e said memory f)
 asked_stops LacksRow said memory f h = h
 asked_stops _ said memory f h = (h said memory).1
 
-ghost_stops : (said : Answer) (memory : Bool) (f : Answer → Bool → Todo) → ((s : Answer) (m : Bool) → EndsBy s (f s m) × EndsOnStop (f s m)) → EndsOnStop (ghost_next said memory f)
+ghost_stops : (said : Answer) (memory : Bool) (f : Answer → Bool → Todo) → ((s : Answer) (m : Bool) → KeepsBy EndsIfStopped s (f s m) × EndsOnStop (f s m)) → EndsOnStop (ghost_next said memory f)
 ghost_stops answer.Ghosted memory f h = h
 ghost_stops said memory f h = (h said memory).1
 

@@ -6,3 +6,4 @@ pub mod Statements
 pub mod Fitting
 pub mod Laws
 pub mod Retrying
+pub mod Deadlocks

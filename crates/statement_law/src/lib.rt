@@ -2,6 +2,7 @@
 //! means. Each function is there for its contract.
 #![tactic(auto)]
 
+ghost use Rattle.statement_law.specs.Deadlocks.{DeadlocksLaw};
 ghost use Rattle.statement_law.specs.Retrying.{StepsEndLaw, RetriesEndLaw};
 ghost use Rattle.statement_law.specs.Laws.{AskedLaw, EscrowLaw, FitsLaw, KeyLaw, StatementsLaw, WorksLaw};
 
@@ -43,4 +44,9 @@ pub fn steps_end_law()
 /// Behind a line of a script no more passes over waiting sessions move than the engine will count steps and there are sessions.
 pub fn retries_end_law()
     ensures { RetriesEndLaw }
+{}
+
+/// Once a step of a statement met a deadlock, the statement only takes back and ends.
+pub fn deadlocks_law()
+    ensures { DeadlocksLaw }
 {}
