@@ -13,6 +13,7 @@ pub mod View
 pub mod Escrow
 pub mod Waits
 pub mod Statement
+pub mod Bound
 pub mod Names
 pub mod Types
 pub mod Shape
