@@ -19,6 +19,11 @@ pub mod Types
 pub mod Shape
 pub mod Binding
 pub mod Plan
+pub mod Resolving
+pub mod Typing
+pub mod Tests
+pub mod Passes
+pub mod Sameness
 pub mod Reading
 pub mod Sound
 pub mod Transaction
