@@ -5,9 +5,9 @@
 use anyhow::bail;
 use case_text::sign;
 use iv_types::{
-    Bytes, ColumnAt, ColumnDef, Expr, ExprList, IndexDef, Kind, Refusal, Second, TableDef, ViewDef,
+    Bound, BoundItem, BoundOrder, BoundSet, Bytes, ColumnAt, ColumnDef, Expr, ExprList, IndexDef,
+    Kind, Refusal, Second, TableDef, ViewDef,
 };
-use sql_bind::{Bound, BoundItem, BoundOrder, BoundSet};
 use std::fmt::Write;
 
 fn write_name(out: &mut String, name: &Bytes) -> anyhow::Result<()> {
@@ -227,22 +227,21 @@ fn write_order(out: &mut String, order: &[BoundOrder]) -> anyhow::Result<()> {
 // A bound INSERT, UPDATE or DELETE.
 fn write_change(out: &mut String, bound: &Bound) -> anyhow::Result<()> {
     match bound {
-        Bound::Insert { table, tuples } => {
+        Bound::Insert(insert) => {
+            let table = insert.table;
             write!(out, "insert {table}")?;
-            write_tuples(out, tuples.as_slice())
+            write_tuples(out, insert.tuples.as_slice())
         }
-        Bound::Update {
-            table,
-            sets,
-            condition,
-        } => {
+        Bound::Update(update) => {
+            let table = update.table;
             write!(out, "update {table}")?;
-            write_sets(out, sets.as_slice())?;
-            write_condition(out, condition)
+            write_sets(out, update.sets.as_slice())?;
+            write_condition(out, &update.condition)
         }
-        Bound::Delete { table, condition } => {
+        Bound::Delete(delete) => {
+            let table = delete.table;
             write!(out, "delete {table}")?;
-            write_condition(out, condition)
+            write_condition(out, &delete.condition)
         }
         _ => bail!("no change"),
     }
@@ -253,19 +252,13 @@ pub fn write_bound(out: &mut String, bound: &Bound) -> anyhow::Result<()> {
         Bound::Table(table) => write_table(out, table),
         Bound::Index(index) => write_index(out, index),
         Bound::View(view) => write_view(out, view),
-        Bound::Select {
-            relations,
-            conditions,
-            items,
-            group,
-            order,
-        } => {
+        Bound::Select(select) => {
             out.push_str("select")?;
-            write_places(out, relations.as_slice())?;
-            write_items(out, items.as_slice())?;
-            write_each(out, " on ", conditions.as_slice())?;
-            write_group(out, group.as_slice())?;
-            write_order(out, order.as_slice())
+            write_places(out, select.relations.as_slice())?;
+            write_items(out, select.items.as_slice())?;
+            write_each(out, " on ", select.conditions.as_slice())?;
+            write_group(out, select.group.as_slice())?;
+            write_order(out, select.order.as_slice())
         }
         Bound::Control => {
             out.push_str("control")?;

@@ -7,7 +7,7 @@
 use anyhow::bail;
 use case_text::{operator, read_column, read_row, read_value, write_interval};
 use iv_types::{Interval, Kind, RowList};
-use sql_bind::{Equal, EqualList, PlanPart, RangeTerm, RangeTermList, fits_columns, interval};
+use sql_plan::{Equal, EqualList, PlanPart, RangeTerm, RangeTermList, fits_columns, interval};
 use std::alloc::Global;
 use std::mem::forget;
 

@@ -1,7 +1,6 @@
 //! SELECTs that no text can be bound to, by their relations' numbers and their conditions in postfix form.
 use case_text::read_expression;
-use iv_types::{ColumnAtList, ExprList, Places};
-use sql_bind::{Bound, BoundItemList, BoundOrderList};
+use iv_types::{Bound, BoundItemList, BoundOrderList, BoundSelect, ColumnAtList, ExprList, Places};
 use std::alloc::Global;
 use std::mem::forget;
 
@@ -29,11 +28,11 @@ pub fn selection(alloc: Global, relations: &str, conditions: &str) -> anyhow::Re
         forget(found);
         return Err(error);
     }
-    Ok(Bound::Select {
+    Ok(Bound::Select(BoundSelect {
         relations: numbers,
         conditions: found,
         items: BoundItemList::new(alloc),
         group: ColumnAtList::new(alloc),
         order: BoundOrderList::new(alloc),
-    })
+    }))
 }

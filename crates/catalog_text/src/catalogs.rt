@@ -2,8 +2,8 @@
 //!
 //! Statements and catalogs are forgotten and not dropped: the programs are short, and their drops are costly to prove.
 use anyhow::bail;
-use iv_types::{Catalog, Definition, Refusal};
-use sql_bind::{Bound, bind};
+use iv_types::{Bound, Catalog, Definition, Refusal};
+use sql_bind::bind;
 use sql_parse::parse;
 use std::alloc::Global;
 use std::mem::{forget, replace};

@@ -11,3 +11,10 @@ pub mod SerialRuns
 pub mod SerialTurns
 pub mod SerialMisses
 pub mod RangeLemmas
+pub mod Agreeing
+pub mod ColumnLemmas
+pub mod QueryLemmas
+pub mod PassLemmas
+pub mod PlaceLemmas
+pub mod SameQueries
+pub mod SameLemmas

@@ -12,11 +12,17 @@ pub mod View
 pub mod Escrow
 pub mod Waits
 pub mod Statement
+pub mod Bound
 pub mod Names
 pub mod Types
 pub mod Shape
 pub mod Binding
 pub mod Plan
+pub mod Resolving
+pub mod Typing
+pub mod Tests
+pub mod Passes
+pub mod Sameness
 pub mod Reading
 pub mod Sound
 pub mod Transaction

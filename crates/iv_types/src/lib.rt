@@ -5,6 +5,7 @@
 //! replies (`Replies`), rows and keys in bytes (`Encoding`, `BadRow`, `Intervals`), and sorted maps (`Maps`).
 #![tactic(auto)]
 
+mod bound;
 mod catalog;
 mod expression;
 mod fault;
@@ -18,6 +19,10 @@ mod statement;
 mod terminal;
 mod value;
 
+pub use bound::{
+    Bound, BoundDelete, BoundInsert, BoundItem, BoundItemList, BoundOrder, BoundOrderList,
+    BoundSelect, BoundSet, BoundSetList, BoundUpdate,
+};
 pub use catalog::{Catalog, Definition, IndexDef, Second, TableDef, ViewDef};
 pub use expression::{ColumnAt, ColumnAtList, Expr, ExprList, Op, Ref, RefList};
 pub use fault::{DiskFault, Failed, NoMemory};

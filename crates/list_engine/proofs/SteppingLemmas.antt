@@ -25,8 +25,8 @@ use Rattle.std.proofs.lemmas.Bool.{cases_lt}
 use Rattle.iv_types.specs.Syntax.{StatementTree}
 use Rattle.iv_meaning.specs.Binding.{bind}
 use Rattle.iv_meaning.specs.Statement.{BoundTree}
-use Rattle.sql_bind.specs.declared.bound.Bound.{Bound}
-use Rattle.sql_bind.specs.Bound.{bound_tree}
+use Rattle.iv_types.specs.declared.bound.Bound.{Bound}
+use Rattle.iv_meaning.specs.Bound.{bound_tree}
 use Rattle.list_engine.specs.State.{State, counted}
 use Rattle.list_engine.specs.declared.parts.Opened.{Opened}
 use Rattle.list_engine.specs.Steps.{IsFree, IsBusy, MayAct, Does, May, Moves}

@@ -8,7 +8,7 @@ ghost use Rattle.iv_meaning.specs.Database.{Database};
 ghost use Rattle.iv_meaning.specs.Binding as binding;
 ghost use Rattle.iv_meaning.specs.Statement as statement;
 ghost use Rattle.iv_meaning.specs.Statement.{create_meaning, Refused};
-ghost use Rattle.sql_bind.specs.Bound.{bound_tree};
+ghost use Rattle.iv_meaning.specs.Bound.{bound_tree};
 ghost use Rattle.list_store.specs.Held.{Holds};
 ghost use Rattle.list_engine.specs.Creating.{IsListed, Makes};
 ghost use Rattle.list_store.specs.Made.{IsMade};

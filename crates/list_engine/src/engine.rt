@@ -20,11 +20,11 @@ use crate::parts::{Opened, Part, Parts};
 use crate::step::{Act, Answer, LastRefusal, Step};
 use crate::stepper::Stepper;
 use iv_types::{
-    Catalog, Definition, EngineRefusal, Interval, LockMode, Mode, NoMemory, Refusal, Statement,
-    TableRows,
+    Bound, Catalog, Definition, EngineRefusal, Interval, LockMode, Mode, NoMemory, Refusal,
+    Statement, TableRows,
 };
 use list_store::{copied_catalog, fetch, look_at};
-use sql_bind::{Bound, bind};
+use sql_bind::bind;
 use std::alloc::Global;
 
 // So many steps stop an engine.

@@ -11,7 +11,7 @@ ghost use Rattle.iv_meaning.specs.Transaction.{next_number};
 ghost use Rattle.iv_meaning.specs.Autocommit.{is_built};
 ghost use Rattle.list_engine.specs.Whole.{IsPassedOver, whole_meaning, means_whole};
 ghost use Rattle.list_engine.specs.State.{State};
-ghost use Rattle.sql_bind.specs.Bound.{bound_tree};
+ghost use Rattle.iv_meaning.specs.Bound.{bound_tree, select_tree};
 ghost use Rattle.list_engine.specs.declared.step.Act.TheVariants as act;
 ghost use Rattle.list_engine.specs.Steps.{IsCreate};
 ghost use Rattle.iv_meaning.specs.Escrow.{IsSession};
@@ -23,14 +23,17 @@ ghost use Rattle.list_engine.specs.Engine.{Stands, IsIn, Answers, EndsAs, IsRead
 use crate::answers::{committed, is_begun, is_ended};
 use crate::engine::ListEngine;
 use crate::replying::{commit, done, refused};
-use crate::selecting::{read_by, relations};
+use crate::selecting::read_by;
 use crate::step::{Act, Answer, Step};
 use crate::stepper::{Stepper, do_step};
 use crate::table_insert::insert;
-use iv_types::{Mode, NoMemory, Refusal, ReplyList, Statement, TableRows, TupleList};
+use iv_types::{
+    Bound, BoundSelect, Mode, NoMemory, Refusal, ReplyList, Statement, TableRows, TupleList,
+};
 use list_store::evaluate;
 use query_exec::Task;
-use sql_bind::{Bound, bind, plan};
+use sql_bind::bind;
+use sql_plan::plan_select;
 
 // The greatest commit number after a transaction that kept so many changes.
 fn next_number(number: u64, count: u64) -> u64
@@ -151,10 +154,10 @@ impl ListEngine {
     }
 
     // Runs a SELECT.
-    fn run_select(&mut self, session: u32, bound: Bound) -> Result<ReplyList, NoMemory>
-        ensures { (db : Database) (s : StatementTree) (q : BoundQuery) → IsIn self.old db → IsSession session → binding.bind db.schema s ≡ Ok (meaning.select q) → bound_tree bound ≡ meaning.select q → IfOk result (λ replies. EndsAs (whole_meaning (meaning.select q) db) db replies self.new) }
+    fn run_select(&mut self, session: u32, select: BoundSelect) -> Result<ReplyList, NoMemory>
+        ensures { (db : Database) (s : StatementTree) (q : BoundQuery) → IsIn self.old db → IsSession session → binding.bind db.schema s ≡ Ok (meaning.select q) → select_tree select ≡ q → IfOk result (λ replies. EndsAs (whole_meaning (meaning.select q) db) db replies self.new) }
     {
-        let Ok(plan) = plan(self.alloc, &self.catalog, &bound, Mode::Serial) else {
+        let Ok(plan) = plan_select(self.alloc, &self.catalog, &select, Mode::Serial) else {
             return refused(self.alloc, Refusal::NoMemory);
         };
         // A view that can't be evaluated refuses each SELECT that names it, also one that reads nothing of it.
@@ -163,11 +166,11 @@ impl ListEngine {
             &self.catalog,
             &self.tables,
             &mut self.views,
-            relations(&bound),
+            select.relations.as_slice(),
         ) {
             return refused(self.alloc, refusal);
         }
-        let Ok(mut task) = Task::new(self.alloc, &self.catalog, bound, plan) else {
+        let Ok(mut task) = Task::new(self.alloc, &self.catalog, select, plan) else {
             return refused(self.alloc, Refusal::NoMemory);
         };
         self.run_task(session, &mut task)
@@ -178,8 +181,8 @@ impl ListEngine {
         ensures { (db : Database) (s : StatementTree) → IsIn self.old db → IsSession session → binding.bind db.schema s ≡ Ok (bound_tree bound) → IfOk result (λ replies. EndsAs (whole_meaning (bound_tree bound) db) db replies self.new) }
     {
         match bound {
-            Bound::Insert { table, tuples } => self.run_insert(table, &tuples),
-            select @ Bound::Select { .. } => self.run_select(session, select),
+            Bound::Insert(insert) => self.run_insert(insert.table, &insert.tuples),
+            Bound::Select(select) => self.run_select(session, select),
             // No other form is built.
             _other => Err(NoMemory),
         }

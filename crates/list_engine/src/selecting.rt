@@ -2,15 +2,13 @@
 ghost use Rattle.std.specs.Prelude.{◌≡◌};
 ghost use Rattle.list_engine.specs.State.{State};
 ghost use Rattle.query_laws.specs.Laws.{Asks};
-ghost use Rattle.sql_bind.specs.Bound.{bound_tree};
-ghost use Rattle.query_exec.specs.Tasks.{query_in, left};
+ghost use Rattle.query_exec.specs.Tasks.{left};
 ghost use Rattle.list_engine.specs.Engine.{IsReading, WasRead, step_for};
 
 use crate::step::{Act, Answer, Step};
 use crate::stepper::{Stepper, do_step};
 use iv_types::{LockMode, NoMemory, ReplyList};
 use query_exec::{Fetch, Task, Turn};
-use sql_bind::Bound;
 
 // No statement asks for more intervals.
 const MOST_TURNS: u64 = 1 << 62;
@@ -57,14 +55,4 @@ pub fn read_by<S: Stepper>(
         }
     }
     Err(NoMemory)
-}
-
-/// The relations of a SELECT.
-pub fn relations(bound: &Bound) -> &[u32]
-    ensures { result.now ≡ (query_in (bound_tree bound.now)).relations }
-{
-    match bound {
-        Bound::Select { relations, .. } => relations.as_slice(),
-        _ => &[],
-    }
 }

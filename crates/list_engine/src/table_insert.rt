@@ -23,7 +23,7 @@ use crate::tuples::tuple_rows;
 use iv_types::{Catalog, Definition, ExprList, Refusal, Row, RowList, RowsOf, TableDef, TableRows};
 use list_store::{Key, primary_key};
 use row_codec::row_fits;
-use sql_bind::numbered;
+use sql_plan::numbered;
 use std::alloc::Global;
 
 // The place of the list of a table's rows.

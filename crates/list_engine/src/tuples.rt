@@ -9,7 +9,7 @@ ghost use Rattle.row_eval.specs.Grouped.{Gives};
 
 use iv_types::{Expr, ExprList, Kind, Refusal, Row, RowList, TableDef, Value};
 use row_eval::value;
-use sql_bind::{fits, kinds_of};
+use sql_plan::{fits, kinds_of};
 use std::alloc::Global;
 
 // What an expression gives, to be stored in a column of this kind.

@@ -10,7 +10,7 @@ ghost use Rattle.list_store.specs.Held.{Holds, IsEvaluated, has_rows, IsLookedAt
 
 use iv_types::{Catalog, Definition, Refusal, RowList, RowsOf, TableRows, ViewDef};
 use row_eval::{fresh_rows, is_readable};
-use sql_bind::numbered;
+use sql_plan::numbered;
 use std::alloc::Global;
 
 /// The rows of a view.

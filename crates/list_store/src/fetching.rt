@@ -9,7 +9,7 @@ use crate::evaluating::has_rows;
 use crate::reading::{table_between, view_between};
 use iv_types::{Catalog, Definition, Interval, NoMemory, RowList, TableRows};
 use row_eval::rows_of_table;
-use sql_bind::numbered;
+use sql_plan::numbered;
 use std::alloc::Global;
 
 /// The rows of a table or of a view that was evaluated whose keys lie in an interval, in the order of these.

@@ -6,7 +6,8 @@ ghost use Rattle.list_store.specs.Keys.{key_by};
 use iv_types::{Bytes, KindList, NoMemory, Row, TableDef};
 use row_codec::{encode_key, key_fits};
 use row_eval::values_at;
-use sql_bind::{kinds_at, kinds_of};
+use sql_bind::kinds_at;
+use sql_plan::kinds_of;
 use std::alloc::Global;
 
 /// The columns of a key, by their places in a row, and their kinds.

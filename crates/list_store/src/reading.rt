@@ -13,7 +13,7 @@ use iv_types::{
     Bytes, Catalog, Interval, Kind, NoMemory, Row, RowList, TableDef, ViewDef, copied_row,
 };
 use row_codec::{encode_key, key_fits};
-use sql_bind::group_kinds;
+use sql_plan::group_kinds;
 use std::alloc::Global;
 
 // The rows from one place on up to another.

@@ -16,7 +16,8 @@ use iv_types::{
 };
 use row_codec::{encode_key, key_fits, point};
 use row_eval::values_at;
-use sql_bind::{kinds_at, kinds_of};
+use sql_bind::kinds_at;
+use sql_plan::kinds_of;
 use std::alloc::Global;
 use view_delta::needs;
 

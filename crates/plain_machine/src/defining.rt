@@ -5,7 +5,7 @@ ghost use Rattle.iv_types.specs.Syntax.{statement_tree};
 ghost use Rattle.iv_types.specs.declared.refusal.Refusal.TheVariants as refused;
 ghost use Rattle.iv_meaning.specs.Schema.{object_of, schema_of};
 ghost use Rattle.iv_meaning.specs.Statement as meaning;
-ghost use Rattle.sql_bind.specs.Bound.{bound_tree};
+ghost use Rattle.iv_meaning.specs.Bound.{bound_tree};
 ghost use Rattle.list_store.specs.Made.{IsMade};
 ghost use Rattle.list_store.specs.Made.{is_want};
 ghost use Rattle.txn_machine.specs.Acts as act;
@@ -24,9 +24,11 @@ use crate::owing::{add_all, all_contributions};
 use crate::place_map::PlaceMap;
 use crate::reading::view_afresh;
 use crate::txns::least_open;
-use iv_types::{Catalog, Definition, DeltaList, EngineRefusal, NoMemory, Refusal, Row, Statement};
+use iv_types::{
+    Bound, Catalog, Definition, DeltaList, EngineRefusal, NoMemory, Refusal, Row, Statement,
+};
 use list_store::add;
-use sql_bind::{Bound, bind};
+use sql_bind::bind;
 use sql_pieces::statement_bytes;
 use std::alloc::Global;
 use txn_book::Answer;

@@ -17,7 +17,7 @@ use iv_types::{
 };
 use list_store::{fetch, has_rows, lies_in, look_at};
 use row_codec::decode_key;
-use sql_bind::group_kinds;
+use sql_plan::group_kinds;
 use std::alloc::Global;
 
 // The rows of a table, in the order of their keys.

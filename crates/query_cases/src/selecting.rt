@@ -8,9 +8,9 @@ use crate::writing::write_refusal;
 use anyhow::bail;
 use case_text::{read_rows, write_interval, write_row};
 use catalog_text::bound;
-use iv_types::{Catalog, Mode, Reply, RowList};
+use iv_types::{Bound, BoundSelect, Catalog, Mode, Reply, RowList};
 use query_exec::{Fetch, Task, Turn};
-use sql_bind::{Bound, plan};
+use sql_plan::plan_select;
 use std::alloc::Global;
 use std::fmt::Write;
 use std::mem::{forget, replace};
@@ -66,12 +66,23 @@ fn turn_text(alloc: Global, turn: Turn) -> anyhow::Result<String> {
 }
 
 // A SELECT that is read by its plan.
-fn task_of(alloc: Global, catalog: &Catalog, bound: Bound) -> anyhow::Result<Task> {
-    match plan(alloc, catalog, &bound, Mode::Serial) {
-        Ok(plan) => Ok(Task::new(alloc, catalog, bound, plan)?),
+fn task_of(alloc: Global, catalog: &Catalog, select: BoundSelect) -> anyhow::Result<Task> {
+    match plan_select(alloc, catalog, &select, Mode::Serial) {
+        Ok(plan) => Ok(Task::new(alloc, catalog, select, plan)?),
         Err(_) => {
-            forget(bound);
+            forget(select);
             bail!("no memory")
+        }
+    }
+}
+
+// What a SELECT is bound to.
+fn select_of(alloc: Global, catalog: &Catalog, text: &str) -> anyhow::Result<BoundSelect> {
+    match bound(alloc, catalog, text)? {
+        Bound::Select(select) => Ok(select),
+        other => {
+            forget(other);
+            bail!("no SELECT")
         }
     }
 }
@@ -106,7 +117,7 @@ fn begin(
     task: &mut Option<Task>,
     text: &str,
 ) -> anyhow::Result<()> {
-    let begun = task_of(alloc, catalog, bound(alloc, catalog, text)?)?;
+    let begun = task_of(alloc, catalog, select_of(alloc, catalog, text)?)?;
     forget(replace(task, Some(begun)));
     Ok(())
 }

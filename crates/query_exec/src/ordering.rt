@@ -4,10 +4,9 @@ ghost use Rattle.std.specs.Option.{option_cmp, option_copied};
 ghost use Rattle.std.specs.Ordering.{ordering_reverse};
 ghost use Rattle.iv_types.specs.Encoding.{value_cmp};
 ghost use Rattle.iv_meaning.specs.Query.{order_cmp, ordered};
-ghost use Rattle.sql_bind.specs.Bound.{order_tree};
+ghost use Rattle.iv_meaning.specs.Bound.{order_tree};
 
-use iv_types::{NoMemory, Row, RowList, Value};
-use sql_bind::BoundOrder;
+use iv_types::{BoundOrder, NoMemory, Row, RowList, Value};
 use std::cmp::Ordering;
 
 // The order of two values; none comes first.

@@ -25,8 +25,8 @@ use Rattle.bind_shape.specs.Limits.{limits_of_table, limits_of_index, limits_of_
 use Rattle.bind_shape.specs.Rules.{rules_of_query, rules_of_view}
 use Rattle.sql_bind.specs.Viewing.{lacks, view_lacks, bound_view}
 use Rattle.sql_bind.specs.Changing.{is_set_key, sets_at}
-use Rattle.sql_bind.specs.Bound.{bound_tree}
-use Rattle.sql_bind.specs.declared.bound.Bound.{Bound}
+use Rattle.iv_meaning.specs.Bound.{bound_tree}
+use Rattle.iv_types.specs.declared.bound.Bound.{Bound}
 use Rattle.iv_meaning.specs.Statement as made
 use Rattle.sql_bind.specs.Passes.{later_faults}
 use Rattle.bind_names.proofs.Checking.{same_faults}

@@ -11,13 +11,12 @@ ghost use Rattle.iv_meaning.specs.Binding.{shape_faults, limit_faults, bound_que
 ghost use Rattle.iv_meaning.specs.Names as names;
 ghost use Rattle.iv_meaning.specs.Names.{name_faults};
 ghost use Rattle.iv_meaning.specs.Statement as bound;
-ghost use Rattle.sql_bind.specs.Bound.{bound_tree};
+ghost use Rattle.iv_meaning.specs.Bound.{bound_tree};
 ghost use Rattle.bind_names.specs.Checks.{Checks};
 ghost use Rattle.sql_bind.specs.Passes.{later_faults};
 ghost use Rattle.bind_shape.specs.Rules.{rules_of_query};
 ghost use Rattle.bind_names.specs.Seeing.{visible_of, scope_seen, seen_by};
 
-use crate::Bound;
 use crate::change_binding::{bind_delete, bind_insert, bind_update};
 use crate::creating::{bind_index, bind_table};
 use crate::selecting::bound_select;
@@ -29,7 +28,8 @@ use bind_names::visible::{Scope, Visible};
 use bind_shape::items::{group_of, items_of};
 use bind_shape::{limits, rules};
 use iv_types::{
-    Bytes, Catalog, ColumnDef, Expr, ExprList, NoMemory, Order, Query, Refusal, Set, Statement,
+    Bound, Bytes, Catalog, ColumnDef, Expr, ExprList, NoMemory, Order, Query, Refusal, Set,
+    Statement,
 };
 use std::alloc::Global;
 

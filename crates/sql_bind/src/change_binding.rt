@@ -11,18 +11,20 @@ ghost use Rattle.iv_meaning.specs.Names.{bound};
 ghost use Rattle.iv_meaning.specs.Shape.{object_number, is_table, repeats, places_of, primary_places};
 ghost use Rattle.iv_meaning.specs.Binding.{shape_faults};
 ghost use Rattle.iv_meaning.specs.Statement as statement;
-ghost use Rattle.sql_bind.specs.Bound.{bound_tree, set_tree};
+ghost use Rattle.iv_meaning.specs.Bound.{bound_tree, set_tree};
 ghost use Rattle.sql_bind.specs.Changing.{is_set_key, set_at, sets_at};
 ghost use Rattle.bind_names.specs.Checks.{Checks};
 ghost use Rattle.bind_names.specs.Seeing.{names_in, visible_of, scope_seen};
 
 use crate::copies::{bound, bound_condition, copied_tuples};
-use crate::{Bound, BoundSet, BoundSetList};
 use bind_names::visible::Visible;
 use bind_shape::places::{places_of, primary_of, set_names};
 use bind_shape::rules::rule;
 use bind_shape::shape::{is_table, repeats_name};
-use iv_types::{Bytes, Expr, ExprList, NoMemory, Refusal, Set};
+use iv_types::{
+    Bound, BoundDelete, BoundInsert, BoundSet, BoundSetList, BoundUpdate, Bytes, Expr, ExprList,
+    NoMemory, Refusal, Set,
+};
 use std::alloc::Global;
 
 /// The number of a relation's object.
@@ -73,10 +75,10 @@ pub fn bind_insert(
         table && !have_length(target.columns.as_slice().len(), tuples),
     )?;
     rule(5, !table)?;
-    Ok(Bound::Insert {
+    Ok(Bound::Insert(BoundInsert {
         table: number_of(target),
         tuples: copied_tuples(alloc, tuples)?,
-    })
+    }))
 }
 
 /// What a DELETE is bound to.
@@ -95,10 +97,10 @@ pub fn bind_delete(
     ensures bound { IfOk result (λ b. bound_tree b ≡ statement.delete (option_map_or object_number (visible_of target.now).object 0) (option_map (bound (visible_of target.now ∷ [])) (perhaps_tree condition.now))) }
 {
     rule(5, !is_table(target))?;
-    Ok(Bound::Delete {
+    Ok(Bound::Delete(BoundDelete {
         table: number_of(target),
         condition: bound_condition(alloc, scope, condition)?,
-    })
+    }))
 }
 
 // Whether a place is one of the primary key.
@@ -199,9 +201,9 @@ pub fn bind_update(
     rule(3, is_set_key(primary_of(target), places.as_slice()))?;
     rule(4, repeats_name(alloc, &names)?)?;
     rule(5, !is_table(target))?;
-    Ok(Bound::Update {
+    Ok(Bound::Update(BoundUpdate {
         table: number_of(target),
         sets: bound_sets(alloc, scope, columns, sets)?,
         condition: bound_condition(alloc, scope, condition)?,
-    })
+    }))
 }

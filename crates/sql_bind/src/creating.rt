@@ -11,12 +11,11 @@ ghost use Rattle.iv_meaning.specs.Schema as schema;
 ghost use Rattle.iv_meaning.specs.Shape.{object_number, is_table, repeats, places_of, primary_places};
 ghost use Rattle.iv_meaning.specs.Binding.{shape_faults, limit_faults};
 ghost use Rattle.iv_meaning.specs.Statement as bound_to;
-ghost use Rattle.sql_bind.specs.Bound.{bound_tree};
+ghost use Rattle.iv_meaning.specs.Bound.{bound_tree};
 ghost use Rattle.bind_names.specs.Checks.{Checks};
 ghost use Rattle.bind_shape.specs.Limits.{limits_of_table, limits_of_index};
 ghost use Rattle.bind_names.specs.Seeing.{names_in, visible_of};
 
-use crate::Bound;
 use crate::change_binding::number_of;
 use crate::copies::copied_columns;
 use bind_names::names::copied;
@@ -27,7 +26,7 @@ use bind_shape::places::{by_reference, places_of, primary_of};
 use bind_shape::rules::rule;
 use bind_shape::shape::{is_table, repeats_name};
 use iv_types::{
-    Bytes, Catalog, ColumnDef, IndexDef, NoMemory, Places, Refusal, Statement, TableDef,
+    Bound, Bytes, Catalog, ColumnDef, IndexDef, NoMemory, Places, Refusal, Statement, TableDef,
 };
 use std::alloc::Global;
 

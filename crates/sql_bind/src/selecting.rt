@@ -7,16 +7,18 @@ ghost use Rattle.iv_meaning.specs.Names.{bound};
 ghost use Rattle.iv_meaning.specs.Shape.{object_number, numbers_of};
 ghost use Rattle.iv_meaning.specs.Binding.{item_place, before_number, order_place, bound_order};
 ghost use Rattle.iv_meaning.specs.Statement as statement;
-ghost use Rattle.sql_bind.specs.Bound.{bound_tree, item_tree, order_tree};
+ghost use Rattle.iv_meaning.specs.Bound.{bound_tree, item_tree, order_tree};
 ghost use Rattle.bind_shape.specs.Items.{named_item, items_seen};
 ghost use Rattle.bind_names.specs.Seeing.{visible_of, scope_seen};
 
 use crate::copies::{bound, bound_joins};
-use crate::{Bound, BoundItem, BoundItemList, BoundOrder, BoundOrderList};
 use bind_names::visible::Visible;
 use bind_shape::item::{NamedItem, SeenItem};
 use bind_shape::shape::is_named;
-use iv_types::{Bytes, ColumnAtList, Expr, ExprList, NoMemory, Order, OrderKey, Places, Query};
+use iv_types::{
+    Bound, BoundItem, BoundItemList, BoundOrder, BoundOrderList, BoundSelect, Bytes, ColumnAtList,
+    Expr, ExprList, NoMemory, Order, OrderKey, Places, Query,
+};
 use std::alloc::Global;
 
 // Adds the number of a relation's object, if there is one.
@@ -175,11 +177,11 @@ pub fn bound_select(
       order = map (bound_order (items_seen (scope_seen scope.now) items.now)) order.now;
     })) }
 {
-    Ok(Bound::Select {
+    Ok(Bound::Select(BoundSelect {
         relations: numbers_of(alloc, scope)?,
         conditions: conditions(alloc, scope, query)?,
         items: bound_items(alloc, scope, items)?,
         group,
         order: bound_order(alloc, scope, items, order)?,
-    })
+    }))
 }

@@ -13,7 +13,7 @@ ghost use Rattle.iv_meaning.specs.Names.{bound};
 ghost use Rattle.iv_meaning.specs.Shape.{terms, group_of, items_of};
 ghost use Rattle.iv_meaning.specs.Binding.{shape_faults, limit_faults, join_columns, second_of, second_kept};
 ghost use Rattle.iv_meaning.specs.Statement as bound_to;
-ghost use Rattle.sql_bind.specs.Bound.{bound_tree};
+ghost use Rattle.iv_meaning.specs.Bound.{bound_tree};
 ghost use Rattle.bind_names.specs.Checks.{Checks};
 ghost use Rattle.bind_shape.specs.Items.{items_seen};
 ghost use Rattle.bind_shape.specs.Limits.{limits_of_view};
@@ -21,7 +21,6 @@ ghost use Rattle.bind_shape.specs.Rules.{rules_of_query, rules_of_view};
 ghost use Rattle.bind_names.specs.Seeing.{scope_seen};
 ghost use Rattle.sql_bind.specs.Viewing.{perhaps_on, second_by, numbered_second, lacks, view_lacks, kept_view, bound_view};
 
-use crate::Bound;
 use crate::copies::bound_condition;
 use crate::view_parts::{item_names, item_sums, join_columns, join_index};
 use bind_names::names::copied;
@@ -31,8 +30,8 @@ use bind_shape::items::{group_of, items_of};
 use bind_shape::joining::{pairs_of, table_at};
 use bind_shape::{limits, rules};
 use iv_types::{
-    Bytes, Catalog, ColumnAt, ColumnAtList, Expr, Join, NoMemory, Places, Query, Refusal, Second,
-    Statement, TableDef, ViewDef,
+    Bound, Bytes, Catalog, ColumnAt, ColumnAtList, Expr, Join, NoMemory, Places, Query, Refusal,
+    Second, Statement, TableDef, ViewDef,
 };
 use std::alloc::Global;
 

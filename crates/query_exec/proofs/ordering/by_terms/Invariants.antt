@@ -1,6 +1,6 @@
 use Rattle.std.proofs.Common.{◌≡◌, drop, map}
 use Rattle.iv_meaning.specs.Query.{order_cmp}
-use Rattle.sql_bind.specs.Bound.{order_tree}
+use Rattle.iv_meaning.specs.Bound.{order_tree}
 use Rattle.query_exec.proofs.ordering.by_terms.Given as goal
 
 abbrev pub invariant-loop-term : goal.invariant-loop-term

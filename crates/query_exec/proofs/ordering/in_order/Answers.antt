@@ -2,7 +2,7 @@ use Rattle.std.proofs.Common.{rules, map, List}
 use mathlib.Core.Path.{ap, ◌∙◌}
 use Rattle.std.proofs.lemmas.Fn.{always_returns_same}
 use Rattle.iv_meaning.specs.Query.{BoundOrder, ordered}
-use Rattle.sql_bind.specs.Bound.{order_tree}
+use Rattle.iv_meaning.specs.Bound.{order_tree}
 use Rattle.query_exec.proofs.Orders.{before, before_weak, ordered_by}
 use Rattle.query_exec.proofs.ordering.in_order.Goals as goal
 

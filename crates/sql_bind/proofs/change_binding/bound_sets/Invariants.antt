@@ -2,7 +2,7 @@ use Rattle.std.proofs.Common.{◌≡◌, ◌++◌, drop, map}
 use Rattle.std.specs.List.{flat_map}
 use Rattle.sql_bind.specs.Changing.{sets_at}
 use Rattle.bind_names.specs.Seeing.{names_in, scope_seen}
-use Rattle.sql_bind.specs.Bound.{set_tree}
+use Rattle.iv_meaning.specs.Bound.{set_tree}
 use Rattle.iv_types.specs.Syntax as syntax
 use Rattle.sql_bind.proofs.change_binding.bound_sets.Given as goal
 

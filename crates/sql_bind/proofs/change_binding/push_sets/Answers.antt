@@ -3,7 +3,7 @@ use Rattle.iv_types.specs.Syntax.{tree}
 use Rattle.iv_types.proofs.Walks.{walked_at, all_gathered}
 use Rattle.sql_bind.specs.Changing.{set_at}
 use Rattle.bind_names.specs.Seeing.{scope_seen}
-use Rattle.sql_bind.specs.Bound.{set_tree}
+use Rattle.iv_meaning.specs.Bound.{set_tree}
 use Rattle.sql_bind.proofs.change_binding.push_sets.Goals as goal
 
 pub loop-index-preserved : goal.loop-index-preserved

@@ -2,7 +2,7 @@ use Rattle.std.proofs.Common.{◌≡◌, ◌++◌, drop, map}
 use Rattle.iv_types.specs.Syntax.{tree}
 use Rattle.sql_bind.specs.Changing.{set_at}
 use Rattle.bind_names.specs.Seeing.{scope_seen}
-use Rattle.sql_bind.specs.Bound.{set_tree}
+use Rattle.iv_meaning.specs.Bound.{set_tree}
 use Rattle.sql_bind.proofs.change_binding.push_sets.Given as goal
 
 abbrev pub invariant-loop-index : goal.invariant-loop-index

@@ -3,7 +3,7 @@ use Rattle.std.proofs.lemmas.List.{map_push}
 use Rattle.iv_types.proofs.Walks.{all_gathered, gathered}
 use Rattle.bind_shape.specs.Items.{items_seen, named_item}
 use Rattle.bind_names.specs.Seeing.{scope_seen}
-use Rattle.sql_bind.specs.Bound.{item_tree}
+use Rattle.iv_meaning.specs.Bound.{item_tree}
 use Rattle.sql_bind.proofs.selecting.bound_items.Goals as goal
 
 pub loop-item-preserved : goal.loop-item-preserved

@@ -1,7 +1,7 @@
 use Rattle.std.proofs.Common.{◌≡◌, ◌++◌, drop, map}
 use Rattle.bind_shape.specs.Items.{items_seen}
 use Rattle.bind_names.specs.Seeing.{scope_seen}
-use Rattle.sql_bind.specs.Bound.{item_tree}
+use Rattle.iv_meaning.specs.Bound.{item_tree}
 use Rattle.sql_bind.proofs.selecting.bound_items.Given as goal
 
 abbrev pub invariant-loop-item : goal.invariant-loop-item

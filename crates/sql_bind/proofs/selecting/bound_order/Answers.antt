@@ -2,7 +2,7 @@ use Rattle.std.proofs.Common.{◌++◌, ◌∷◌, ◌∙◌, [], ap, map, refl}
 use Rattle.std.proofs.lemmas.List.{map_push}
 use Rattle.iv_meaning.specs.Binding.{bound_order}
 use Rattle.iv_types.proofs.Walks.{all_gathered, gathered}
-use Rattle.sql_bind.specs.Bound.{order_tree}
+use Rattle.iv_meaning.specs.Bound.{order_tree}
 use Rattle.bind_shape.specs.Items.{items_seen}
 use Rattle.bind_names.specs.Seeing.{scope_seen}
 use Rattle.iv_meaning.specs.Query.{BoundOrder}

@@ -1,6 +1,6 @@
 use Rattle.std.proofs.Common.{◌≡◌, ◌++◌, drop, map}
 use Rattle.iv_meaning.specs.Binding.{bound_order}
-use Rattle.sql_bind.specs.Bound.{order_tree}
+use Rattle.iv_meaning.specs.Bound.{order_tree}
 use Rattle.bind_shape.specs.Items.{items_seen}
 use Rattle.bind_names.specs.Seeing.{scope_seen}
 use Rattle.sql_bind.proofs.selecting.bound_order.Given as goal

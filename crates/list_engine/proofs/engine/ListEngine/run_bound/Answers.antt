@@ -3,14 +3,13 @@ use mathlib.Core.Path.{sym, ap, subst, ◌∙◌}
 use Rattle.iv_meaning.specs.Query.{BoundQuery}
 use Rattle.iv_meaning.specs.Statement.{select}
 use Rattle.list_engine.specs.Whole.{whole_meaning}
-use Rattle.sql_bind.specs.Bound.{bound_tree}
-use Rattle.query_exec.specs.Tasks.{query_in}
+use Rattle.iv_meaning.specs.Bound.{bound_tree, select_tree}
 use Rattle.list_engine.specs.Engine.{EndsAs}
 use Rattle.list_engine.proofs.engine.ListEngine.run_bound.Goals as goal
 
 pub returns-in-Select : goal.returns-in-Select
 returns-in-Select c = λ db s i of_session b.
-    let q : BoundQuery = query_in (bound_tree c.args.bound) in
-    let is : bound_tree c.args.bound ≡ select q = subst (λ x. bound_tree x ≡ select (query_in (bound_tree x))) (sym c.in-Select.is) refl in
+    let q : BoundQuery = select_tree c.in-Select.select in
+    let is : bound_tree c.args.bound ≡ select q = ap bound_tree c.in-Select.is in
     subst (λ x. IfOk c.run_select.result (λ replies. EndsAs (whole_meaning x db) db replies c.run_select.new.self)) (sym is)
-    (c.run_select.ensures db s q i of_session (b ∙ ap Ok is) is)
+    (c.run_select.ensures db s q i of_session (b ∙ ap Ok is) refl)

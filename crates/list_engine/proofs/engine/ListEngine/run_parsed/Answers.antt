@@ -8,7 +8,7 @@ use Rattle.iv_meaning.specs.Schema.{Schema}
 use Rattle.iv_meaning.specs.Binding.{bind}
 use Rattle.iv_meaning.specs.Statement.{Refused}
 use Rattle.list_engine.specs.Whole.{means_whole, whole_or_refused}
-use Rattle.sql_bind.specs.Bound.{bound_tree}
+use Rattle.iv_meaning.specs.Bound.{bound_tree}
 use Rattle.list_engine.specs.Engine.{EndsAs}
 use Rattle.list_store.proofs.HeldLemmas.{if_ok}
 use Rattle.list_engine.proofs.EngineLemmas.{not_ended}

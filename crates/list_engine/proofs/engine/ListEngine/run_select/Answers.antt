@@ -6,16 +6,18 @@ use Rattle.iv_types.specs.declared.statement.Mode.TheVariants.{Serial}
 use Rattle.iv_meaning.specs.Schema.{Schema, schema_of}
 use Rattle.iv_meaning.specs.Plan.{Part, plan}
 use Rattle.iv_meaning.specs.View.{select_answer, read as reader}
-use Rattle.iv_meaning.specs.Statement.{BoundTree, select, Meaning, bound_meaning}
+use Rattle.iv_meaning.specs.Query.{BoundQuery}
+use Rattle.iv_meaning.specs.Statement.{select, Meaning, bound_meaning}
 use Rattle.list_engine.specs.Whole.{whole_meaning}
 use Rattle.iv_meaning.specs.Reading.{Program, program, source_of, sources_for, replies_by, replies_of}
 use Rattle.row_eval.specs.Grouped.{Gives}
-use Rattle.sql_bind.specs.Bound.{bound_tree, parts_of}
+use Rattle.iv_meaning.specs.Bound.{select_tree}
+use Rattle.sql_plan.specs.Parts.{parts_of}
 use Rattle.query_laws.specs.Laws.{Asks}
 use Rattle.query_laws.proofs.SoundLemmas.{relations_law}
 use Rattle.query_laws.proofs.ReadingLemmas.{reading_law}
 use Rattle.query_laws.proofs.Asking.{asking_law}
-use Rattle.query_exec.specs.Tasks.{left, query_in}
+use Rattle.query_exec.specs.Tasks.{left}
 use Rattle.list_store.specs.Held.{sources}
 use Rattle.list_engine.specs.Engine.{EndsAs, IsSelected}
 use Rattle.list_store.proofs.HeldLemmas.{if_ok}
@@ -32,7 +34,7 @@ pub returns-in-Err : goal.returns-in-Err
 returns-in-Err c = λ db s q i of_session b is.
     let m : Meaning = whole_meaning (select q) db in
     let looked = c.in-Err.ensures db i.has.holds i.has.evaluated in
-    let same : c.relations.result.now ≡ q.relations = c.relations.ensures ∙ ap (λ x. (query_in x).relations) is in
+    let same : c.as_slice.result.now ≡ q.relations = c.as_slice.ensures ∙ ap (λ (x : BoundQuery). x.relations) is in
     let here = with_more c.args.self.now db c.evaluate.new.views i looked.keeps in
     if_ok c.refused-in-Err.result (λ replies. replies ≡ reply.Error c.in-Err.refusal ∷ []) (λ replies. EndsAs m db replies (record c.args.self.now { views = c.evaluate.new.views }))
     (λ replies e. not_ended m db replies (record c.args.self.now { views = c.evaluate.new.views }) c.in-Err.refusal here
@@ -49,13 +51,12 @@ pub returns : goal.returns
 returns c = λ db s q i of_session b is.
     let looked = c.in_default-evaluate.ensures db i.has.holds i.has.evaluated in
     let here = with_more c.args.self.now db c.evaluate.new.views i looked.keeps in
-    let same_query : query_in (bound_tree c.args.bound) ≡ q = ap query_in is in
-    let same : c.relations.result.now ≡ q.relations = c.relations.ensures ∙ ap (λ x. x.relations) same_query in
+    let same : c.as_slice.result.now ≡ q.relations = c.as_slice.ensures ∙ ap (λ (x : BoundQuery). x.relations) is in
     let planned : parts_of c.in-Ok.plan ≡ plan db.schema (select q) Serial =
-    c.in-Ok.ensures ∙ (ap (λ (x : Schema). plan x (bound_tree c.args.bound) Serial) i.has.holds.schema ∙ ap (λ (x : BoundTree). plan db.schema x Serial) is) in
+    c.in-Ok.ensures ∙ (ap (λ (x : Schema). plan x (select (select_tree c.args.select)) Serial) i.has.holds.schema ∙ ap (λ (x : BoundQuery). plan db.schema (select x) Serial) is) in
     let p : Program = program q (sources_for db.schema q Serial) in
     let left_is : left c.in-Ok-new.task ≡ p = c.in-Ok-new.ensures
-    ∙ (ap (λ x. program x (map (source_of (schema_of c.args.self.now.catalog)) (parts_of c.in-Ok.plan))) same_query
+    ∙ (ap (λ x. program x (map (source_of (schema_of c.args.self.now.catalog)) (parts_of c.in-Ok.plan))) is
     ∙ (ap (λ (x : Schema). program q (map (source_of x) (parts_of c.in-Ok.plan))) i.has.holds.schema
     ∙ ap (λ (parts : List Part). program q (map (source_of db.schema) parts)) planned)) in
     let there : (found : _) × (sources db q.relations ≡ Some found) = subst (λ rs. (found : _) × (sources db rs ≡ Some found)) same looked.there in

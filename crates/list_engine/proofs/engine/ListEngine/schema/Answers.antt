@@ -12,7 +12,7 @@ use Rattle.iv_meaning.specs.Schema.{object_of}
 use Rattle.iv_meaning.specs.Binding.{bind}
 use Rattle.iv_meaning.specs.Statement.{create}
 use Rattle.iv_meaning.specs.Transaction.{bound_or_refused}
-use Rattle.sql_bind.specs.Bound.{bound_tree}
+use Rattle.iv_meaning.specs.Bound.{bound_tree}
 use Rattle.list_engine.specs.Parts.{IsLeastOpen}
 use Rattle.list_engine.proofs.SteppingLemmas.{none_open, is_busy, bound_here}
 use Rattle.list_engine.proofs.engine.ListEngine.schema.Goals as goal

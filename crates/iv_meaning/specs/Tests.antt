@@ -1,0 +1,128 @@
+-- No clause of `run` rests on this module: it serves contracts between crates.
+--
+-- Passes 3 to 5 over a resolved statement: its shape rules, its limits, and the index that a join view needs, each as
+-- whether it fails and its refusal.
+use Rattle.std.specs.Prelude.{ℕ, pos, ◌+◌, ◌==◌, ◌&&◌, ◌||◌, nat_lt, not, is_some, is_none, Bool, true, false, List, [], ◌∷◌, ◌++◌, map, length, int_le, Option, Some, None, if◌then◌else◌}
+use Rattle.std.specs.List.{filter_map, list_any, list_all}
+use Rattle.std.specs.Option.{option_map, option_map_or}
+use Rattle.iv_types.specs.declared.value.Kind.{Kind}
+use Rattle.iv_types.specs.declared.refusal.Refusal.{Refusal}
+use Rattle.iv_types.specs.declared.refusal.Refusal.TheVariants.{WrongShape, Limit, NeedsIndex}
+use Rattle.iv_types.specs.declared.statement.Order.{Order}
+use Rattle.iv_types.specs.declared.statement.OrderKey.{OrderKey}
+use Rattle.iv_types.specs.declared.statement.OrderKey.TheVariants.{Place, Name}
+use Rattle.iv_types.specs.declared.catalog.TableDef.{TableDef}
+use Rattle.iv_meaning.specs.Schema.{Schema, Object, as_table, as_index, as_view, items_at, kind_at, object_columns, object_kinds}
+use Rattle.iv_meaning.specs.Names.{how_many}
+use Rattle.iv_meaning.specs.Query.{BoundOrder}
+use Rattle.iv_meaning.specs.Shape.{NamedItem, same_place, repeats, is_aggregate, is_grouped, joins_tables, is_view_list, has_arithmetic, is_named, is_empty, terms, key_width, row_width, width, readers, object_number, sums_in}
+use Rattle.iv_meaning.specs.Binding.{join_columns, join_index, item_place, before_number}
+use Rattle.iv_meaning.specs.Resolving.{ResolvedQuery, Joined, Resolved, table, index, view, insert, update, delete, select, control}
+use Rattle.iv_meaning.specs.Typing.{sources_of, kinds_seen}
+
+-- whether it fails, and how it is refused then
+abbrev pub Test : Type 0
+Test = Bool × Refusal
+
+abbrev pub rule : ℕ → Bool → Test
+rule number fails = (fails, WrongShape number)
+
+abbrev pub at_most : ℕ → ℕ → ℕ → Test
+at_most which most n = (nat_lt most n, Limit which (pos most))
+
+-- ---- shape
+
+abbrev pub is_table : Object → Bool
+is_table object = is_some (as_table object)
+
+abbrev pub primary_of : Object → List ℕ
+primary_of object = option_map_or (λ t. t.primary) (as_table object) []
+
+-- one relation, or two tables of which the second is joined by its whole primary key
+abbrev pub is_many_to_one : Object → List Joined → Bool
+is_many_to_one first [] = true
+is_many_to_one first (j ∷ []) = joins_tables (as_table first) (as_table j.object) j.on
+is_many_to_one first joins = false
+
+abbrev pub same_number : ℕ → ℕ → Bool
+same_number a b = a == b
+
+abbrev pub query_rules : ResolvedQuery → List Test
+query_rules query =
+    let grouped : Bool = not (is_empty query.group) in
+    rule 1 (repeats same_place query.group)
+    ∷ rule 5 (list_any (λ o. is_some (as_index o)) (sources_of query))
+    ∷ rule 6 (not grouped && list_any (λ i. is_aggregate i.item) query.items)
+    ∷ rule 7 (grouped && not (list_all (λ i. is_aggregate i.item || is_grouped query.group i.item) query.items))
+    ∷ rule 8 (grouped && not (is_many_to_one query.first query.joins))
+    ∷ []
+
+abbrev pub view_rules : ResolvedQuery → List Test
+view_rules query =
+    rule 9 (is_empty query.group || not (is_view_list query.group query.items))
+    ∷ rule 10 (option_map_or has_arithmetic query.condition false)
+    ∷ rule 11 (list_any (λ o. is_some (as_view o)) (sources_of query))
+    ∷ []
+
+-- the item that an ORDER BY names: by its number from 1, or by a name that it alone has
+abbrev pub item_named : List NamedItem → OrderKey → Option ℕ
+item_named items (Place n) = if int_le (pos 1) n && int_le n (pos (length items)) then Some (before_number n) else None
+item_named items (Name name) = if how_many (is_named name) items == 1 then Some (item_place name 0 items) else None
+
+abbrev pub ordered : List NamedItem → Order → Option BoundOrder
+ordered items o = option_map (λ place. record { item = place; descending = o.descending }) (item_named items o.by)
+
+-- ---- the join of a view
+
+-- the second table of a view, if it has one, and the columns of the first that are equal to its key
+abbrev pub second_of : ResolvedQuery → Option (TableDef × List ℕ)
+second_of query = elim query.joins [ [] ↦ None | j ∷ js ↦ option_map (λ second. (second, join_columns (terms j.on) second)) (as_table j.object) ]
+
+abbrev pub lacks_index : Schema → TableDef → ResolvedQuery → Bool
+lacks_index objects first query = option_map_or (λ second. is_none (join_index objects first second.1)) (second_of query) false
+
+abbrev pub index_test : Schema → ResolvedQuery → List Test
+index_test objects query = elim (as_table query.first) [ None ↦ [] | Some first ↦ (lacks_index objects first query, NeedsIndex first.name) ∷ [] ]
+
+-- ---- statements, of which one has so many bytes as it is printed
+
+abbrev pub tests : Schema → ℕ → Resolved → List Test
+tests objects size (table name columns primary) =
+    let kinds : List Kind = map (λ c. c.kind) columns in
+    rule 1 (repeats same_number primary)
+    ∷ at_most 6 32 (length columns)
+    ∷ at_most 8 64 (length (filter_map as_table objects) + 1)
+    ∷ at_most 12 1024 (width key_width (items_at kinds primary))
+    ∷ at_most 13 2048 (width row_width kinds)
+    ∷ at_most 15 4096 size
+    ∷ []
+tests objects size (index name target columns) =
+    rule 1 (repeats same_number columns)
+    ∷ rule 5 (not (is_table target))
+    ∷ at_most 6 32 (length columns)
+    ∷ at_most 9 64 (length (filter_map as_index objects) + 1)
+    ∷ at_most 12 1024 (width key_width (items_at (object_kinds objects target) (columns ++ primary_of target)))
+    ∷ at_most 15 4096 size
+    ∷ []
+tests objects size (view name query) =
+    query_rules query ++ (view_rules query ++ (
+    at_most 6 32 (length query.group)
+    ∷ at_most 10 64 (length (filter_map as_view objects) + 1)
+    ∷ (list_any (λ o. nat_lt 8 (readers objects (object_number o) + 1)) (sources_of query), Limit 11 (pos 8))
+    ∷ at_most 12 1024 (width key_width (filter_map (kind_at (kinds_seen objects query)) query.group))
+    ∷ at_most 14 8 (sums_in query.items)
+    ∷ at_most 15 4096 size
+    ∷ index_test objects query))
+tests objects size (insert target tuples) =
+    rule 2 (is_table target && not (list_all (λ tuple. length tuple == length (object_columns target)) tuples))
+    ∷ rule 5 (not (is_table target))
+    ∷ []
+tests objects size (update target sets condition) =
+    rule 3 (list_any (λ a. list_any (λ key. key == a.column) (primary_of target)) sets)
+    ∷ rule 4 (repeats (λ a b. a.column == b.column) sets)
+    ∷ rule 5 (not (is_table target))
+    ∷ []
+tests objects size (delete target condition) = rule 5 (not (is_table target)) ∷ []
+tests objects size (select query order) =
+    query_rules query ++ (rule 12 (not (list_all (λ o. is_some (item_named query.items o.by)) order)) ∷ at_most 6 32 (length query.group) ∷ [])
+tests objects size control = []

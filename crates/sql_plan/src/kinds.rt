@@ -1,0 +1,108 @@
+//! The kinds of the columns of tables and views.
+ghost use Rattle.std.specs.Prelude.{◌≡◌, map, IfOk};
+ghost use Rattle.std.specs.Option.{option_map, option_copied};
+ghost use Rattle.iv_types.specs.Definitions.{kinds_of};
+ghost use Rattle.iv_meaning.specs.Schema.{object_of, schema_of, view_tree, numbered, kinds_of_table, sources_of, group_kinds, object_kinds};
+ghost use Rattle.iv_meaning.specs.Schema as schema;
+ghost use Rattle.iv_meaning.specs.Plan.{kinds_for};
+
+use crate::terms::kind_in;
+use iv_types::{Catalog, Definition, Kind, KindList, NoMemory, Sequence, TableDef, ViewDef};
+use std::alloc::Global;
+
+/// The kinds of the columns of some relations, one list for each.
+pub type RelationKinds = Sequence<KindList>;
+
+/// The definition of an object number, if there is one.
+pub fn numbered(catalog: &Catalog, number: u32) -> Option<&Definition>
+    ensures { option_map object_of (option_copied result) ≡ numbered (schema_of catalog.now) number }
+{
+    catalog.get(number)
+}
+
+/// The kinds of a table's columns.
+///
+/// # Errors
+///
+/// Where there is no memory for them.
+pub fn kinds_of(alloc: Global, table: &TableDef) -> Result<KindList, NoMemory>
+    ensures { IfOk result (λ kinds. kinds ≡ kinds_of table.now) }
+{
+    let mut kinds = KindList::new(alloc);
+    for column in table.columns.as_slice() {
+        kinds.push(column.kind)?;
+    }
+    Ok(kinds)
+}
+
+// The kinds of a table's columns, and none for what is no table.
+fn kinds_of_table(alloc: Global, catalog: &Catalog, number: u32) -> Result<KindList, NoMemory>
+    ensures { IfOk result (λ kinds. kinds ≡ kinds_of_table (numbered (schema_of catalog.now) number)) }
+{
+    match numbered(catalog, number) {
+        Some(Definition::Table(table)) => kinds_of(alloc, table),
+        _ => Ok(KindList::new(alloc)),
+    }
+}
+
+// The kinds of the columns of the tables that a view reads.
+fn source_kinds(alloc: Global, catalog: &Catalog, view: &ViewDef) -> Result<RelationKinds, NoMemory>
+    ensures { IfOk result (λ kinds. kinds ≡ map (λ n. kinds_of_table (numbered (schema_of catalog.now) n)) (sources_of (view_tree view.now))) }
+{
+    let mut kinds = RelationKinds::new(alloc);
+    kinds.push(kinds_of_table(alloc, catalog, view.first)?)?;
+    if let Some(second) = &view.second {
+        kinds.push(kinds_of_table(alloc, catalog, second.table)?)?;
+    }
+    Ok(kinds)
+}
+
+/// The kinds of a view's group columns.
+///
+/// # Errors
+///
+/// Where there is no memory for them.
+pub fn group_kinds(alloc: Global, catalog: &Catalog, view: &ViewDef) -> Result<KindList, NoMemory>
+    ensures { IfOk result (λ kinds. kinds ≡ group_kinds (schema_of catalog.now) (view_tree view.now)) }
+{
+    let sources = source_kinds(alloc, catalog, view)?;
+    let sources = sources.as_slice();
+    let group = view.group.as_slice();
+    let mut kinds = KindList::new(alloc);
+    for place in group {
+        if let Some(kind) = kind_in(sources, place.source as usize, place.column) {
+            kinds.push(kind)?;
+        }
+    }
+    Ok(kinds)
+}
+
+// The kinds of a view's columns: those of its group, and then HUGE.
+fn view_kinds(alloc: Global, catalog: &Catalog, view: &ViewDef) -> Result<KindList, NoMemory>
+    ensures { IfOk result (λ kinds. kinds ≡ object_kinds (schema_of catalog.now) (schema.view (view_tree view.now))) }
+{
+    let mut kinds = group_kinds(alloc, catalog, view)?;
+    kinds.push(Kind::Huge)?;
+    for _ in view.sums.as_slice() {
+        kinds.push(Kind::Huge)?;
+    }
+    Ok(kinds)
+}
+
+/// The kinds of the columns of a table or a view, and none for what is neither.
+///
+/// # Errors
+///
+/// Where there is no memory for them.
+pub fn kinds_for(alloc: Global, catalog: &Catalog, number: u32) -> Result<KindList, NoMemory>
+    ensures { IfOk result (λ kinds. kinds ≡ kinds_for (schema_of catalog.now) number) }
+{
+    let Some(definition) = numbered(catalog, number) else {
+        return Ok(KindList::new(alloc));
+    };
+    match definition {
+        Definition::Table(table) => kinds_of(alloc, table),
+        Definition::Index(_) => Ok(KindList::new(alloc)),
+        Definition::View(view) => view_kinds(alloc, catalog, view),
+    }
+}

@@ -1,0 +1,14 @@
+//! The plan by which the relations of a bound statement are read, and the interval of an index that a part of it reads.
+#![tactic(auto)]
+
+mod intervals;
+mod kinds;
+mod parts;
+mod planning;
+mod terms;
+
+pub use intervals::{fits_columns, interval};
+pub use kinds::{group_kinds, kinds_of, numbered};
+pub use parts::{Equal, EqualList, Plan, PlanPart, PlanPartList, RangeTerm, RangeTermList};
+pub use planning::{plan, plan_select};
+pub use terms::fits;
