@@ -18,6 +18,7 @@ pub mod Once
 pub mod Printed
 pub mod Living
 pub mod Refusing
+pub mod Placing
 pub mod Settling
 pub mod Differing
 pub mod Repeating

@@ -5,6 +5,7 @@ pub mod Appended
 pub mod Moments
 pub mod Groups
 pub mod Refused
+pub mod Reversals
 pub mod Worked
 pub mod Day
 pub mod Stored
