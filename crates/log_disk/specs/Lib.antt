@@ -1,0 +1,4 @@
+pub mod Spelled
+pub mod Bears
+pub mod Calls
+pub mod Laws
