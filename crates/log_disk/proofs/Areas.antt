@@ -1,12 +1,17 @@
 -- Bytes written in the log areas leave what the header, its page map and the pages mean.
-use Rattle.std.proofs.Common.{◌≡◌, Bool, true, false, not, ◌&&◌, ◌||◌, nat_le, if◌then◌else◌, ℕ, zero, suc, ◌+◌, ◌*◌, ◌<◌, ◌≤◌, List, length, get_or, drop, take, Option, Some, None, map, refl, sym, ◌∙◌, ap, arith, length-drop}
+use Rattle.std.proofs.Common.{◌≡◌, Bool, true, false, not, ◌&&◌, ◌||◌, nat_le, if◌then◌else◌, ℕ, zero, suc, ◌+◌, ◌*◌, ◌<◌, ◌≤◌, List, length, get_or, drop, take, Option, Some, None, map, refl, sym, ◌∙◌, ap, arith, length-drop, length-append, [], ◌∷◌, ◌++◌}
 use Rattle.std.proofs.lemmas.List.{get_or-drop}
 use Rattle.std.specs.List.{range_with_len}
 use Rattle.disk_io.specs.Disk.{part}
 use Rattle.disk_io.specs.Bytes.{part_same, same_bytes}
 use Rattle.page_store.specs.Image.{header_at, area_at, slot_at, number_at, is_open, number_of, choose, live, named, map_byte, area_of, Image, image_at, image_by, image}
 use Rattle.page_store.proofs.Old.{number_same, map_range_same, open_same, live_is}
+use Rattle.byteorder.specs.Endian.{big_bytes}
+use Rattle.byteorder.specs.Numbers.{big_number-reads_back}
+use Rattle.log_records.specs.Area.{Entry, group, block, blocks, Begins, FitsBlock}
 use Rattle.wal_log.specs.Log.{IsOutside}
+use Rattle.wal_log.proofs.KeptLaws.{block_is}
+use Rattle.log_disk.specs.Bears.{end_of_first}
 use Rattle.log_disk.specs.Laws.{AreasLaw}
 
 some_number : {x y : ℕ} → Some x ≡ Some y → x ≡ y
@@ -91,3 +96,17 @@ module _ (room count : ℕ) (s c : List ℕ) (size : length s ≡ 278528 + 2 * r
 
 pub areas : AreasLaw
 areas room count s c here size few means out = log_alone room count s c size few out here means
+
+-- ---- the first block
+
+first_block_ends : (es : List Entry) (groups : List (List Entry)) (tail : List ℕ) → FitsBlock es → end_of_first (blocks (es ∷ groups) ++ tail) ≡ Some (5 + length (group es))
+unfolding block
+first_block_ends es groups tail fits = ap (λ n. Some (5 + n)) (big_number-reads_back 4 (length (group es)) (group es ++ blocks groups ++ tail) fits.short)
+
+-- a gate, a length and the records
+pub block_long : (w : List ℕ) → length (block w) ≡ 5 + length w
+block_long w = omega (arith, ap length (block_is w), length-append (big_bytes 4 (length w)) w)
+
+-- an area that begins with blocks has the first of them to its end
+pub ends_first : (es : List Entry) (groups : List (List Entry)) (area : List ℕ) → Begins (es ∷ groups) area → FitsBlock es → end_of_first area ≡ Some (length (block (group es)))
+ends_first es groups area begins fits = ap end_of_first begins.split ∙ first_block_ends es groups begins.tail fits ∙ ap Some (sym (block_long (group es)))

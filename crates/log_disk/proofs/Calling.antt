@@ -1,5 +1,5 @@
 -- Over every list of calls, whatever a crash may leave at any moment bears what a crash of the machine leaves.
-use Rattle.std.proofs.Common.{◌≡◌, inl, inr, ◌⊎◌, ⊎_elim, Bool, ℕ, ◌+◌, ◌*◌, ◌≤◌, List, [], ◌∷◌, ◌++◌, map, length, drop, refl, sym, ap, subst, ◌∙◌, arith}
+use Rattle.std.proofs.Common.{◌≡◌, inl, inr, ◌⊎◌, ⊎_elim, Bool, ℕ, ◌+◌, ◌*◌, ◌≤◌, List, [], ◌∷◌, ◌++◌, map, length, drop, Some, refl, sym, ap, subst, ◌∙◌, arith}
 use Rattle.disk_io.specs.Disk.{Only, LeavesOnly}
 use Rattle.page_store.specs.declared.facts.HeaderFacts.{HeaderFacts}
 use Rattle.page_store.specs.Image.{image}
@@ -9,17 +9,17 @@ use Rattle.txn_machine.specs.Store.{schema_of}
 use Rattle.txn_machine.specs.Log.{Opening}
 use Rattle.txn_machine.specs.Laws.{IsOpened}
 use Rattle.txn_log.specs.Replay.{Deed, Pages}
-use Rattle.txn_log.specs.Appended.{written, Image}
+use Rattle.txn_log.specs.Appended.{Numbered, written, Image}
 use Rattle.txn_log.specs.Moments as moments
 use Rattle.txn_log.specs.Moments.{Disk, World, Writes, store_of, disk_of, with_disk, image_of, with_record, flushed_all, pages_now, published, Moves, Run, here, then_move, opened_world, left_by, IsRight}
 use Rattle.txn_log.proofs.Lifting.{run_both}
 use Rattle.txn_log.proofs.Printed.{prints_again}
 use Rattle.txn_log.proofs.Happening.{AllSaid, all_said, crash}
-use Rattle.log_disk.specs.Spelled.{LeadTo}
+use Rattle.log_disk.specs.Spelled.{RowsFit, AllRowsFit, LeadTo}
 use Rattle.log_disk.specs.Bears.{Bears}
 use Rattle.log_disk.specs.Calls.{Telling, IsOn, FlushCalled, PublishCalled, Stage, SameRecords, Saves, Appends, AreTwins, Call, goes_on, reads, appends, flushes, publishes, fails_flush, fails_publish, Calls, none, then_call, Begun, first_block}
-use Rattle.log_disk.specs.Laws.{Between, OpenedLaw, StandingLaw, CallsLaw, PrefixLaw}
-use Rattle.log_disk.proofs.Spelling.{said_leads}
+use Rattle.log_disk.specs.Laws.{Between, OpeningLaw, OpenedLaw, StandingLaw, CallsLaw, PrefixLaw}
+use Rattle.log_disk.proofs.Spelling.{said_leads, right_carried, right_last}
 use Rattle.log_disk.proofs.Fresh.{new_bears, new_on}
 use Rattle.log_disk.proofs.Flushing.{bears_none, flush_bears, flushed_on, appended_on}
 use Rattle.log_disk.proofs.Worlds.{disk_with, by_writes, twin_itself, twin_stopped, twin_run, twin_acknowledged, acknowledged_grows}
@@ -53,7 +53,7 @@ same_on room count d e log s same on = moved
 
 -- another disk that means the same
 bears_same : (room count : ℕ) (c s : List ℕ) (i : Image) → image room count c ≡ image room count s → Bears room count s i → Bears room count c i
-bears_same room count c s i same b = record { here = b.here; means = same ∙ b.means; pages = b.pages; first = b.first; others = b.others; scan = b.scan; records = b.records }
+bears_same room count c s i same b = record { here = b.here; means = same ∙ b.means; pages = b.pages; first = b.first; others = b.others; scan = b.scan; first_end = b.first_end; records = b.records }
 
 bears_before : (room count : ℕ) (c : List ℕ) (d e : Disk) → SameRecords d e → Bears room count c (image_of d (drop (length d.waiting) d.waiting)) → Bears room count c (image_of e (drop (length e.waiting) e.waiting))
 bears_before room count c d e same b = subst (Bears room count c)
@@ -63,10 +63,16 @@ module _ {D : Type 0} (t : Telling D) (sizes : (disk : D) → length (t.seen dis
     (only_now : (disk : D) (c : List ℕ) → t.left_since disk (t.moment disk) c → t.may_leave disk c)
     (counts_now : (disk : D) (n : ℕ) (c : List ℕ) → n ≤ t.moment disk → t.may_leave disk c → t.left_since disk n c) where
   pub opened_on : OpenedLaw t
-  opened_on room count p opening log former facts stored bytes old new size few same saves published = record {
-    is_on = new_on room count p [] former log facts stored bytes saves (t.seen new) published.published (sizes new ∙ size) few same (moments.opened_disk p);
+  opened_on room count p opening former log facts stored bytes old new size few same saves published = record {
+    is_on = new_on room count p [] former log facts stored bytes saves tt (t.seen new) published.published (sizes new ∙ size) few same (moments.opened_disk p);
     settled = published.durable;
   }
+
+  pub opening_left : OpeningLaw t
+  opening_left room count i p former log facts stored bytes old new bears settled saves called c left = elim ((called.any_moment settled).each c left) [
+    | inl same ↦ inl (bears_same room count c (t.seen old) i (subst (λ n. image room n c ≡ image room n (t.seen old)) saves.many same) bears)
+    | inr fresh ↦ inr (new_bears room count p [] former log facts stored bytes saves tt c fresh)
+  ]
 
   module _ (room count : ℕ) (p : Pages) (was : IsOpened p.db p.view) (opening : Opening) where
     abbrev begin : World
@@ -130,9 +136,21 @@ module _ {D : Type 0} (t : Telling D) (sizes : (disk : D) → length (t.seen dis
         subst (LeadTo (disk_of a.world).pages.db.schema ((disk_of a.world).waiting ++ (disk_of a.world).flushed)) (sym said.schema)
         (said_leads (disk_of a.world).pages.db.schema ((disk_of a.world).waiting ++ (disk_of a.world).flushed) said.events said.say)
 
-    appended_is : (a : Stage D) (w : World) (log : LogState) → Appends a.world w a.log log → Stands a → Begun t room count a → IsOn room count (disk_of w) log (t.seen a.disk)
-    appended_is a w log app is b = appended_on room count (disk_of a.world) a.log (t.seen a.disk) b.is_on (disk_of w) log (schema_of (store_of a.world)) (record { number = app.number; of = app.of }) app.disk
-        (leads a is) app.small app.log_is
+    -- what a checkpoint carries fits
+    carried_fit : (w : World) (q : Pages) (carried : List Deed) (d : Disk) → Run begin w → disk_of w ≡ published q carried d → AllRowsFit q.db.schema (map written carried)
+    carried_fit w q carried d r is =
+        let right : IsRight (store_of w) (left_by w 0) (disk_of w).acknowledged = crash prints_again p was opening w r 0 in
+        subst (λ (e : Disk). AllRowsFit e.pages.db.schema (map written e.carried)) is (right_carried (store_of w) (left_by w 0) (disk_of w).acknowledged right)
+
+    -- and so does what is appended
+    appended_is : (a : Stage D) (w : World) (log : LogState) → Moves a.world w → Appends a.world w a.log log → Stands a → Begun t room count a → IsOn room count (disk_of w) log (t.seen a.disk)
+    appended_is a w log move app is b =
+        let d : Disk = disk_of a.world in
+        let r : Numbered = record { number = app.number; of = app.of } in
+        let right : IsRight (store_of w) (image_of (with_record (Some app.of) app.number d) (r ∷ d.waiting)) (disk_of w).acknowledged =
+        subst (λ (e : Disk). IsRight (store_of w) (image_of e e.waiting) (disk_of w).acknowledged) app.disk (crash prints_again p was opening w (extended a.world w is.run move) 0) in
+        let fit : RowsFit (schema_of (store_of a.world)) app.of = right_last (store_of w) d.pages (map written d.carried) r (d.waiting ++ d.flushed) (disk_of w).acknowledged right (schema_of (store_of a.world)) (leads a is) in
+        appended_on room count d a.log (t.seen a.disk) b.is_on (disk_of w) log (schema_of (store_of a.world)) r app.disk (leads a is) fit app.small app.log_is
 
     -- ---- a flush
 
@@ -148,9 +166,10 @@ module _ {D : Type 0} (t : Telling D) (sizes : (disk : D) → length (t.seen dis
     -- ---- a publish
 
     publish_left : (a : Stage D) (carried : List Deed) (log : LogState) (facts : HeaderFacts) (stored : List Bool) (bytes : List ℕ) (new : D) → Begun t room count a
-        → Saves room count (pages_now (store_of a.world)) carried a.log log facts stored bytes → PublishCalled t room facts (first_block log) stored bytes a.disk new
+        → Saves room count (pages_now (store_of a.world)) carried a.log log facts stored bytes → AllRowsFit (pages_now (store_of a.world)).db.schema (map written carried)
+        → PublishCalled t room facts (first_block log) stored bytes a.disk new
         → LeavesOnly t.moment t.left_since a.disk new (λ c. Bears room count c (left_by a.world (length (disk_of a.world).waiting)) ⊎ Bears room count c (record { pages = pages_now (store_of a.world); carried = map written carried; after = [] }))
-    publish_left a carried log facts stored bytes new b saves called =
+    publish_left a carried log facts stored bytes new b saves fit called =
         let run = called.any_moment b.settled in record {
           later = run.later;
           each = λ c left. one c (run.each c left);
@@ -161,7 +180,7 @@ module _ {D : Type 0} (t : Telling D) (sizes : (disk : D) → length (t.seen dis
             → Bears room count c (left_by a.world (length (disk_of a.world).waiting)) ⊎ Bears room count c (record { pages = pages_now (store_of a.world); carried = map written carried; after = [] })
         one c (inl old) = inl (bears_same room count c (t.seen a.disk) (left_by a.world (length (disk_of a.world).waiting)) (subst (λ n. image room n c ≡ image room n (t.seen a.disk)) saves.many old)
             (bears_none room count (disk_of a.world) a.log (t.seen a.disk) b.is_on))
-        one c (inr new) = inr (new_bears room count (pages_now (store_of a.world)) carried a.log log facts stored bytes saves c new)
+        one c (inr new) = inr (new_bears room count (pages_now (store_of a.world)) carried a.log log facts stored bytes saves fit c new)
 
     -- ---- each call
 
@@ -193,7 +212,7 @@ module _ {D : Type 0} (t : Telling D) (sizes : (disk : D) → length (t.seen dis
     call_goes a b (appends x w log move app) is = (
       by_writes x.world
           (λ writes. stands_begun (record { world = w; log = log; disk = x.disk }) (extended x.world w is.run move)
-          (record { is_on = appended_is x w log app is (is.begun writes); settled = (is.begun writes).settled }))
+          (record { is_on = appended_is x w log move app is (is.begun writes); settled = (is.begun writes).settled }))
           (λ stopped. stopped_stands x w log move is stopped),
       stays x (record { world = w; log = log; disk = x.disk }) refl (one_move x.world w move),
     )
@@ -221,12 +240,13 @@ module _ {D : Type 0} (t : Telling D) (sizes : (disk : D) → length (t.seen dis
         let q : Pages = pages_now (store_of x.world) in
         let w : World = with_disk x.world (published q carried (disk_of x.world)) in
         let move : Moves x.world w = moments.publishes x.world carried keeps fall in
-        let left = publish_left x carried log facts stored bytes new begun saves done.called in
         let there : disk_of w ≡ published q carried (disk_of x.world) = disk_with x.world (published q carried (disk_of x.world)) in
+        let fit : AllRowsFit q.db.schema (map written carried) = carried_fit w q carried (disk_of x.world) (extended x.world w is.run move) there in
+        let left = publish_left x carried log facts stored bytes new begun saves fit done.called in
         let size : length (t.seen new) ≡ 278528 + 2 * room + 16384 * count = sizes new ∙ done.called.size ∙ sym (sizes x.disk) ∙ begun.is_on.size in (
           stands_begun (record { world = w; log = log; disk = new }) (extended x.world w is.run move) (record {
             is_on = subst (λ (d : Disk). IsOn room count d log (t.seen new)) (sym there)
-                (new_on room count q carried x.log log facts stored bytes saves (t.seen new) done.published size begun.is_on.few begun.is_on.area_size (disk_of x.world));
+                (new_on room count q carried x.log log facts stored bytes saves fit (t.seen new) done.published size begun.is_on.few begun.is_on.area_size (disk_of x.world));
             settled = done.durable;
           }),
           record {
@@ -245,7 +265,7 @@ module _ {D : Type 0} (t : Telling D) (sizes : (disk : D) → length (t.seen dis
         kept_writes (moments.Halted s next d) xs keeps = keeps
     call_goes a b (fails_flush x w log after new move writes stops app called) is =
         let begun : Begun t room count x = is.begun writes in
-        let left = flush_left x w log new (appended_is x w log app is begun) begun.settled called in
+        let left = flush_left x w log new (appended_is x w log move app is begun) begun.settled called in
         let r : Run begin w = extended x.world w is.run move in (
           record {
             run = r;
@@ -260,7 +280,8 @@ module _ {D : Type 0} (t : Telling D) (sizes : (disk : D) → length (t.seen dis
         )
     call_goes a b (fails_publish x w v carried log last facts stored bytes new move other writes twins same there saves called) is =
         let begun : Begun t room count x = is.begun writes in
-        let left = publish_left x carried log facts stored bytes new begun saves called in
+        let fit : AllRowsFit (pages_now (store_of x.world)).db.schema (map written carried) = carried_fit v (pages_now (store_of x.world)) carried (disk_of x.world) (extended x.world v is.run other) there in
+        let left = publish_left x carried log facts stored bytes new begun saves fit called in
         let stops : Writes w → ⊥ = twin_stopped w v twins in
         let r : Run begin w = extended x.world w is.run move in
         let q : Run begin v = extended x.world v is.run other in

@@ -15,10 +15,10 @@ use Rattle.txn_log.specs.Appended.{Numbered}
 use Rattle.txn_log.specs.Groups.{after_of}
 use Rattle.txn_log.specs.Moments.{Disk, image_of, flushed_all}
 use Rattle.txn_log.proofs.Groups.{one_group_more, none_left}
-use Rattle.log_disk.specs.Spelled.{AreSpelled, LeadTo, spelled}
+use Rattle.log_disk.specs.Spelled.{RowsFit, AreSpelled, LeadTo, spelled}
 use Rattle.log_disk.specs.Bears.{HasPages, HasRecords, Bears}
 use Rattle.log_disk.specs.Calls.{IsOn, appended}
-use Rattle.log_disk.proofs.Areas.{log_alone}
+use Rattle.log_disk.proofs.Areas.{log_alone, ends_first}
 use Rattle.log_disk.proofs.Spelling.{one_spelled}
 
 all_push : {X : Type 0} (P : X → Type 0) (xs : List X) (y : X) → AllByRecursion P xs → P y → AllByRecursion P (xs ++ y ∷ [])
@@ -59,7 +59,7 @@ module _ (room count : ℕ) (d : Disk) (log : LogState) (s : List ℕ) (on : IsO
   pages_with c = record { format = on.pages.format; pages = on.pages.pages; areas = on.pages.areas; area = on.pages.area; low = on.pages.low; commits = on.pages.commits; stored = on.pages.stored }
 
   records_with : (c : List ℕ) → HasRecords (here_with c) (image_of d []) on.first on.others
-  records_with c = record { carried = on.records.carried; redo = on.records.redo; after = on.records.after }
+  records_with c = record { carried = on.records.carried; fit = on.records.fit; redo = on.records.redo; after = on.records.after }
 
   begins_at : (c : List ℕ) (groups : List (List Entry)) → Begins groups (part log.start log.size c) → Begins groups (area_of_now c)
   begins_at c groups b = subst (λ n. Begins groups (part n room c)) on.start (subst (λ n. Begins groups (part log.start n c)) on.area_size b)
@@ -72,6 +72,7 @@ module _ (room count : ℕ) (d : Disk) (log : LogState) (s : List ℕ) (on : IsO
     pages = pages_with c;
     first = on.first;
     others = on.others;
+    first_end = ends_first on.first on.others (area_of_now c) (begins_at c (on.first ∷ on.others) begins) on.fits.0 ∙ ap (λ n. Some n) (sym on.records.redo);
     scan = scanned_begins (on.first ∷ on.others) (area_of_now c) (begins_at c (on.first ∷ on.others) begins) on.fits;
     records = records_with c;
   }
@@ -99,8 +100,9 @@ module _ (room count : ℕ) (d : Disk) (log : LogState) (s : List ℕ) (on : IsO
       pages = pages_with c;
       first = on.first;
       others = on.others ++ on.waits ∷ [];
+      first_end = ends_first on.first (on.others ++ on.waits ∷ []) (area_of_now c) (begins_at c (on.first ∷ (on.others ++ on.waits ∷ [])) begins) on.fits.0 ∙ ap (λ n. Some n) (sym on.records.redo);
       scan = scanned_begins (on.first ∷ (on.others ++ on.waits ∷ [])) (area_of_now c) (begins_at c (on.first ∷ (on.others ++ on.waits ∷ [])) begins) fits_more;
-      records = record { carried = on.records.carried; redo = on.records.redo; after = spelled_more };
+      records = record { carried = on.records.carried; fit = on.records.fit; redo = on.records.redo; after = spelled_more };
     }
 
     -- what a crash in a flush leaves: all that waits, or nothing of it
@@ -120,7 +122,7 @@ module _ (room count : ℕ) (d : Disk) (log : LogState) (s : List ℕ) (on : IsO
       pages = pages_with c;
       first = on.first;
       others = on.others ++ on.waits ∷ [];
-      records = record { carried = on.records.carried; redo = on.records.redo; after = spelled_more };
+      records = record { carried = on.records.carried; fit = on.records.fit; redo = on.records.redo; after = spelled_more };
       fits = fits_more;
       area_size = on.area_size;
       start = on.start;
@@ -133,8 +135,8 @@ module _ (room count : ℕ) (d : Disk) (log : LogState) (s : List ℕ) (on : IsO
 
   -- one record more waits
   pub appended_on : (e : Disk) (after : LogState) (before : Schema) (r : Numbered) → e ≡ record d { waiting = r ∷ d.waiting } → LeadTo d.pages.db.schema (d.waiting ++ d.flushed) before
-      → IsSmall (spelled before r) → after ≡ appended log (spelled before r) → IsOn room count e after s
-  appended_on e after before r disk leads small is =
+      → RowsFit before r.of → IsSmall (spelled before r) → after ≡ appended log (spelled before r) → IsOn room count e after s
+  appended_on e after before r disk leads fit small is =
       subst (λ (l : LogState). IsOn room count e l s) (sym is) (subst (λ (x : Disk). IsOn room count x (appended log (spelled before r)) s) (sym disk) (record {
         size = on.size;
         few = on.few;
@@ -151,5 +153,5 @@ module _ (room count : ℕ) (d : Disk) (log : LogState) (s : List ℕ) (on : IsO
         waits = on.waits ++ spelled before r ∷ [];
         small = all_push IsSmall on.waits (spelled before r) on.small small;
         waiting = ap (λ (bs : List ℕ). bs ++ spelling (spelled before r).number (spelled before r).entry) on.waiting ∙ sym (group_push on.waits (spelled before r));
-        spelled_all = one_spelled d.pages.db.schema before r (d.waiting ++ d.flushed) on.waits (after_of on.others) leads on.spelled_all;
+        spelled_all = one_spelled d.pages.db.schema before r (d.waiting ++ d.flushed) on.waits (after_of on.others) leads fit on.spelled_all;
       }))

@@ -19,10 +19,10 @@ use Rattle.iv_meaning.specs.Schema.{Schema}
 use Rattle.txn_log.specs.Replay.{Deed, Pages}
 use Rattle.txn_log.specs.Appended.{written}
 use Rattle.txn_log.specs.Moments.{Disk, published}
-use Rattle.log_disk.specs.Spelled.{spelled}
+use Rattle.log_disk.specs.Spelled.{spelled, AllRowsFit}
 use Rattle.log_disk.specs.Bears.{HasPages, HasRecords, Bears}
 use Rattle.log_disk.specs.Calls.{with_carried, first_of, first_block, IsOn, Saves}
-use Rattle.log_disk.proofs.Areas.{image_live}
+use Rattle.log_disk.proofs.Areas.{image_live, ends_first}
 
 -- ---- the log with its carried records
 
@@ -46,7 +46,8 @@ one_map : (objects : Schema) (ds : List Deed) → map (λ d. spelled objects (wr
 one_map objects [] = refl
 one_map objects (d ∷ ds) = ap (λ (es : List Entry). spelled objects (written d) ∷ es) (one_map objects ds)
 
-module _ (room count : ℕ) (p : Pages) (carried : List Deed) (old l : LogState) (facts : HeaderFacts) (stored : List Bool) (bytes : List ℕ) (saves : Saves room count p carried old l facts stored bytes) where
+module _ (room count : ℕ) (p : Pages) (carried : List Deed) (old l : LogState) (facts : HeaderFacts) (stored : List Bool) (bytes : List ℕ) (saves : Saves room count p carried old l facts stored bytes)
+    (fit : AllRowsFit p.db.schema (map written carried)) where
   abbrev first : List Entry
   first = first_of p carried
 
@@ -74,6 +75,7 @@ module _ (room count : ℕ) (p : Pages) (carried : List Deed) (old l : LogState)
   records : (here : Image) → here.redo ≡ length (first_block l) - 1 → HasRecords here (record { pages = p; carried = map written carried; after = [] }) first []
   records here redo = record {
     carried = reverse-reverse (map (λ d. spelled p.db.schema (written d)) carried) ∙ one_map p.db.schema carried;
+    fit = fit;
     redo = redo ∙ (let e : length (first_block l) - 1 ≡ length (block l.first) = omega (arith, longer, long) in e) ∙ ap (λ (bs : List ℕ). length (block bs)) first_is;
     after = tt;
   }
@@ -127,6 +129,7 @@ module _ (room count : ℕ) (p : Pages) (carried : List Deed) (old l : LogState)
       pages = pages;
       first = first;
       others = [];
+      first_end = ends_first first [] new.log begins fits.0 ∙ ap (λ n. Some n) (sym (records here refl).redo);
       scan = scanned_begins (first ∷ []) new.log begins fits;
       records = records here refl;
     }

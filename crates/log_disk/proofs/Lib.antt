@@ -4,3 +4,4 @@ pub mod Fresh
 pub mod Flushing
 pub mod Worlds
 pub mod Calling
+pub mod Borne

@@ -2,7 +2,7 @@
 --
 -- What a crash at any moment of any call leaves on the disk.
 use Rattle.std.specs.Prelude.{◌≡◌, ◌⊎◌, ℕ, ◌+◌, ◌*◌, ◌≤◌, Bool, List, [], length, Some}
-use Rattle.disk_io.specs.Disk.{part}
+use Rattle.disk_io.specs.Disk.{part, Only}
 use Rattle.page_store.specs.declared.facts.HeaderFacts.{HeaderFacts}
 use Rattle.page_store.specs.Image as page
 use Rattle.page_store.specs.Image.{image}
@@ -10,9 +10,10 @@ use Rattle.wal_log.specs.Log.{LogState, IsOutside}
 use Rattle.txn_machine.specs.Log.{Opening}
 use Rattle.txn_machine.specs.Laws.{IsOpened}
 use Rattle.txn_log.specs.Replay.{Pages}
+use Rattle.txn_log.specs.Appended.{Image}
 use Rattle.txn_log.specs.Moments.{World, Writes, disk_of, store_of, left_by, Run, opened_world, IsRight}
 use Rattle.log_disk.specs.Bears.{Bears}
-use Rattle.log_disk.specs.Calls.{Telling, Stage, Saves, Published, first_block, Calls, Begun, AreTwins}
+use Rattle.log_disk.specs.Calls.{Telling, Stage, Saves, PublishCalled, Published, first_block, Calls, Begun, AreTwins}
 
 -- bytes written in the log areas change the log alone: header, page map and stored pages mean what they did
 abbrev pub AreasLaw : Type 0
@@ -24,9 +25,16 @@ abbrev pub Between : World → World → World → Type 0
 Between u v w = (Run u w × Run w v) ⊎ AreTwins v w
 
 module _ {D : Type 0} (t : Telling D) where
+  -- while an opening publishes what it recovered, a crash leaves the image that it found or the one that it publishes
+  abbrev pub OpeningLaw : Type 0
+  OpeningLaw = (room count : ℕ) (i : Image) (p : Pages) (former log : LogState) (facts : HeaderFacts) (stored : List Bool) (bytes : List ℕ) (old new : D)
+      → Bears room count (t.seen old) i → Only (t.seen old) (t.may_leave old) → Saves room count p [] former log facts stored bytes
+      → PublishCalled t room facts (first_block log) stored bytes old new
+      → (c : List ℕ) → t.left_since new (t.moment old) c → Bears room count c i ⊎ Bears room count c (record { pages = p; carried = []; after = [] })
+
   -- where the checkpoint of an opening is published, an engine may be begun on it
   abbrev pub OpenedLaw : Type 0
-  OpenedLaw = (room count : ℕ) (p : Pages) (opening : Opening) (log : LogState) (former : LogState) (facts : HeaderFacts) (stored : List Bool) (bytes : List ℕ) (old new : D)
+  OpenedLaw = (room count : ℕ) (p : Pages) (opening : Opening) (former log : LogState) (facts : HeaderFacts) (stored : List Bool) (bytes : List ℕ) (old new : D)
       → t.size_of new ≡ 278528 + 2 * room + 16384 * count → count ≤ 131072 → former.size ≡ room
       → Saves room count p [] former log facts stored bytes → Published t room facts (first_block log) stored bytes old new
       → Begun t room count (record { world = opened_world opening p; log = log; disk = new })

@@ -2,8 +2,8 @@
 --
 -- Records of the machine as they stand in the log's blocks. Lists of records have the latest first.
 use Rattle.std.specs.Prelude.{◌≡◌, ℕ, List, [], ◌∷◌, ◌++◌, Option}
-use Rattle.std.specs.Option.{option_map}
-use Rattle.iv_types.specs.Encoding.{row_bytes}
+use Rattle.std.specs.Option.{option_map, IfSome}
+use Rattle.iv_types.specs.Encoding.{FitAll, row_bytes}
 use Rattle.table_laws.specs.Place.{Place}
 use Rattle.iv_meaning.specs.Schema.{Schema, Object, numbered, kinds_of_table}
 use Rattle.iv_meaning.specs.Database.{Row}
@@ -32,6 +32,16 @@ in_bytes objects (machine.Definition number session text) = Definition number se
 abbrev pub spelled : Schema → Numbered → Entry
 spelled objects r = record { number = r.number; entry = in_bytes objects r.of }
 
+-- a record's rows fit the table that it names
+abbrev pub RowsFit : Schema → Record → Type 0
+RowsFit objects (machine.Write transaction c) =
+    IfSome c.before (FitAll (kinds_of_table (numbered objects c.key.0))) × IfSome c.after (FitAll (kinds_of_table (numbered objects c.key.0)))
+RowsFit objects _ = Unit {0}
+
+abbrev pub AllRowsFit : Schema → List Numbered → Type 0
+AllRowsFit objects [] = Unit {0}
+AllRowsFit objects (r ∷ rs) = RowsFit objects r.of × AllRowsFit objects rs
+
 -- the definitions after a record, where these stood before it
 abbrev pub AddsTo : Schema → Record → Schema → Type 0
 AddsTo objects (machine.Definition number session text) all = (o : Object) × Creates objects text o × (all ≡ objects ++ o ∷ [])
@@ -45,5 +55,5 @@ LeadTo objects (r ∷ rs) all = (before : Schema) × LeadTo objects rs before ×
 -- each beside the definitions that stand where it was appended
 abbrev pub AreSpelled : Schema → List Numbered → List Entry → Type 0
 AreSpelled objects [] [] = Unit {0}
-AreSpelled objects (r ∷ rs) (e ∷ es) = AreSpelled objects rs es × ((before : Schema) × LeadTo objects rs before × (e ≡ spelled before r))
+AreSpelled objects (r ∷ rs) (e ∷ es) = AreSpelled objects rs es × ((before : Schema) × LeadTo objects rs before × RowsFit before r.of × (e ≡ spelled before r))
 AreSpelled objects _ _ = ⊥

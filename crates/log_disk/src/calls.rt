@@ -1,12 +1,17 @@
 //! Laws of calls on a disk. Each function is there for its contract.
 ghost use Rattle.log_disk.specs.Calls.{Telling};
-ghost use Rattle.log_disk.specs.Laws.{AreasLaw, OpenedLaw, StandingLaw, CallsLaw, PrefixLaw};
+ghost use Rattle.log_disk.specs.Laws.{AreasLaw, OpeningLaw, OpenedLaw, StandingLaw, CallsLaw, PrefixLaw};
 
 use disk_io::Disk;
 
 /// Bytes written in the log areas leave what the header, its page map and the stored pages mean.
 pub fn areas_law()
     ensures { AreasLaw }
+{}
+
+/// While an opening publishes what it recovered, a crash leaves the image that it found or the one that it publishes.
+pub fn opening_law<D: Disk>()
+    ensures { D.is_told → OpeningLaw (record { size_of = D.size_of; seen = D.seen; may_leave = D.may_leave; moment = D.moment; left_since = D.left_since }) }
 {}
 
 /// Where the checkpoint of an opening is published, an engine may be begun on it.

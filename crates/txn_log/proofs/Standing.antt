@@ -42,10 +42,10 @@ row_kinds p place row r = subst (λ (o : Option Object). FitAll (kinds_of_table 
 not_view : (objects : Schema) (place : Place) (row : Row) (numbers : List ℤ) → IsRow objects place row → IsStoredRow objects place numbers → ⊥
 not_view objects place row numbers r t = absurd (let both : Some (table r.of) ≡ Some (view t.of) = sym r.table_is ∙ t.view_is in cc)
 
-row_numbered : (objects : Schema) (place : Place) (row : Row) → IsRow objects place row → place.0 ≡ 0 → ⊥
+pub row_numbered : (objects : Schema) (place : Place) (row : Row) → IsRow objects place row → place.0 ≡ 0 → ⊥
 row_numbered objects place row r e = none-some (table r.of) (ap (numbered objects) (sym e) ∙ r.table_is)
 
-total_numbered : (objects : Schema) (place : Place) (numbers : List ℤ) → IsStoredRow objects place numbers → place.0 ≡ 0 → ⊥
+pub total_numbered : (objects : Schema) (place : Place) (numbers : List ℤ) → IsStoredRow objects place numbers → place.0 ≡ 0 → ⊥
 total_numbered objects place numbers t e = none-some (view t.of) (ap (numbered objects) (sym e) ∙ t.view_is)
 
 -- what stands under a place, if anything
