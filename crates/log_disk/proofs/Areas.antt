@@ -1,5 +1,5 @@
 -- Bytes written in the log areas leave what the header, its page map and the pages mean.
-use Rattle.std.proofs.Common.{◌≡◌, Bool, true, false, not, ◌&&◌, ◌||◌, nat_le, if◌then◌else◌, ℕ, zero, suc, ◌+◌, ◌*◌, ◌<◌, ◌≤◌, List, length, get_or, drop, take, Option, Some, None, map, refl, sym, ◌∙◌, ap, arith, length-drop, length-append, [], ◌∷◌, ◌++◌}
+use Rattle.std.proofs.Common.{◌≡◌, Bool, true, false, not, ◌&&◌, ◌||◌, nat_le, if◌then◌else◌, ℕ, zero, suc, ◌+◌, ◌*◌, ◌<◌, ◌≤◌, List, length, get_or, drop, take, Option, Some, None, map, refl, sym, ◌∙◌, ap, arith, length-drop, length-append, ◌∷◌, ◌++◌}
 use Rattle.std.proofs.lemmas.List.{get_or-drop}
 use Rattle.std.specs.List.{range_with_len}
 use Rattle.disk_io.specs.Disk.{part}

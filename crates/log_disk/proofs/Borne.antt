@@ -1,10 +1,10 @@
 -- Bytes bear one image.
-use Rattle.std.proofs.Common.{◌≡◌, inl, inr, ◌⊎◌, ⊎_elim, ℕ, zero, suc, ◌+◌, ◌-◌, ◌*◌, ◌^◌, ◌<◌, ◌≤◌, List, [], ◌∷◌, ◌++◌, map, length, drop, Option, Some, None, Ok, refl, sym, ap, subst, ◌∙◌, arith, append_assoc, length-append}
+use Rattle.std.proofs.Common.{◌≡◌, inl, inr, ℕ, zero, suc, ◌+◌, ◌^◌, ◌<◌, ◌≤◌, List, [], ◌∷◌, ◌++◌, map, length, drop, Option, Some, None, Ok, refl, sym, ap, subst, ◌∙◌, arith, length-append}
 use Rattle.std.specs.Prelude.{reverse, slice_get, Result}
 use Rattle.std.specs.Option.{option_map, IfSome}
-use Rattle.std.specs.List.{Contains, All, AllByRecursion, flat_map}
+use Rattle.std.specs.List.{Contains, AllByRecursion, flat_map}
 use Rattle.std.proofs.lemmas.Option.{none-some, slice_get_within}
-use Rattle.std.proofs.lemmas.List.{reverse-append, reverse-reverse}
+use Rattle.std.proofs.lemmas.List.{reverse-append}
 use Rattle.std.proofs.lemmas.List.Elements.{recursion_from_All}
 use Rattle.byteorder.specs.Endian.{big_bytes, big_number}
 use Rattle.byteorder.specs.Numbers.{big_number-reads_back}
@@ -24,13 +24,13 @@ use Rattle.log_records.specs.Spelling.{spelling}
 use Rattle.log_records.specs.Area.{Entry, group, block, placed, laid, unplaced}
 use Rattle.log_records.specs.Scan.{Fault, scanned}
 use Rattle.txn_log.specs.Replay.{Pages}
-use Rattle.txn_log.specs.Appended.{Numbered, Image}
+use Rattle.txn_log.specs.Appended.{Numbered}
 use Rattle.txn_log.specs.Groups.{after_of}
-use Rattle.txn_log.specs.Stored.{PageEntry, StandFor, Define, AreParts, AreProper, IsPartEntry}
+use Rattle.txn_log.specs.Stored.{PageEntry, StandFor, Define, AreParts}
 use Rattle.txn_log.proofs.Printed.{one_statement}
 use Rattle.txn_log.proofs.Standing.{one_stored, row_numbered, total_numbered}
 use Rattle.log_disk.specs.Spelled.{row_in, in_bytes, spelled, RowsFit, AllRowsFit, LeadTo, AreSpelled}
-use Rattle.log_disk.specs.Bears.{all_entries, AreStoredAs, HasRecords, Bears, OneImageLaw}
+use Rattle.log_disk.specs.Bears.{all_entries, AreStoredAs, OneImageLaw}
 use Rattle.log_disk.proofs.Areas.{some_image, block_long}
 use Rattle.log_disk.proofs.Spelling.{leads_once}
 

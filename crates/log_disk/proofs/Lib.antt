@@ -5,3 +5,6 @@ pub mod Flushing
 pub mod Worlds
 pub mod Calling
 pub mod Borne
+pub mod Ordered
+pub mod Defining
+pub mod Sound

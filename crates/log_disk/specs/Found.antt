@@ -1,9 +1,10 @@
 -- No clause of `run` rests on this module: it serves contracts between crates.
 --
 -- An image as it is found in the bytes of a device, for the rules by which it is refused before its records are replayed.
-use Rattle.std.specs.Prelude.{◌≡◌, ◌≢◌, ◌↔◌, ℕ, zero, suc, ◌+◌, ◌*◌, ◌≤◌, ◌^◌, true, List, [], ◌∷◌, length, Option, Some, None, Result, Ok, Err}
+use Rattle.std.specs.Prelude.{◌≡◌, ◌↔◌, ℕ, zero, suc, ◌+◌, ◌*◌, ◌≤◌, ◌^◌, true, List, [], ◌∷◌, length, Option, Some, None, Result, Ok, Err}
+use Rattle.std.specs.Prelude.{map as map_of}
 use Rattle.std.specs.List.{Contains, range_with_len}
-use Rattle.std.specs.declared.cmp.Ordering.TheVariants.{Greater}
+use Rattle.std.specs.declared.cmp.Ordering.TheVariants.{Less}
 use Rattle.disk_io.specs.Disk.{part}
 use Rattle.page_store.specs.Image as page
 use Rattle.page_store.specs.Image.{header_at, area_at, slot_at, format_of, pages_of, area_size_of, number_of, commits_of, next_entry_of, area_of, redo_of, map_byte, live}
@@ -12,8 +13,9 @@ use Rattle.log_records.specs.declared.record.Scanned.{Scanned}
 use Rattle.log_records.specs.Scan.{Fault, scanned}
 use Rattle.table_laws.specs.Place.{place_cmp}
 use Rattle.txn_log.specs.Appended.{Image}
+use Rattle.txn_log.specs.Stored.{PageEntry}
 use Rattle.txn_log.specs.Damaged.{Header, Page, Found, Device, Rule, all_found, IsDamaged}
-use Rattle.log_disk.specs.Bears.{page_entries, end_of_first, Bears}
+use Rattle.log_disk.specs.Bears.{page_entries, AreApart, end_of_first, Bears}
 
 -- the header that begins there
 abbrev pub header_of : ℕ → List ℕ → Header
@@ -51,10 +53,15 @@ abbrev pub AreStored : ℕ → ℕ → List ℕ → List ℕ → List Page → T
 AreStored room k c [] found = found ≡ []
 AreStored room k c (p ∷ ps) found = StandsFirst room p (map_byte k p c) c (AreStored room k c ps) found
 
--- in the order of their keys
-abbrev pub AreInOrder : List Found → Type 0
+-- in the order of their keys, each key once
+abbrev pub AreInOrder : List PageEntry → Type 0
 AreInOrder [] = Unit {0}
-AreInOrder (f ∷ fs) = ((g : Found) → Contains fs g → place_cmp f.entry.0 g.entry.0 ≢ Greater) × AreInOrder fs
+AreInOrder (e ∷ es) = ((f : PageEntry) → Contains es f → place_cmp e.0 f.0 ≡ Less) × AreInOrder es
+
+-- the entries of index 0 among these, in the order of their keys
+pub record AreDefinitions (all ds : List Found) : Type 0 where
+  pub among : (f : Found) → Contains ds f ↔ (Contains all f × (f.entry.0.0 ≡ 0))
+  pub in_order : AreInOrder (map_of (λ f. f.entry) ds)
 
 -- by the live header k
 pub record IsFoundBy (k : ℕ) (c : List ℕ) (d : Device) : Type 0 where
@@ -63,8 +70,8 @@ pub record IsFoundBy (k : ℕ) (c : List ℕ) (d : Device) : Type 0 where
   pub scan : d.scan ≡ scan_fault (area_at (area_size_of k c) (area_of k c)) (scanned (part (area_at (area_size_of k c) (area_of k c)) (area_size_of k c) c))
   pub map : d.map ≡ part (header_at k + 64) (pages_of k c) c
   pub stored : AreStored (area_size_of k c) k c (range_with_len 0 (pages_of k c)) d.stored
-  pub definitions : (f : Found) → Contains d.definitions f ↔ (Contains (all_found d.stored) f × (f.entry.0.0 ≡ 0))
-  pub in_order : AreInOrder d.definitions
+  -- where no key stands twice
+  pub definitions : AreApart (map_of (λ f. f.entry) (all_found d.stored)) → AreDefinitions (all_found d.stored) d.definitions
 
 abbrev pub IsFoundIn : Option ℕ → List ℕ → Device → Type 0
 IsFoundIn None c d = d.header ≡ None

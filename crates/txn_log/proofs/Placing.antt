@@ -33,7 +33,7 @@ abbrev Fall : List Placed → Type 0
 Fall [] = Unit {0}
 Fall (r ∷ rs) = ((n : Numbered) × (r.entry ≡ Some n) × EntriesBelow n.number rs) × Fall rs
 
-in_rest : {X : Type 0} {P : Type 0} (x y : X) (xs : List X) → Contains (x ∷ xs) y → (x ≡ y → P) → (Contains xs y → P) → P
+pub in_rest : {X : Type 0} {P : Type 0} (x y : X) (xs : List X) → Contains (x ∷ xs) y → (x ≡ y → P) → (Contains xs y → P) → P
 in_rest x y xs c f g = elim (Contains-append_cases (x ∷ []) xs y c) [
   | inl this ↦ elim (Contains-push_cases [] x y this) [ inl never ↦ absurd (contains_none y never) | inr same ↦ f same ]
   | inr rest ↦ g rest

@@ -79,7 +79,7 @@ as_huge [] (n ∷ ns) e = absurd (cc)
 as_huge (m ∷ ms) [] e = absurd (cc)
 as_huge (m ∷ ms) (n ∷ ns) e = ap (λ (ks : List Kind). Huge ∷ ks) (as_huge ms ns (cc))
 
-in_row : (p : Pages) → AreProper p → (place : Place) (numbers : List ℤ) → get p.view place ≡ Some numbers → (column : ℕ) → IsHuge (get_or numbers column (pos 0))
+pub in_row : (p : Pages) → AreProper p → (place : Place) (numbers : List ℤ) → get p.view place ≡ Some numbers → (column : ℕ) → IsHuge (get_or numbers column (pos 0))
 in_row p h place numbers e column = subst IsHuge (ap (number_in_row column) e) (h.in_range place column)
 
 -- ---- one of both
