@@ -14,6 +14,7 @@ use Rattle.txn_log.specs.Moments as moments
 use Rattle.txn_log.specs.Moments.{Disk, World, Writes, store_of, disk_of, with_disk, image_of, with_record, flushed_all, pages_now, published, Moves, Run, here, then_move, opened_world, left_by, IsRight}
 use Rattle.txn_log.proofs.Lifting.{run_both}
 use Rattle.txn_log.proofs.Printed.{prints_again}
+use Rattle.txn_log.proofs.Passing.{disk_with, acknowledged_grows}
 use Rattle.txn_log.proofs.Happening.{AllSaid, all_said, crash}
 use Rattle.log_disk.specs.Spelled.{RowsFit, AllRowsFit, LeadTo}
 use Rattle.log_disk.specs.Bears.{Bears}
@@ -22,7 +23,7 @@ use Rattle.log_disk.specs.Laws.{Between, OpeningLaw, OpenedLaw, StandingLaw, Cal
 use Rattle.log_disk.proofs.Spelling.{said_leads, right_carried, right_last}
 use Rattle.log_disk.proofs.Fresh.{new_bears, new_on}
 use Rattle.log_disk.proofs.Flushing.{bears_none, flush_bears, flushed_on, appended_on}
-use Rattle.log_disk.proofs.Worlds.{disk_with, by_writes, twin_itself, twin_stopped, twin_run, twin_acknowledged, acknowledged_grows}
+use Rattle.log_disk.proofs.Worlds.{by_writes, twin_itself, twin_stopped, twin_run, twin_acknowledged}
 
 -- the same records, on the same disk
 same_on : (room count : ℕ) (d e : Disk) (log : LogState) (s : List ℕ) → SameRecords d e → IsOn room count d log s → IsOn room count e log s
@@ -345,10 +346,10 @@ module _ {D : Type 0} (t : Telling D) (sizes : (disk : D) → length (t.seen dis
       let i = went.since c left in
       let right : IsRight (store_of i.0) (left_by i.0 i.1) (disk_of i.0).acknowledged = crash prints_again p was opening i.0 i.2 i.1 in
       let all_of_it : (disk_of a.world).acknowledged ≤ (disk_of i.0).acknowledged = elim i.3 [
-        | inl x ↦ acknowledged_grows p was opening a.world i.0 reached.stands.run x.0
+        | inl x ↦ acknowledged_grows prints_again p was opening a.world i.0 reached.stands.run x.0
         | inr y ↦ (
             let e = twin_acknowledged b.world i.0 y in
-            let grown = acknowledged_grows p was opening a.world b.world reached.stands.run went.moved in
+            let grown = acknowledged_grows prints_again p was opening a.world b.world reached.stands.run went.moved in
             omega (arith, e, grown))
       ] in (
         i.0,

@@ -1,22 +1,9 @@
 -- Worlds on the way of a run: which are stopped, and what was acknowledged.
-use Rattle.std.specs.Prelude.{◌≡◌, ℕ, ◌≤◌, List, Option, Some, None}
-use mathlib.Core.Path.{refl, ap}
-use Rattle.std.proofs.Common.{arith}
-use Rattle.txn_machine.specs.Records.{Record}
-use Rattle.txn_machine.specs.Store.{committed}
-use Rattle.txn_machine.specs.Log.{Opening}
-use Rattle.txn_machine.specs.Laws.{IsOpened}
-use Rattle.txn_log.specs.Replay.{Deed, Pages}
-use Rattle.txn_log.specs.Moments.{Disk, World, At, Amid, Halted, Keeps, Writes, store_of, disk_of, with_disk, with_record, Moves, begins, acts, ends, flushes, acknowledges, publishes, fails_commit, fails_define, fails_before, fails_after, told, told_halted, Run, here, then_move, opened_world, left_by, IsRight}
-use Rattle.txn_log.proofs.Lifting.{run_both}
-use Rattle.txn_log.proofs.Printed.{prints_again}
-use Rattle.txn_log.proofs.Happening.{crash}
+use Rattle.std.specs.Prelude.{◌≡◌, List}
+use mathlib.Core.Path.{refl}
+use Rattle.txn_log.specs.Replay.{Deed}
+use Rattle.txn_log.specs.Moments.{World, At, Amid, Halted, Keeps, Writes, disk_of, Moves, begins, acts, ends, flushes, acknowledges, publishes, fails_commit, fails_define, fails_before, fails_after, told, told_halted, Run, here, then_move}
 use Rattle.log_disk.specs.Calls.{AreTwins}
-
-pub disk_with : (w : World) (d : Disk) → disk_of (with_disk w d) ≡ d
-disk_with (At s e) d = refl
-disk_with (Amid after i a s l es e) d = refl
-disk_with (Halted s next e) d = refl
 
 -- it goes on, or a fault of the disk stopped it
 pub by_writes : {P : Type 0} (w : World) → (Writes w → P) → ((Writes w → ⊥) → P) → P
@@ -69,37 +56,3 @@ twin_acknowledged (Amid after i a s l es d) w twins = absurd twins
 twin_acknowledged (Halted s next d) (At t e) twins = absurd twins
 twin_acknowledged (Halted s next d) (Amid after i a t l es e) twins = absurd twins
 twin_acknowledged (Halted s next d) (Halted t other e) twins = twins.1
-
--- ---- what is acknowledged
-
-same_acknowledged : (o : Option Record) (n : ℕ) (d : Disk) → (with_record o n d).acknowledged ≡ d.acknowledged
-same_acknowledged None n d = refl
-same_acknowledged (Some r) n d = refl
-
-at_most : (m n : ℕ) → n ≡ m → m ≤ n
-at_most m n e = omega (arith, e)
-
-module _ (p : Pages) (was : IsOpened p.db p.view) (opening : Opening) where
-  grows_move : (v w : World) → Run (opened_world opening p) v → Moves v w → (disk_of v).acknowledged ≤ (disk_of w).acknowledged
-  grows_move v w r (begins s disk i a said after may d f) = omega arith
-  grows_move v w r (acts after i a s l e es disk) = at_most disk.acknowledged (with_record _ l.next disk).acknowledged (same_acknowledged _ l.next disk)
-  grows_move v w r (ends after i a s l disk done) = omega arith
-  grows_move v w r (flushes u writes) = at_most (disk_of u).acknowledged _ (ap (λ (d : Disk). d.acknowledged) (disk_with u _))
-  grows_move v w r (acknowledges u none writes) =
-      let right : IsRight (store_of u) (left_by u 0) (disk_of u).acknowledged = crash prints_again p was opening u r 0 in
-      let e = ap (λ (d : Disk). d.acknowledged) (disk_with u (record (disk_of u) { acknowledged = (committed (store_of u)).number })) in
-      omega (arith, right.has_all, right.not_more, e)
-  grows_move v w r (publishes u xs keeps fall) = at_most (disk_of u).acknowledged _ (ap (λ (d : Disk). d.acknowledged) (disk_with u _))
-  grows_move v w r (fails_commit s disk i stopped may d) = omega arith
-  grows_move v w r (fails_define s disk i statement stopped may d e same) = at_most disk.acknowledged (with_record _ s.log.next disk).acknowledged (same_acknowledged _ s.log.next disk)
-  grows_move v w r (fails_before s disk i stopped may d) = omega arith
-  grows_move v w r (fails_after s disk i stopped may d xs are fall) = omega arith
-  grows_move v w r (told s disk i said after t) = omega arith
-  grows_move v w r (told_halted s next disk i said after t) = omega arith
-
-  pub acknowledged_grows : (v w : World) → Run (opened_world opening p) v → Run v w → (disk_of v).acknowledged ≤ (disk_of w).acknowledged
-  acknowledged_grows v w r (here x) = omega arith
-  acknowledged_grows v w r (then_move a b c s move) =
-      let so_far = acknowledged_grows a b r s in
-      let next = grows_move b c (run_both (opened_world opening p) a b r s) move in
-      omega (arith, so_far, next)

@@ -29,3 +29,4 @@ pub mod Trading
 pub mod Standing
 pub mod Damaging
 pub mod Groups
+pub mod Passing

@@ -1,22 +1,22 @@
 -- Where records stand, and which reversal fails first.
-use Rattle.std.specs.Prelude.{◌≡◌, ◌⊎◌, ◌↔◌, ℕ, ◌<◌, ◌==◌, Bool, true, false, cond, List, [], ◌∷◌, ◌++◌, Option, Some, None}
+use Rattle.std.specs.Prelude.{◌≡◌, ℕ, ◌<◌, ◌==◌, Bool, true, false, cond, List, [], ◌∷◌, ◌++◌, Some}
 use Rattle.std.specs.List.{Contains}
 use mathlib.Core.Path.{refl, sym, ap, subst, ◌∙◌}
 use mathlib.Core.Logic.{inl, inr}
 use Rattle.std.proofs.Common.{arith, eq-eqb}
 use Rattle.std.proofs.lemmas.Bool.{ne_eqb}
-use Rattle.std.proofs.lemmas.List.Elements.{Contains-append_left, Contains-append_right, Contains-append_cases, Contains-push_cases}
+use Rattle.std.proofs.lemmas.List.Elements.{Contains-append_right, Contains-append_cases, Contains-push_cases}
 use Rattle.table_laws.proofs.Tables.{by_bool}
 use Rattle.iv_meaning.specs.Schema.{Schema}
 use Rattle.iv_meaning.specs.Database.{Rows}
 use Rattle.txn_machine.specs.Stored.{ViewRows}
 use Rattle.txn_machine.proofs.Basics.{contains_none}
 use Rattle.txn_machine.proofs.Holding.{contains_here}
-use Rattle.txn_log.specs.Replay.{What, Deed, Event, Kept, Ghost, Clean, Undo, Commit, Abort, Defined, Pages, Reading, survives, deeds, keep_where, own, Stored, replay, on_pages, replayed, all_rows_back, all_view_back, rows_without, view_without}
-use Rattle.txn_log.specs.Fitting.{BackFits, AllBack, AllFit, CarriedBelow, AreBelow, number_of}
+use Rattle.txn_log.specs.Replay.{Deed, Event, Kept, Ghost, Clean, Undo, Commit, Abort, Defined, Pages, Reading, survives, deeds, keep_where, own, Stored, replay, on_pages, replayed, all_rows_back, all_view_back, rows_without, view_without}
+use Rattle.txn_log.specs.Fitting.{AllBack, AllFit, CarriedBelow, AreBelow, number_of}
 use Rattle.txn_log.specs.Meaning.{definitions}
-use Rattle.txn_log.specs.Appended.{Numbered, written, Says}
-use Rattle.txn_log.specs.Refused.{Placed, PlacedImage, Anyhow, Untried, place_by, has_number, fails_at, CarriedAs, SaidAs, Passes, PassesAs, BackBreaks}
+use Rattle.txn_log.specs.Appended.{Numbered, written}
+use Rattle.txn_log.specs.Refused.{Placed, PlacedImage, place_by, has_number, CarriedAs, SaidAs, PassesAs, BackBreaks}
 use Rattle.txn_log.specs.Reversals.{StandsAt, BreaksBack, FirstBreaks, ReversalLaw, UndoLaw}
 use Rattle.txn_log.proofs.Finding.{keep_true, keep_false}
 use Rattle.txn_log.proofs.Meaning.{meant}

@@ -11,3 +11,4 @@ pub mod Day
 pub mod Stored
 pub mod Damaged
 pub mod Laws
+pub mod Within
