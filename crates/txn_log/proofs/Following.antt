@@ -56,7 +56,7 @@ pub record Follows (s : Store) (l : Log) (d : Disk) (m : Memory) : Type 0 where
   pub say : AllSay m.pages.db.schema (d.waiting ++ d.flushed) (m.waiting ++ m.flushed)
 
 -- the schema that stands, by the events
-schema_now : (s : Store) (m : Memory) → Tied s m → schema_of s ≡ definitions m.pages.db.schema (m.waiting ++ m.flushed)
+pub schema_now : (s : Store) (m : Memory) → Tied s m → schema_of s ≡ definitions m.pages.db.schema (m.waiting ++ m.flushed)
 schema_now s m t = sym (ap (λ (db : Database). db.schema) t.db) ∙ (meant m.pages m.carried (m.waiting ++ m.flushed) t.fits).schema
 
 -- ---- transactions

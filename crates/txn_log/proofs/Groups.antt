@@ -6,11 +6,11 @@ use Rattle.std.proofs.lemmas.List.{append-nil}
 use Rattle.txn_log.specs.Appended.{Numbered}
 use Rattle.txn_log.specs.Groups.{after_of, FlushLaw}
 
-one_group_more : (gs : List (List Numbered)) (rs : List Numbered) → after_of (gs ++ rs ∷ []) ≡ reverse rs ++ after_of gs
+pub one_group_more : {X : Type 0} (gs : List (List X)) (rs : List X) → after_of (gs ++ rs ∷ []) ≡ reverse rs ++ after_of gs
 one_group_more [] rs = sym (append-nil (reverse rs))
-one_group_more (g ∷ gs) rs = ap (λ (xs : List Numbered). xs ++ reverse g) (one_group_more gs rs) ∙ append_assoc (reverse rs) (after_of gs) (reverse g)
+one_group_more {X = X} (g ∷ gs) rs = ap (λ (xs : List X). xs ++ reverse g) (one_group_more gs rs) ∙ append_assoc (reverse rs) (after_of gs) (reverse g)
 
-none_left : (xs : List Numbered) → drop (length xs) xs ≡ []
+pub none_left : (xs : List Numbered) → drop (length xs) xs ≡ []
 none_left [] = refl
 none_left (x ∷ xs) = none_left xs
 

@@ -11,7 +11,7 @@ use Rattle.txn_machine.specs.Acts.{Act}
 use Rattle.txn_machine.specs.Answers as answer
 use Rattle.txn_machine.specs.Answers.{Answer}
 use Rattle.txn_machine.specs.Fresh.{fresh}
-use Rattle.txn_machine.specs.Store.{Store, committed, now, Effect, Commits, Defines, does, run}
+use Rattle.txn_machine.specs.Store.{Store, committed, schema_of, now, Effect, Commits, Defines, does, run}
 use Rattle.txn_machine.specs.Ghosts.{the_views}
 use Rattle.txn_machine.specs.Log.{Log, Logged, Opening, logs, log_all, record_of}
 use Rattle.txn_machine.specs.State.{State, is_fault}
@@ -25,13 +25,14 @@ use Rattle.txn_machine.proofs.Runs.{Can, CanAll}
 use Rattle.txn_machine.proofs.Stepping.{some_not_none, can_says, ready_owes}
 use Rattle.txn_log.specs.Replay.{Deed, Event, Pages}
 use Rattle.txn_log.specs.Fitting.{DoNumbersFall}
+use Rattle.txn_log.specs.Meaning.{definitions}
 use Rattle.txn_log.specs.Appended.{Numbered, written, AllSay}
 use Rattle.txn_log.specs.Moments.{Txn, txn_in, txn_at, AreCarried, Disk, image_of, with_record, flushed_all, pages_now, published, World, At, Amid, Halted, store_of, disk_of, with_disk, Keeps, Moves, begins, acts, ends, flushes, acknowledges, publishes, fails_commit, fails_define, fails_before, fails_after, told, told_halted, Run, here, then_move, opened_world, left_by, IsRight}
 use Rattle.txn_log.proofs.Memory.{Memory, reading_of, remembers, Recovers}
 use Rattle.txn_log.proofs.Finding.{by_number}
 use Rattle.txn_log.proofs.Numbering.{OpenFor, AllOpen, open_says}
 use Rattle.txn_log.proofs.Running.{cut_at, IsSound, sound_effect, sound_flush, sound_acknowledge, sound_checkpoint, opened_memory, sound_opened}
-use Rattle.txn_log.proofs.Following.{AreAsMany, Follows, PrintsAgain, follows_does}
+use Rattle.txn_log.proofs.Following.{AreAsMany, Follows, PrintsAgain, schema_now, follows_does}
 use Rattle.txn_log.proofs.Cutting.{cut_says}
 use Rattle.txn_log.specs.Stored.{AreProper}
 use Rattle.txn_log.proofs.Keeping.{stored_huge}
@@ -234,6 +235,23 @@ pub crash : PrintsAgain → (p : Pages) → IsOpened p.db p.view → (opening : 
 crash printed p was opening w r k =
     let is = followed_world w (good_run printed (opened_world opening p) w r (good_opened printed opening p was)) in
     cut_right (store_of w) is.0 (disk_of w) is.1 k
+
+-- ---- what its records say
+
+-- what the records on the disk and in memory say, by which these definitions stand
+pub record AllSaid (s : Store) (d : Disk) : Type 0 where
+  pub events : List Event
+  pub say : AllSay d.pages.db.schema (d.waiting ++ d.flushed) events
+  pub schema : schema_of s ≡ definitions d.pages.db.schema events
+
+pub all_said : PrintsAgain → (p : Pages) → IsOpened p.db p.view → (opening : Opening) (w : World) → Run (opened_world opening p) w → AllSaid (store_of w) (disk_of w)
+all_said printed p was opening w r =
+    let is = followed_world w (good_run printed (opened_world opening p) w r (good_opened printed opening p was)) in
+    let m : Memory = is.1.memory in record {
+      events = m.waiting ++ m.flushed;
+      say = subst (λ (q : Pages). AllSay q.db.schema ((disk_of w).waiting ++ (disk_of w).flushed) (m.waiting ++ m.flushed)) is.1.follows.pages is.1.follows.say;
+      schema = schema_now (store_of w) m is.1.sound.tied ∙ ap (λ (q : Pages). definitions q.db.schema (m.waiting ++ m.flushed)) is.1.follows.pages;
+    }
 
 -- ---- what a checkpoint publishes
 

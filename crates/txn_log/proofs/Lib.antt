@@ -18,6 +18,7 @@ pub mod Once
 pub mod Printed
 pub mod Living
 pub mod Refusing
+pub mod Placing
 pub mod Settling
 pub mod Differing
 pub mod Repeating
@@ -28,3 +29,4 @@ pub mod Trading
 pub mod Standing
 pub mod Damaging
 pub mod Groups
+pub mod Passing

@@ -40,7 +40,7 @@ origin_does s i Pays = origin_paid s i (now s i).owed
 origin_does s i Undoes = origin_undone s i (now s i).kept
 origin_does s i e = refl
 
-origin_all : (s : Store) (i : ℕ) (es : List Effect) → (run the_views s i es).origin ≡ s.origin
+pub origin_all : (s : Store) (i : ℕ) (es : List Effect) → (run the_views s i es).origin ≡ s.origin
 origin_all s i [] = refl
 origin_all s i (e ∷ es) = origin_all (does the_views s i e) i es ∙ origin_does s i e
 
@@ -79,7 +79,7 @@ origin_of db (Halted s next d) is = is
 
 -- ---- lives
 
-fold_both : (es fs : List Entry) (db : Database) → fold (es ++ fs) db ≡ fold fs (fold es db)
+pub fold_both : (es fs : List Entry) (db : Database) → fold (es ++ fs) db ≡ fold fs (fold es db)
 fold_both [] fs db = refl
 fold_both (e ∷ es) fs db = fold_both es fs (fold (e ∷ []) db)
 

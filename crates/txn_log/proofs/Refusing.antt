@@ -24,7 +24,7 @@ use Rattle.txn_machine.specs.Store.{Store}
 use Rattle.txn_log.specs.Moments.{IsRight}
 use Rattle.txn_log.proofs.Once.{same_deed, says_once}
 
-same_entry : (m n : Numbered) → Some m ≡ Some n → m ≡ n
+pub same_entry : (m n : Numbered) → Some m ≡ Some n → m ≡ n
 same_entry m n e = cc
 
 -- ---- carried records
@@ -336,7 +336,7 @@ either i clear none =
 
 -- ---- what a crash leaves
 
-says_number : (objects : Schema) (r : Numbered) (e : Event) → Says objects r e → number_of e ≡ r.number
+pub says_number : (objects : Schema) (r : Numbered) (e : Event) → Says objects r e → number_of e ≡ r.number
 says_number objects r (Kept x) h = sym (ap (λ (q : Numbered). q.number) h)
 says_number objects r (Ghost n p columns) h = sym (ap (λ (q : Numbered). q.number) h.0)
 says_number objects r (Clean n p) h = sym (ap (λ (q : Numbered). q.number) h)

@@ -120,7 +120,7 @@ grows_undone s i [] = record { states = λ n h. refl; more = omega arith }
 grows_undone s i (Put c ds ∷ ks) = record { states = λ n h. refl; more = omega arith }
 grows_undone s i (Pay d ∷ ks) = record { states = λ n h. refl; more = omega arith }
 
-grows : (s : Store) (i : ℕ) (e : Effect) → Grows s (does the_views s i e)
+pub grows : (s : Store) (i : ℕ) (e : Effect) → Grows s (does the_views s i e)
 grows s i (Opens mode) = record { states = λ n h. refl; more = omega arith }
 grows s i (Takes wants) = record { states = λ n h. refl; more = omega arith }
 grows s i (Notes n) = record { states = λ n h. refl; more = omega arith }

@@ -16,7 +16,7 @@ use Rattle.txn_log.proofs.Following.{PrintsAgain}
 use Rattle.txn_log.proofs.Happening.{good_run, good_opened, followed_world, cut_right}
 
 -- in a step: what is still to come leaves the store that the step leaves
-abbrev IsSettled : World → Type 0
+abbrev pub IsSettled : World → Type 0
 IsSettled (At s d) = d.acknowledged ≡ (committed s.store).number
 IsSettled (Amid after i a s l es d) = after.store ≡ run the_views s i es
 IsSettled (Halted s next d) = Unit {0}
@@ -45,7 +45,7 @@ settled_move v w (fails_after s disk i stopped may d xs are fall) is = tt
 settled_move v w (told s disk i said after t) is = is ∙ sym (ap (λ (x : State). (committed x.store).number) t.left)
 settled_move v w (told_halted s next disk i said after t) is = tt
 
-settled_run : (u w : World) → Run u w → IsSettled u → IsSettled w
+pub settled_run : (u w : World) → Run u w → IsSettled u → IsSettled w
 settled_run u w (here x) is = is
 settled_run u w (then_move a v b r move) is = settled_move v w move (settled_run u v r is)
 

@@ -42,10 +42,10 @@ row_kinds p place row r = subst (λ (o : Option Object). FitAll (kinds_of_table 
 not_view : (objects : Schema) (place : Place) (row : Row) (numbers : List ℤ) → IsRow objects place row → IsStoredRow objects place numbers → ⊥
 not_view objects place row numbers r t = absurd (let both : Some (table r.of) ≡ Some (view t.of) = sym r.table_is ∙ t.view_is in cc)
 
-row_numbered : (objects : Schema) (place : Place) (row : Row) → IsRow objects place row → place.0 ≡ 0 → ⊥
+pub row_numbered : (objects : Schema) (place : Place) (row : Row) → IsRow objects place row → place.0 ≡ 0 → ⊥
 row_numbered objects place row r e = none-some (table r.of) (ap (numbered objects) (sym e) ∙ r.table_is)
 
-total_numbered : (objects : Schema) (place : Place) (numbers : List ℤ) → IsStoredRow objects place numbers → place.0 ≡ 0 → ⊥
+pub total_numbered : (objects : Schema) (place : Place) (numbers : List ℤ) → IsStoredRow objects place numbers → place.0 ≡ 0 → ⊥
 total_numbered objects place numbers t e = none-some (view t.of) (ap (numbered objects) (sym e) ∙ t.view_is)
 
 -- what stands under a place, if anything
@@ -79,7 +79,7 @@ as_huge [] (n ∷ ns) e = absurd (cc)
 as_huge (m ∷ ms) [] e = absurd (cc)
 as_huge (m ∷ ms) (n ∷ ns) e = ap (λ (ks : List Kind). Huge ∷ ks) (as_huge ms ns (cc))
 
-in_row : (p : Pages) → AreProper p → (place : Place) (numbers : List ℤ) → get p.view place ≡ Some numbers → (column : ℕ) → IsHuge (get_or numbers column (pos 0))
+pub in_row : (p : Pages) → AreProper p → (place : Place) (numbers : List ℤ) → get p.view place ≡ Some numbers → (column : ℕ) → IsHuge (get_or numbers column (pos 0))
 in_row p h place numbers e column = subst IsHuge (ap (number_in_row column) e) (h.in_range place column)
 
 -- ---- one of both

@@ -5,8 +5,8 @@ use Rattle.std.specs.Prelude.{◌≡◌, List, [], ◌∷◌, ◌++◌, reverse,
 use Rattle.txn_log.specs.Appended.{Numbered}
 use Rattle.txn_log.specs.Moments.{Disk, flushed_all}
 
--- the records of the groups after the first one, the latest first; groups and their records stand as on the disk, the first first
-abbrev pub after_of : List (List Numbered) → List Numbered
+-- the records of groups, the latest first; groups and their records stand as on the disk, the first first
+abbrev pub after_of : {X : Type 0} → List (List X) → List X
 after_of [] = []
 after_of (g ∷ gs) = after_of gs ++ reverse g
 

@@ -5,8 +5,10 @@ pub mod Appended
 pub mod Moments
 pub mod Groups
 pub mod Refused
+pub mod Reversals
 pub mod Worked
 pub mod Day
 pub mod Stored
 pub mod Damaged
 pub mod Laws
+pub mod Within

@@ -1,5 +1,6 @@
 //! Laws of crashes. Each function is there for its contract.
 ghost use Rattle.txn_log.specs.Groups.{FlushLaw};
+ghost use Rattle.txn_log.specs.Within.{FaultCrashLaw, StepCrashLaw};
 ghost use Rattle.txn_log.specs.Laws.{CheckpointLaw, CommittedLaw, CrashLaw, LivesLaw, MeaningLaw, ReadingLaw, RecoveredViewsLaw, RepeatLaw, StopLaw};
 
 /// Whatever a crash may leave at any moment recovers to the database at a commit number, with every acknowledged commit.
@@ -50,4 +51,14 @@ pub fn stop_law()
 /// The log's blocks with the one that a flush writes and without it are both cuts. That a crash leaves one of the two is for the disk.
 pub fn flush_law()
     ensures { FlushLaw }
+{}
+
+/// Within a step that no fault answers a crash leaves what was committed before it, or what it leaves committed.
+pub fn step_crash_law()
+    ensures { StepCrashLaw }
+{}
+
+/// Where a fault stopped the machine, a crash leaves what was committed before, or what the step would have left committed.
+pub fn fault_crash_law()
+    ensures { FaultCrashLaw }
 {}

@@ -1,4 +1,5 @@
 //! Laws of the images that are refused. Each function is there for its contract.
+ghost use Rattle.txn_log.specs.Reversals.{ReversalLaw, UndoLaw};
 ghost use Rattle.txn_log.specs.Refused.{EitherLaw, NeverBothLaw, NotRefusedLaw, OneRefusalLaw, WrongViewLaw};
 
 /// An image of which no rule fails and whose views are as evaluated afresh is not refused.
@@ -24,4 +25,14 @@ pub fn wrong_view_law()
 /// What a crash may leave is not refused, where record numbers are at most 2^62 and the bytes of data have no limit.
 pub fn not_refused_law()
     ensures { NotRefusedLaw }
+{}
+
+/// A last reversal that fails is told where the record stands whose reversal is the first to fail, the latest first.
+pub fn reversal_law()
+    ensures { ReversalLaw }
+{}
+
+/// An Undo that can't reverse is told where the record stands that it names.
+pub fn undo_law()
+    ensures { UndoLaw }
 {}

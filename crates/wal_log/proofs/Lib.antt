@@ -1,2 +1,2 @@
-mod KeptLaws
+pub mod KeptLaws
 pub mod BlockLaws

@@ -1,0 +1,10 @@
+pub mod Areas
+pub mod Spelling
+pub mod Fresh
+pub mod Flushing
+pub mod Worlds
+pub mod Calling
+pub mod Borne
+pub mod Ordered
+pub mod Defining
+pub mod Sound

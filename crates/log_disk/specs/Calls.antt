@@ -1,0 +1,178 @@
+-- No clause of `run` rests on this module: it serves contracts between crates.
+--
+-- A machine with the log and the disk on which its records are: what each call says, calls one after another, and how the disk stands
+-- between two of them.
+use Rattle.std.specs.Prelude.{◌≡◌, ℕ, ◌+◌, ◌*◌, ◌-◌, ◌<◌, ◌≤◌, ◌^◌, Bool, List, [], ◌∷◌, ◌++◌, map, length, reverse, Some}
+use Rattle.std.specs.List.{AllByRecursion}
+use Rattle.disk_io.specs.Disk.{Only, Elapses, LeavesOnly}
+use Rattle.page_store.specs.declared.facts.HeaderFacts.{HeaderFacts}
+use Rattle.page_store.specs.Image as page
+use Rattle.page_store.specs.Image.{image}
+use Rattle.page_store.specs.Publish.{IsNew, OldOrNew, stored_pages}
+use Rattle.log_records.specs.Spelling.{spelling}
+use Rattle.log_records.specs.Area.{Entry, group, block, IsSmall, FitsBlock}
+use Rattle.wal_log.specs.Log.{LogState, after_flush, restarted, Holds, FlushLeaves, IsOutside}
+use Rattle.txn_machine.specs.Records.{Record}
+use Rattle.txn_machine.specs.Store.{schema_of}
+use Rattle.txn_log.specs.Replay.{Deed, Pages}
+use Rattle.txn_log.specs.Fitting.{DoNumbersFall}
+use Rattle.txn_log.specs.Appended.{written}
+use Rattle.txn_log.specs.Groups.{after_of}
+use Rattle.txn_log.specs.Moments.{Disk, World, Halted, Moves, Keeps, Writes, store_of, disk_of, with_disk, image_of, with_record, flushed_all, pages_now, published}
+use Rattle.log_disk.specs.Spelled.{spelled, AreSpelled}
+use Rattle.log_disk.specs.Bears.{AreStoredAs, HasPages, HasRecords}
+
+-- what disks of a type tell, by the members of their trait
+pub record Telling (D : Type 0) : Type 1 where
+  pub size_of : D → ℕ
+  pub seen : D → List ℕ
+  pub may_leave : D → List ℕ → Type 0
+  pub moment : D → ℕ
+  pub left_since : D → ℕ → List ℕ → Type 0
+
+-- ---- the log in memory
+
+-- a record waits
+abbrev pub appended : LogState → Entry → LogState
+appended log e = record log { waiting = log.waiting ++ spelling e.number e.entry; next = log.next + 1; reserved = log.reserved - length (spelling e.number e.entry) }
+
+-- the first block has these records more
+abbrev pub with_carried : LogState → List Entry → LogState
+with_carried log [] = log
+with_carried log (e ∷ es) = with_carried (record log { first = log.first ++ spelling e.number e.entry; gate = log.gate + length (spelling e.number e.entry) }) es
+
+-- carried records as the first block has them
+abbrev pub first_of : Pages → List Deed → List Entry
+first_of p carried = reverse (map (λ d. spelled p.db.schema (written d)) carried)
+
+-- the first block, and the closed gate behind it
+abbrev pub first_block : LogState → List ℕ
+first_block log = block log.first ++ 0 ∷ []
+
+-- ---- between two calls
+
+-- the bytes of a disk, and a log in memory, have the pages and the records of the machine's disk; no header or slot lies in an area
+pub record IsOn (room count : ℕ) (d : Disk) (log : LogState) (s : List ℕ) : Type 0 where
+  pub size : length s ≡ 278528 + 2 * room + 16384 * count
+  pub few : count ≤ 131072
+  pub here : page.Image
+  pub means : image room count s ≡ Some here
+  pub pages : HasPages room count here d.pages
+  pub first : List Entry
+  pub others : List (List Entry)
+  pub records : HasRecords here (image_of d []) first others
+  pub fits : AllByRecursion FitsBlock (first ∷ others)
+  pub area_size : log.size ≡ room
+  pub start : log.start ≡ page.area_at room here.area
+  pub holds : Holds log.start log.gate log.size s (first ∷ others)
+  pub waits : List Entry
+  pub small : AllByRecursion IsSmall waits
+  pub waiting : log.waiting ≡ group waits
+  pub spelled_all : AreSpelled d.pages.db.schema (d.waiting ++ d.flushed) (reverse waits ++ after_of others)
+
+-- ---- what calls say
+
+module _ {D : Type 0} (t : Telling D) where
+  -- a call that writes nothing
+  pub record Read (old new : D) : Type 0 where
+    pub seen : t.seen new ≡ t.seen old
+    pub crash : (c : List ℕ) → t.may_leave new c → t.may_leave old c
+    pub time : Elapses (t.moment old) (t.moment new) (t.left_since old) (t.left_since new) (t.may_leave new)
+    pub size : t.size_of new ≡ t.size_of old
+
+  -- a flush, whatever it answers
+  pub record FlushCalled (log : LogState) (old new : D) : Type 0 where
+    pub short : length log.waiting < 2 ^ 28
+    pub any_moment : (groups : List (List Entry)) (rs : List Entry) → Holds log.start log.gate log.size (t.seen old) groups → log.waiting ≡ group rs
+        → Only (t.seen old) (t.may_leave old) → LeavesOnly t.moment t.left_since old new (FlushLeaves log (t.seen old) groups rs)
+    pub size : t.size_of new ≡ t.size_of old
+
+  -- and one that answers Ok
+  pub record Flushed (log after : LogState) (old new : D) : Type 0 where
+    pub called : FlushCalled log old new
+    pub ok : after ≡ after_flush log
+    pub holds : (groups : List (List Entry)) (rs : List Entry) → Holds log.start log.gate log.size (t.seen old) groups → log.waiting ≡ group rs
+        → Holds log.start (log.gate + (5 + length log.waiting)) log.size (t.seen new) (groups ++ rs ∷ [])
+    pub outside : IsOutside log.start log.size (t.seen old) (t.seen new)
+    pub durable : Only (t.seen new) (t.may_leave new)
+
+  -- a publish
+  pub record PublishCalled (room : ℕ) (facts : HeaderFacts) (block : List ℕ) (stored : List Bool) (bytes : List ℕ) (old new : D) : Type 0 where
+    pub any_moment : Only (t.seen old) (t.may_leave old) → LeavesOnly t.moment t.left_since old new (OldOrNew room facts block stored bytes (t.seen old))
+    pub size : t.size_of new ≡ t.size_of old
+
+  pub record Published (room : ℕ) (facts : HeaderFacts) (block : List ℕ) (stored : List Bool) (bytes : List ℕ) (old new : D) : Type 0 where
+    pub called : PublishCalled room facts block stored bytes old new
+    pub published : IsNew room facts block stored bytes (t.seen new)
+    pub durable : Only (t.seen new) (t.may_leave new)
+
+-- ---- calls one after another
+
+-- the machine with its log and its disk
+pub record Stage (D : Type 0) : Type 0 where
+  pub world : World
+  pub log : LogState
+  pub disk : D
+
+-- but for what is acknowledged
+pub record SameRecords (d e : Disk) : Type 0 where
+  pub pages : e.pages ≡ d.pages
+  pub carried : e.carried ≡ d.carried
+  pub flushed : e.flushed ≡ d.flushed
+  pub waiting : e.waiting ≡ d.waiting
+
+-- What a checkpoint of these pages publishes: the store's stored pages hold them, the header names them, and the log went to the
+-- header's area with these carried records.
+pub record Saves (room count : ℕ) (p : Pages) (carried : List Deed) (old log : LogState) (facts : HeaderFacts) (stored : List Bool) (bytes : List ℕ) : Type 0 where
+  pub format : facts.format ≡ 1
+  pub area : facts.area ≤ 1
+  pub commits : facts.commits ≡ p.db.number
+  pub many : length stored ≡ count
+  pub pages : AreStoredAs (stored_pages stored bytes) p
+  pub log_is : log ≡ with_carried (restarted facts.area facts.next_entry old) (first_of p carried)
+  pub small : AllByRecursion IsSmall (first_of p carried)
+  pub short : length log.first < 2 ^ 28
+  pub block_fits : length (first_block log) ≤ room
+
+-- a record is appended to the machine's disk, and to the log
+pub record Appends (v w : World) (log after : LogState) : Type 0 where
+  pub of : Record
+  pub number : ℕ
+  pub disk : disk_of w ≡ with_record (Some of) number (disk_of v)
+  pub small : IsSmall (spelled (schema_of (store_of v)) (record { number = number; of = of }))
+  pub log_is : after ≡ appended log (spelled (schema_of (store_of v)) (record { number = number; of = of }))
+
+-- stopped on the same store, whatever the disk has
+abbrev pub AreTwins : World → World → Type 0
+AreTwins (Halted s next d) (Halted u other e) = (other ≡ next) × (e.acknowledged ≡ d.acknowledged)
+AreTwins _ _ = ⊥
+
+module _ {D : Type 0} (t : Telling D) (room count : ℕ) where
+  pub data Call : Stage D → Stage D → Type 0 where
+    -- the machine goes on, and nothing is appended
+    goes_on : (a : Stage D) (w : World) → Moves a.world w → SameRecords (disk_of a.world) (disk_of w) → Call a (record a { world = w })
+    reads : (a : Stage D) (new : D) → Read t a.disk new → Call a (record a { disk = new })
+    appends : (a : Stage D) (w : World) (log : LogState) → Moves a.world w → Appends a.world w a.log log → Call a (record { world = w; log = log; disk = a.disk })
+    flushes : (a : Stage D) (log : LogState) (new : D) → Writes a.world → Flushed t a.log log a.disk new
+        → Call a (record { world = with_disk a.world (flushed_all (disk_of a.world)); log = log; disk = new })
+    publishes : (a : Stage D) (carried : List Deed) (log : LogState) (facts : HeaderFacts) (stored : List Bool) (bytes : List ℕ) (new : D)
+        → Keeps a.world carried → DoNumbersFall carried → Saves room count (pages_now (store_of a.world)) carried a.log log facts stored bytes
+        → Published t room facts (first_block log) stored bytes a.disk new
+        → Call a (record { world = with_disk a.world (published (pages_now (store_of a.world)) carried (disk_of a.world)); log = log; disk = new })
+    -- a commit or a definition is appended, and its flush fails, which stops the machine
+    fails_flush : (a : Stage D) (w : World) (log after : LogState) (new : D) → Moves a.world w → Writes a.world → (Writes w → ⊥) → Appends a.world w a.log log → FlushCalled t log a.disk new
+        → Call a (record { world = w; log = after; disk = new })
+    -- the publish of a checkpoint fails, which stops the machine on one of two disks
+    fails_publish : (a : Stage D) (before after : World) (carried : List Deed) (log last : LogState) (facts : HeaderFacts) (stored : List Bool) (bytes : List ℕ) (new : D)
+        → Moves a.world before → Moves a.world after → Writes a.world → AreTwins before after → SameRecords (disk_of a.world) (disk_of before)
+        → disk_of after ≡ published (pages_now (store_of a.world)) carried (disk_of a.world) → Saves room count (pages_now (store_of a.world)) carried a.log log facts stored bytes
+        → PublishCalled t room facts (first_block log) stored bytes a.disk new → Call a (record { world = before; log = last; disk = new })
+
+  pub data Calls (a : Stage D) : Stage D → Type 0 where
+    none : Calls a a
+    then_call : (b c : Stage D) → Calls a b → Call b c → Calls a c
+
+  -- the disk has what the machine's disk has, and no write waits
+  pub record Begun (a : Stage D) : Type 0 where
+    pub is_on : IsOn room count (disk_of a.world) a.log (t.seen a.disk)
+    pub settled : Only (t.seen a.disk) (t.may_leave a.disk)

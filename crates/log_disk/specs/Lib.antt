@@ -1,0 +1,5 @@
+pub mod Spelled
+pub mod Bears
+pub mod Found
+pub mod Calls
+pub mod Laws
