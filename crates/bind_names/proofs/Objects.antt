@@ -8,7 +8,8 @@ use Rattle.std.proofs.lemmas.Option.{slice_get-map}
 use Rattle.iv_types.specs.declared.catalog.Definition.{Definition}
 use Rattle.iv_types.specs.declared.catalog.Definition.TheVariants.{Table, Index, View}
 use Rattle.iv_types.specs.Definitions as definitions
-use Rattle.iv_meaning.specs.Schema.{Object, object_of, schema_of, name_of, named, numbered}
+use Rattle.iv_meaning.specs.Schema.{Object, name_of, named, numbered}
+use Rattle.iv_meaning.specs.Objects.{object_of, schema_of}
 
 pub name_alike : (d : Definition) → name_of (object_of d) ≡ definitions.name_of d
 name_alike (Table t) = refl

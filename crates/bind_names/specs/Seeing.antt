@@ -5,7 +5,8 @@ use Rattle.std.specs.Prelude.{◌≡◌, ℕ, List, [], ◌∷◌, map, Option}
 use Rattle.std.specs.Option.{option_map, option_map_or, option_copied}
 use denote.Ref.{Bor}
 use Rattle.iv_types.specs.Syntax.{StatementTree, create_index, create_view, insert, update, delete, select}
-use Rattle.iv_meaning.specs.Schema.{Schema, Object, object_of, object_columns, object_kinds}
+use Rattle.iv_meaning.specs.Schema.{Schema, Object, object_columns, object_kinds}
+use Rattle.iv_meaning.specs.Objects.{object_of}
 use Rattle.iv_meaning.specs.Names as names
 use Rattle.iv_meaning.specs.Names.{seen_as, scope_of, is_among}
 use Rattle.bind_names.specs.declared.visible.Visible.{Visible}

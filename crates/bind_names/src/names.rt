@@ -4,9 +4,11 @@
 ghost use Rattle.std.specs.Prelude.{◌≡◌, ◌<◌, ◌^◌, ◌⊎◌, List, [], ◌∷◌, ◌++◌, map, length, is_some, IfOk, OnOk};
 ghost use Rattle.std.specs.List.{flat_map};
 ghost use Rattle.std.specs.Option.{unwrap_or, option_to_list};
-ghost use Rattle.iv_types.specs.Syntax.{tree, trees, perhaps_tree, item_tree, join_tree, query_tree, set_tree, statement_tree, create_table, create_index, create_view, insert, update, delete, select};
+ghost use Rattle.iv_types.specs.Syntax.{create_table, create_index, create_view, insert, update, delete, select};
+ghost use Rattle.iv_types.specs.Trees.{tree, trees, perhaps_tree, item_tree, join_tree, query_tree, set_tree, statement_tree};
 ghost use Rattle.iv_types.specs.declared.refusal.Refusal.TheVariants as refusal;
-ghost use Rattle.iv_meaning.specs.Schema.{schema_of, named};
+ghost use Rattle.iv_meaning.specs.Schema.{named};
+ghost use Rattle.iv_meaning.specs.Objects.{schema_of};
 ghost use Rattle.iv_meaning.specs.Names.{ref_faults, expression_faults, condition_faults, is_among, taken, object_taken, object_unknown, names_of_item, item_faults, view_item_faults, relation_faults, join_faults, from_faults, columns_unknown, set_faults, name_faults, seen_as, scope_of};
 ghost use Rattle.iv_meaning.specs.Names as seen;
 ghost use Rattle.iv_types.specs.Syntax as syntax;

@@ -2,9 +2,10 @@
 ghost use Rattle.std.specs.Prelude.{◌≡◌, ◌++◌, [], map, slice_get, IfOk, OnOk};
 ghost use Rattle.std.specs.Str.{bytes_eq};
 ghost use Rattle.std.specs.Option.{unwrap_or, option_to_list};
-ghost use Rattle.iv_types.specs.Definitions.{kinds_of};
-ghost use Rattle.iv_types.specs.Syntax.{query_tree};
-ghost use Rattle.iv_meaning.specs.Schema.{column_names, schema_of, sources_of, kinds_of_table, kind_at, numbered, view_tree, group_kinds, object_columns, object_kinds, object_of};
+ghost use Rattle.iv_types.specs.Encoding.{kinds_of};
+ghost use Rattle.iv_types.specs.Trees.{query_tree};
+ghost use Rattle.iv_meaning.specs.Schema.{column_names, sources_of, kinds_of_table, kind_at, numbered, group_kinds, object_columns, object_kinds};
+ghost use Rattle.iv_meaning.specs.Objects.{schema_of, view_tree, object_of};
 ghost use Rattle.iv_meaning.specs.Schema as schema;
 ghost use Rattle.iv_meaning.specs.Names.{seen_as, visible, scope_of};
 ghost use Rattle.bind_names.specs.Seeing.{names_in, visible_of, visible_as, scope_seen};

@@ -2,9 +2,10 @@
 ghost use Rattle.std.specs.Prelude.{◌≡◌, ◌<◌, ◌^◌, ◌&&◌, [], ◌∷◌, map, slice_get, length};
 ghost use Rattle.std.specs.List.{list_all};
 ghost use Rattle.std.specs.Option.{option_map, option_copied};
-ghost use Rattle.iv_types.specs.Syntax.{tree, trees, perhaps_tree, item_tree, join_tree, query_tree, set_tree, statement_tree};
+ghost use Rattle.iv_types.specs.Trees.{tree, trees, perhaps_tree, item_tree, join_tree, query_tree, set_tree, statement_tree};
 ghost use Rattle.iv_types.specs.Syntax as syntax;
-ghost use Rattle.iv_meaning.specs.Schema.{schema_of, kind_at};
+ghost use Rattle.iv_meaning.specs.Schema.{kind_at};
+ghost use Rattle.iv_meaning.specs.Objects.{schema_of};
 ghost use Rattle.iv_meaning.specs.Names.{columns_named};
 ghost use Rattle.iv_meaning.specs.Types.{family_of_kind, is_number, is_text, is_truth, is_of, is_value, alike, typed, family_of_pair, family_in, condition_typed, item_typed, query_typed, tuple_typed, kind_named, set_typed, well_typed};
 ghost use Rattle.bind_names.specs.Checks.{first};

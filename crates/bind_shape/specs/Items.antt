@@ -6,7 +6,8 @@ use Rattle.std.specs.Option.{option_copied}
 use denote.Ref.{Bor}
 use Rattle.iv_types.specs.declared.expression.ColumnAt.{ColumnAt}
 use Rattle.iv_types.specs.Syntax as s
-use Rattle.iv_types.specs.Syntax.{Tree, tree}
+use Rattle.iv_types.specs.Syntax.{Tree}
+use Rattle.iv_types.specs.Trees.{tree}
 use Rattle.iv_meaning.specs.Query.{BoundItem, count, sum, plain}
 use Rattle.iv_meaning.specs.Names as names
 use Rattle.iv_meaning.specs.Names.{bound}

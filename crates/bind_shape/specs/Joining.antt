@@ -8,7 +8,7 @@ use Rattle.iv_types.specs.declared.expression.Op.{Op}
 use Rattle.iv_types.specs.declared.expression.Op.TheVariants as op
 use Rattle.iv_types.specs.declared.expression.ColumnAt.{ColumnAt}
 use Rattle.iv_types.specs.declared.catalog.TableDef.{TableDef}
-use Rattle.iv_types.specs.Definitions.{kinds_of}
+use Rattle.iv_types.specs.Encoding.{kinds_of}
 use Rattle.iv_types.specs.Syntax as s
 use Rattle.iv_types.specs.Syntax.{Tree, JoinTree}
 use Rattle.iv_meaning.specs.Names.{Visible}

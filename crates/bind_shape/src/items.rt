@@ -2,7 +2,7 @@
 ghost use Rattle.std.specs.Prelude.{◌≡◌, ◌<◌, ◌^◌, ◌++◌, ◌∷◌, [], map, length, IfOk, OnOk};
 ghost use Rattle.std.specs.List.{flat_map};
 ghost use Rattle.std.specs.Option.{option_copied, option_to_list};
-ghost use Rattle.iv_types.specs.Syntax.{tree, item_tree, query_tree};
+ghost use Rattle.iv_types.specs.Trees.{tree, item_tree, query_tree};
 ghost use Rattle.iv_meaning.specs.Names.{bound};
 ghost use Rattle.iv_meaning.specs.Shape.{resolved, group_of, all_columns, item_name, named_items, items_of};
 ghost use Rattle.bind_names.specs.Seeing.{scope_seen};

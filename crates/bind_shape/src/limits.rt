@@ -4,8 +4,9 @@
 ghost use Rattle.std.specs.Prelude.{◌≡◌, ◌<◌, ◌^◌, ◌-◌, ◌+◌, ◌++◌, [], ◌∷◌, map, length, IfOk};
 ghost use Rattle.std.specs.List.{filter_map};
 ghost use Rattle.iv_types.specs.Printing.{statement_size};
-ghost use Rattle.iv_types.specs.Syntax.{statement_tree};
-ghost use Rattle.iv_meaning.specs.Schema.{schema_of, as_table, as_index, as_view, items_at, kind_at};
+ghost use Rattle.iv_types.specs.Trees.{statement_tree};
+ghost use Rattle.iv_meaning.specs.Schema.{as_table, as_index, as_view, items_at, kind_at};
+ghost use Rattle.iv_meaning.specs.Objects.{schema_of};
 ghost use Rattle.iv_meaning.specs.Shape.{at_most, width, key_width, row_width, sums_in};
 ghost use Rattle.iv_meaning.specs.Binding.{limit_faults};
 ghost use Rattle.bind_names.specs.Checks.{Checks};

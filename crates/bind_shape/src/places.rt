@@ -1,7 +1,7 @@
 //! Columns by their places.
 ghost use Rattle.std.specs.Prelude.{◌≡◌, ◌<◌, ◌^◌, ◌++◌, [], map, length, IfOk, OnOk};
 ghost use Rattle.std.specs.Option.{option_map_or};
-ghost use Rattle.iv_types.specs.Syntax.{set_tree};
+ghost use Rattle.iv_types.specs.Trees.{set_tree};
 ghost use Rattle.iv_meaning.specs.Names.{columns_named};
 ghost use Rattle.iv_meaning.specs.Shape.{places_of, primary_places};
 ghost use Rattle.bind_names.specs.Seeing.{names_in, visible_of};

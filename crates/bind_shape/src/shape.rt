@@ -3,8 +3,8 @@ ghost use Rattle.std.specs.Prelude.{◌≡◌, ◌<◌, ◌^◌, ◌++◌, ◌==
 ghost use Rattle.std.specs.List.{list_any, list_all};
 ghost use Rattle.std.specs.Option.{option_copied, option_map_or};
 ghost use Rattle.std.specs.Str.{bytes_eq};
-ghost use Rattle.iv_types.specs.Syntax.{tree, trees, perhaps_tree, item_tree, join_tree, query_tree, set_tree, statement_tree};
-ghost use Rattle.iv_meaning.specs.Schema.{schema_of};
+ghost use Rattle.iv_types.specs.Trees.{tree, trees, perhaps_tree, item_tree, join_tree, query_tree, set_tree, statement_tree};
+ghost use Rattle.iv_meaning.specs.Objects.{schema_of};
 ghost use Rattle.iv_meaning.specs.Names.{bound, how_many};
 ghost use Rattle.iv_meaning.specs.Shape.{same_place, repeats, is_aggregate, is_grouped, is_count_and_sums, are_sums, is_view_list, has_arithmetic, is_named, is_order, is_index, is_view, is_table, joins_tables, is_many_to_one};
 ghost use Rattle.bind_names.specs.Seeing.{names_in, visible_of, scope_seen};

@@ -9,10 +9,10 @@ use Rattle.iv_types.specs.Syntax.{StatementTree, begin, commit, rollback}
 use Rattle.iv_meaning.specs.Database.{Database}
 use Rattle.iv_meaning.specs.Statement.{Kept}
 use Rattle.iv_meaning.specs.Transaction.{outside}
-use Rattle.iv_meaning.specs.History.{Entry, fold, AreNumbered}
+use Rattle.iv_meaning.specs.History.{Entry, fold}
+use Rattle.iv_meaning.specs.SerialLaws.{AreNumbered, IsSince, HistoryLaw, LatestLaw}
 use Rattle.iv_meaning.specs.Said.{Said, nothing, too_long, bad, runs, loads, unread, steps, cleans, checkpoints}
 use Rattle.iv_meaning.specs.Serial.{World, Unended, Unfinished, none, waits, loaded, latest, set_open, set_unfinished, commits, is_deadlock, PassesOver, EndsOutside, EndsInside, EndsBy, Ends, IsRefused, Takes, Runs, Loads, Steps, OwnPiece, LaterPieces, refused_by_mode}
-use Rattle.iv_meaning.specs.SerialLaws.{IsSince, HistoryLaw, LatestLaw}
 
 numbered_push : (number : ℕ) (es : List Entry) (e : Entry) (db : Database) → db.number ≡ number → AreNumbered number es → e.number ≡ (fold es db).number + 1 → AreNumbered number (es ++ e ∷ [])
 numbered_push number [] e db same h next = (next ∙ ap (λ n. n + 1) same, tt)

@@ -2,7 +2,7 @@
 --
 -- What bound statements are, without where they lie in memory.
 use Rattle.std.specs.Prelude.{map}
-use Rattle.iv_types.specs.Syntax.{tree, trees, perhaps_tree}
+use Rattle.iv_types.specs.Trees.{tree, trees, perhaps_tree}
 use Rattle.iv_types.specs.declared.bound.BoundSet.{BoundSet}
 use Rattle.iv_types.specs.declared.bound.BoundItem.{BoundItem}
 use Rattle.iv_types.specs.declared.bound.BoundItem.TheVariants as item
@@ -11,6 +11,7 @@ use Rattle.iv_types.specs.declared.bound.BoundSelect.{BoundSelect}
 use Rattle.iv_types.specs.declared.bound.Bound.{Bound}
 use Rattle.iv_types.specs.declared.bound.Bound.TheVariants as bound
 use Rattle.iv_meaning.specs.Schema as schema
+use Rattle.iv_meaning.specs.Objects as objects
 use Rattle.iv_meaning.specs.Query as query
 use Rattle.iv_meaning.specs.Statement as statement
 
@@ -37,7 +38,7 @@ select_tree s = record {
 abbrev pub bound_tree : Bound → statement.BoundTree
 bound_tree (bound.Table t) = statement.create (schema.table t)
 bound_tree (bound.Index i) = statement.create (schema.index i)
-bound_tree (bound.View v) = statement.create (schema.view (schema.view_tree v))
+bound_tree (bound.View v) = statement.create (schema.view (objects.view_tree v))
 bound_tree (bound.Insert i) = statement.insert i.table (map trees i.tuples)
 bound_tree (bound.Update u) = statement.update u.table (map set_tree u.sets) (perhaps_tree u.condition)
 bound_tree (bound.Delete d) = statement.delete d.table (perhaps_tree d.condition)

@@ -1,5 +1,5 @@
 -- What was committed, entry by entry, and the database at a commit number.
-use Rattle.std.specs.Prelude.{◌≡◌, ℕ, ◌+◌, nat_le, List, [], ◌∷◌, filter}
+use Rattle.std.specs.Prelude.{ℕ, nat_le, List, [], ◌∷◌, filter}
 use Rattle.iv_meaning.specs.Database.{Database}
 use Rattle.iv_meaning.specs.Statement.{Kept, keep_all}
 
@@ -17,8 +17,3 @@ fold (e ∷ es) db = fold es (record (keep_all e.kept db) { number = e.number })
 -- the database at a commit number
 abbrev pub state_at : Database → List Entry → ℕ → Database
 state_at origin history number = fold (filter (λ e. nat_le e.number number) history) origin
-
--- the entries have the numbers that follow this one, in order
-abbrev pub AreNumbered : ℕ → List Entry → Type 0
-AreNumbered number [] = Unit {0}
-AreNumbered number (e ∷ es) = (e.number ≡ number + 1) × AreNumbered e.number es

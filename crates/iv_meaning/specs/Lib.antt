@@ -5,6 +5,7 @@ pub mod Number
 pub mod Script
 pub mod Values
 pub mod Schema
+pub mod Objects
 pub mod Database
 pub mod Grouping
 pub mod Query

@@ -8,11 +8,8 @@ use Rattle.iv_types.specs.declared.expression.ColumnAt.{ColumnAt}
 use Rattle.iv_types.specs.declared.catalog.Second.{Second}
 use Rattle.iv_types.specs.declared.catalog.TableDef.{TableDef}
 use Rattle.iv_types.specs.declared.catalog.IndexDef.{IndexDef}
-use Rattle.iv_types.specs.declared.catalog.ViewDef.{ViewDef}
-use Rattle.iv_types.specs.declared.catalog.Definition.{Definition}
-use Rattle.iv_types.specs.declared.catalog.Definition.TheVariants as definition
-use Rattle.iv_types.specs.Definitions.{kinds_of}
-use Rattle.iv_types.specs.Syntax.{Tree, perhaps_tree}
+use Rattle.iv_types.specs.Encoding.{kinds_of}
+use Rattle.iv_types.specs.Syntax.{Tree}
 
 pub record ViewTree : Type 0 where
   pub number : ℕ
@@ -104,25 +101,3 @@ abbrev pub object_columns : Object → List (List ℕ)
 object_columns (table t) = column_names t
 object_columns (index i) = []
 object_columns (view v) = v.names
-
--- ---- what the values of the code are
-
-abbrev pub view_tree : ViewDef → ViewTree
-view_tree v = record {
-  number = v.number;
-  name = v.name;
-  names = v.names;
-  first = v.first;
-  second = v.second;
-  condition = perhaps_tree v.condition;
-  group = v.group;
-  sums = v.sums;
-}
-
-abbrev pub object_of : Definition → Object
-object_of (definition.Table t) = table t
-object_of (definition.Index i) = index i
-object_of (definition.View v) = view (view_tree v)
-
-abbrev pub schema_of : List Definition → Schema
-schema_of definitions = map object_of definitions

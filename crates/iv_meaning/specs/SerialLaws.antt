@@ -1,7 +1,7 @@
 -- No clause of `run` rests on this module: it serves contracts between crates.
 --
 -- Laws of transcripts, and of what lines say.
-use Rattle.std.specs.Prelude.{◌≡◌, ◌≤◌, ℕ, Bool, true, false, List, codes}
+use Rattle.std.specs.Prelude.{◌≡◌, ◌≤◌, ℕ, ◌+◌, Bool, true, false, List, [], ◌∷◌, codes}
 use Rattle.iv_types.specs.declared.statement.Mode.TheVariants.{Serial}
 use Rattle.iv_types.specs.Syntax.{StatementTree}
 use Rattle.iv_types.specs.Grammar.{OneStatement}
@@ -9,7 +9,7 @@ use Rattle.iv_types.specs.Refusing.{OneRefusal}
 use Rattle.iv_meaning.specs.Database.{Database}
 use Rattle.iv_meaning.specs.Statement.{Kept}
 use Rattle.iv_meaning.specs.Transaction.{alone, committed, outside}
-use Rattle.iv_meaning.specs.History.{state_at, AreNumbered}
+use Rattle.iv_meaning.specs.History.{Entry, state_at}
 use Rattle.iv_meaning.specs.Said.{Said, unread, IsMarked, Says}
 use Rattle.iv_meaning.specs.Serial.{World, latest, commits, Answers}
 
@@ -29,6 +29,11 @@ is_unread said = false
 abbrev pub SaysLaw : Type 0
 SaysLaw = OneStatement → OneRefusal → (built : Said → Bool) (line : List ℕ) (one other : Said) → is_unread one ≡ false → is_unread other ≡ false
     → Says built line one → Says built line other → one ≡ other
+
+-- the entries have the numbers that follow this one, in order
+abbrev pub AreNumbered : ℕ → List Entry → Type 0
+AreNumbered number [] = Unit {0}
+AreNumbered number (e ∷ es) = (e.number ≡ number + 1) × AreNumbered e.number es
 
 -- the history begins with this database, and its numbers follow that of the database
 pub record IsSince (db : Database) (w : World) : Type 0 where

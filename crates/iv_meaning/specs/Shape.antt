@@ -14,7 +14,7 @@ use Rattle.iv_types.specs.declared.statement.OrderKey.TheVariants.{Place, Name}
 use Rattle.iv_types.specs.Syntax as s
 use Rattle.iv_types.specs.Syntax.{Tree, ItemTree, QueryTree, JoinTree, SetTree, StatementTree, create_table, create_index, create_view, insert, update, delete, select}
 use Rattle.iv_types.specs.Printing.{statement_size}
-use Rattle.iv_types.specs.Definitions.{kinds_of}
+use Rattle.iv_types.specs.Encoding.{kinds_of}
 use Rattle.iv_meaning.specs.Schema.{Schema, Object, as_table, as_index, as_view, table, index, view, items_at, kind_at, sources_of}
 use Rattle.iv_meaning.specs.Query.{BoundItem, count, sum, plain}
 use Rattle.iv_meaning.specs.Names.{Visible, seen_as, scope_of, resolve, bound, columns_named, how_many}

@@ -7,8 +7,7 @@ use Rattle.std.specs.List.{All}
 use Rattle.std.specs.FinMap.{get}
 use Rattle.iv_types.specs.declared.catalog.TableDef.{TableDef}
 use Rattle.iv_types.specs.declared.catalog.IndexDef.{IndexDef}
-use Rattle.iv_types.specs.Definitions.{kinds_of}
-use Rattle.iv_types.specs.Encoding.{FitAll}
+use Rattle.iv_types.specs.Encoding.{kinds_of, FitAll}
 use Rattle.table_laws.specs.Place.{Place}
 use Rattle.iv_meaning.specs.Schema.{Schema, Object, table, index, view, ViewTree, numbered, sources_of, kinds_of_table, kind_at}
 use Rattle.iv_meaning.specs.Database.{Row, Database, key_of}

@@ -12,10 +12,9 @@ use Rattle.iv_types.specs.declared.refusal.Refusal.{Refusal}
 use Rattle.iv_types.specs.declared.refusal.Refusal.TheVariants.{DuplicateKey, NumberRange}
 use Rattle.iv_types.specs.Syntax.{Tree}
 use Rattle.std.specs.Str.{is_utf8}
-use Rattle.iv_types.specs.Encoding.{row_cmp, longest_text}
+use Rattle.iv_types.specs.Encoding.{row_cmp, longest_text, kinds_of}
 use Rattle.table_laws.specs.Place.{Place}
 use Rattle.table_laws.specs.Table.{Change}
-use Rattle.iv_types.specs.Definitions.{kinds_of}
 use Rattle.iv_meaning.specs.Schema.{Object, view, numbered, as_table}
 use Rattle.iv_meaning.specs.Database.{Row, Rows, Database, rows_of, key_of, set_row}
 use Rattle.iv_meaning.specs.Values.{Outcome, meaning, value_of, is_huge}

@@ -1,8 +1,8 @@
+-- No clause of `run` rests on this module: it serves contracts between crates.
+--
 -- The definitions of a database: its tables, indexes and views in the order in which they were made.
-use Rattle.std.specs.Prelude.{◌≡◌, ℕ, zero, suc, List, [], ◌∷◌, map, slice_get, Option, Some, None, Vec, if◌then◌else◌}
+use Rattle.std.specs.Prelude.{◌≡◌, ℕ, zero, suc, List, [], ◌∷◌, slice_get, Option, Some, None, Vec, if◌then◌else◌}
 use Rattle.std.specs.Str.{bytes_eq}
-use Rattle.iv_types.specs.declared.value.Kind.{Kind}
-use Rattle.iv_types.specs.declared.catalog.TableDef.{TableDef}
 use Rattle.iv_types.specs.declared.catalog.Definition.{Definition}
 use Rattle.iv_types.specs.declared.catalog.Definition.TheVariants.{Table, Index, View}
 
@@ -33,7 +33,3 @@ named (d ∷ ds) name = if bytes_eq name (name_of d) then Some d else named ds n
 abbrev pub AreKept : {A : Type 0} → ℕ → List (Vec ℕ A × Definition) → Type 0
 AreKept n [] = Unit {0}
 AreKept n (e ∷ es) = (e.0.items ≡ name_of e.1) × (number_of e.1 ≡ suc n) × AreKept (suc n) es
-
--- the kinds of a table's columns
-abbrev pub kinds_of : TableDef → List Kind
-kinds_of table = map (λ column. column.kind) table.columns

@@ -1,6 +1,7 @@
 pub mod Faults
 pub mod Terminals
 pub mod Syntax
+pub mod Trees
 pub mod Tokens
 pub mod Limits
 pub mod Expressions

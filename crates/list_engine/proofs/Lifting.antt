@@ -12,8 +12,7 @@ use Rattle.iv_types.specs.declared.catalog.Definition.{Definition}
 use Rattle.iv_types.specs.declared.value.RowsOf.{RowsOf}
 use Rattle.iv_types.specs.declared.refusal.Refusal.TheVariants.{DuplicateKey}
 use Rattle.iv_types.specs.Syntax.{Tree}
-use Rattle.iv_types.specs.Definitions.{kinds_of}
-use Rattle.iv_types.specs.Encoding.{FitAll}
+use Rattle.iv_types.specs.Encoding.{kinds_of, FitAll}
 use Rattle.iv_meaning.specs.Schema.{table, numbered}
 use Rattle.iv_meaning.specs.Database.{Row, Database, rows_of, key_of, set_row}
 use Rattle.iv_meaning.specs.Statement.{insert, Refused, insertions, inserted, insert_meaning, tuple_rows, on_table, bound_meaning, sets, keep_all}

@@ -12,7 +12,8 @@ use Rattle.iv_types.specs.declared.lock.LockMode.{LockMode}
 use Rattle.iv_types.specs.declared.lock.LockMode.TheVariants.{Share}
 use Rattle.iv_types.specs.declared.reply.Reply.{Reply}
 use Rattle.iv_types.specs.declared.refusal.EngineRefusal.TheVariants as refusal
-use Rattle.iv_meaning.specs.Schema.{numbered, schema_of}
+use Rattle.iv_meaning.specs.Schema.{numbered}
+use Rattle.iv_meaning.specs.Objects.{schema_of}
 use Rattle.iv_meaning.specs.Database.{Row, Database}
 use Rattle.iv_meaning.specs.View.{read as reader}
 use Rattle.iv_meaning.specs.Reading.{Program, replies_by}

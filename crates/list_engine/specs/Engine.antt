@@ -10,7 +10,8 @@ use Rattle.iv_types.specs.declared.statement.Mode.TheVariants.{Serial}
 use Rattle.iv_types.specs.declared.statement.Statement.{Statement}
 use Rattle.iv_types.specs.declared.refusal.Refusal.{Refusal}
 use Rattle.iv_types.specs.declared.refusal.Refusal.TheVariants as refusal
-use Rattle.iv_types.specs.Syntax.{StatementTree, statement_tree}
+use Rattle.iv_types.specs.Syntax.{StatementTree}
+use Rattle.iv_types.specs.Trees.{statement_tree}
 use Rattle.iv_meaning.specs.Database.{Database, created}
 use Rattle.iv_meaning.specs.Reading.{Program, replies_by}
 use Rattle.iv_meaning.specs.Binding.{bind}

@@ -10,9 +10,11 @@ use Rattle.iv_types.specs.declared.refusal.Refusal.{Refusal}
 use Rattle.iv_types.specs.declared.refusal.Refusal.TheVariants.{NumberRange}
 use Rattle.iv_types.specs.declared.refusal.EngineRefusal.TheVariants as refusal
 use Rattle.iv_types.specs.declared.catalog.TableDef.{TableDef}
-use Rattle.iv_types.specs.Syntax.{StatementTree, create_table, create_index, create_view, statement_tree}
+use Rattle.iv_types.specs.Syntax.{StatementTree, create_table, create_index, create_view}
+use Rattle.iv_types.specs.Trees.{statement_tree}
 use Rattle.iv_meaning.specs.Escrow.{IsSession}
-use Rattle.iv_meaning.specs.Schema.{Object, table, numbered, schema_of}
+use Rattle.iv_meaning.specs.Schema.{Object, table, numbered}
+use Rattle.iv_meaning.specs.Objects.{schema_of}
 use Rattle.iv_meaning.specs.View.{read}
 use Rattle.iv_meaning.specs.Statement.{BoundTree, defines, Refused, Accepted, keep}
 use Rattle.iv_meaning.specs.Binding.{bind}

@@ -1,8 +1,8 @@
 //! The engine, and how it does steps.
 ghost use Rattle.std.specs.Prelude.{◌≡◌, ◌+◌, IfOk, Ok, Some};
 ghost use Rattle.std.specs.Option.{option_map};
-ghost use Rattle.iv_types.specs.Syntax.{statement_tree};
-ghost use Rattle.iv_meaning.specs.Schema.{object_of};
+ghost use Rattle.iv_types.specs.Trees.{statement_tree};
+ghost use Rattle.iv_meaning.specs.Objects.{object_of};
 ghost use Rattle.iv_meaning.specs.Database.{created};
 ghost use Rattle.iv_meaning.specs.Binding as binding;
 ghost use Rattle.iv_meaning.specs.Statement as meaning;

@@ -1,6 +1,7 @@
 //! Statements, each a transaction of its own.
 ghost use Rattle.std.specs.Prelude.{◌≡◌, ◌≤◌, ◌<◌, ◌^◌, ◌-◌, List, length, IsTrue, IfOk, Ok, map};
-ghost use Rattle.iv_types.specs.Syntax.{StatementTree, statement_tree, trees};
+ghost use Rattle.iv_types.specs.Syntax.{StatementTree};
+ghost use Rattle.iv_types.specs.Trees.{statement_tree, trees};
 ghost use Rattle.iv_meaning.specs.Database.{Database};
 ghost use Rattle.iv_meaning.specs.Query.{BoundQuery};
 ghost use Rattle.iv_meaning.specs.Binding as binding;

@@ -3,9 +3,8 @@ ghost use Rattle.std.specs.Prelude.{◌≡◌, ◌≢◌, ◌⊎◌, ◌<◌, �
 ghost use Rattle.std.specs.List.{AllByRecursion};
 ghost use Rattle.iv_types.specs.declared.catalog.Definition.{Definition as AnyDefinition};
 ghost use Rattle.iv_types.specs.declared.refusal.Refusal.TheVariants as refusal;
-ghost use Rattle.iv_types.specs.Definitions.{kinds_of};
-ghost use Rattle.iv_types.specs.Encoding.{FitAll};
-ghost use Rattle.iv_types.specs.Syntax.{trees};
+ghost use Rattle.iv_types.specs.Encoding.{kinds_of, FitAll};
+ghost use Rattle.iv_types.specs.Trees.{trees};
 ghost use Rattle.iv_meaning.specs.Schema.{numbered};
 ghost use Rattle.iv_meaning.specs.Schema as schema;
 ghost use Rattle.iv_meaning.specs.Database.{Database};

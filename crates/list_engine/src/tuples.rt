@@ -1,7 +1,7 @@
 //! The rows of an INSERT.
 ghost use Rattle.std.specs.Prelude.{◌≡◌, [], map};
-ghost use Rattle.iv_types.specs.Syntax.{tree, trees};
-ghost use Rattle.iv_types.specs.Definitions.{kinds_of};
+ghost use Rattle.iv_types.specs.Trees.{tree, trees};
+ghost use Rattle.iv_types.specs.Encoding.{kinds_of};
 ghost use Rattle.iv_meaning.specs.Grouping.{all_of};
 ghost use Rattle.iv_meaning.specs.Values.{meaning};
 ghost use Rattle.iv_meaning.specs.Statement.{stored, tuple_values, tuple_rows};

@@ -6,7 +6,7 @@ use Rattle.std.proofs.lemmas.List.{at_drop_more, at_drop_all}
 use mathlib.Core.Path.{refl, sym, ap, ◌∙◌}
 use Rattle.iv_types.specs.declared.value.Kind.{Kind}
 use Rattle.iv_types.specs.declared.expression.Expr.{Expr}
-use Rattle.iv_types.specs.Syntax.{tree, trees}
+use Rattle.iv_types.specs.Trees.{tree, trees}
 use Rattle.iv_meaning.specs.Grouping.{all_of}
 use Rattle.iv_meaning.specs.Values.{meaning}
 use Rattle.iv_meaning.specs.Statement.{stored, tuple_values}

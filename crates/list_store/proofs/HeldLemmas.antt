@@ -9,7 +9,8 @@ use borrow.Author.Tests.{eqb-true}
 use mathlib.Core.Path.{refl, sym, ap, subst, ◌∙◌}
 use Rattle.iv_types.specs.declared.catalog.Definition.{Definition}
 use Rattle.iv_types.specs.declared.value.RowsOf.{RowsOf}
-use Rattle.iv_meaning.specs.Schema.{Object, table, index, view, ViewTree, numbered, sources_of, schema_of}
+use Rattle.iv_meaning.specs.Schema.{Object, table, index, view, ViewTree, numbered, sources_of}
+use Rattle.iv_meaning.specs.Objects.{schema_of}
 use Rattle.iv_meaning.specs.Database.{Row, Database, rows_of, key_of}
 use Rattle.iv_meaning.specs.Query.{answer}
 use Rattle.iv_meaning.specs.View.{whole_view, query_of, read, object_rows, lies_in, rows_between, view_key}

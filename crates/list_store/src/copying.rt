@@ -1,6 +1,6 @@
 //! Copies of definitions.
 ghost use Rattle.std.specs.Prelude.{◌≡◌, ◌++◌, ◌∷◌, [], IfOk, OnOk, OnErr};
-ghost use Rattle.iv_meaning.specs.Schema.{view_tree, object_of, schema_of};
+ghost use Rattle.iv_meaning.specs.Objects.{view_tree, object_of, schema_of};
 
 use iv_types::{
     Bytes, Catalog, ColumnAtList, Definition, IndexDef, NameList, NoMemory, Places, Second,

@@ -1,7 +1,8 @@
 //! Views evaluated afresh, once for each state of the rows.
 ghost use Rattle.std.specs.Prelude.{◌≡◌, ℕ, Some, IfOk};
 ghost use Rattle.std.specs.Option.{option_map, option_copied};
-ghost use Rattle.iv_meaning.specs.Schema.{object_of, schema_of, numbered, view_tree};
+ghost use Rattle.iv_meaning.specs.Schema.{numbered};
+ghost use Rattle.iv_meaning.specs.Objects.{object_of, schema_of, view_tree};
 ghost use Rattle.iv_meaning.specs.Database.{Database};
 ghost use Rattle.iv_meaning.specs.View.{whole_view};
 ghost use Rattle.std.specs.List.{AllByRecursion};

@@ -4,8 +4,7 @@ use Rattle.std.specs.Option.{IfSome}
 use mathlib.Core.Path.{refl, sym, ap, subst, ◌∙◌}
 use Rattle.std.proofs.lemmas.List.{reverse-append}
 use Rattle.iv_types.specs.declared.catalog.TableDef.{TableDef}
-use Rattle.iv_types.specs.Definitions.{kinds_of}
-use Rattle.iv_types.specs.Encoding.{FitAll}
+use Rattle.iv_types.specs.Encoding.{kinds_of, FitAll}
 use Rattle.iv_meaning.specs.Schema.{Schema, Object, kinds_of_table}
 use Rattle.iv_meaning.specs.Database.{Row}
 use Rattle.txn_machine.specs.Deltas.{RowChange}

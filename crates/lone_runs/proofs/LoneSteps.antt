@@ -7,7 +7,8 @@ use Rattle.std.specs.FinMap.{empty}
 use Rattle.iv_types.specs.declared.statement.Mode.TheVariants.{Serial}
 use Rattle.iv_types.specs.declared.catalog.Definition.{Definition}
 use Rattle.iv_meaning.specs.Database.{Database}
-use Rattle.iv_meaning.specs.Schema.{Schema, schema_of}
+use Rattle.iv_meaning.specs.Schema.{Schema}
+use Rattle.iv_meaning.specs.Objects.{schema_of}
 use Rattle.txn_machine.specs.Acts as machine
 use Rattle.txn_machine.specs.Answers as machine_answer
 use Rattle.txn_machine.specs.Ghosts.{the_views}

@@ -9,7 +9,7 @@ use Rattle.iv_types.specs.declared.statement.Mode.TheVariants.{Serial}
 use Rattle.table_laws.specs.Place.{Place}
 use Rattle.table_laws.specs.Table.{write}
 use Rattle.iv_meaning.specs.Database.{Row, Rows}
-use Rattle.iv_meaning.specs.Schema as schema
+use Rattle.iv_meaning.specs.Objects as defined
 use Rattle.lock_manager.specs.Table as table
 use Rattle.lock_manager.specs.Table.{Table}
 use Rattle.txn_machine.specs.Acts as act
@@ -52,7 +52,7 @@ change_as m s number key new d rows d_is = ap row_change d_is ∙ ap (λ (all : 
 
 -- and asks for the same locks
 pub asked_put : (m : Machine) (s : State) (i number : ℕ) (key : List ℕ) (new : Option Row) (t : TableDef) (d : Change) → HasStored m s → definitions.numbered m.catalog number ≡ Some (definition.Table t)
-    → d ≡ record { table = number; key = key; before = get m.rows (number, key); after = new } → wants_of (schema.schema_of m.catalog) t (row_change d) ≡ asked s.store i (act.Put number key new)
+    → d ≡ record { table = number; key = key; before = get m.rows (number, key); after = new } → wants_of (defined.schema_of m.catalog) t (row_change d) ≡ asked s.store i (act.Put number key new)
 asked_put m s i number key new t d has is d_is =
     ap (λ objects. wants_of objects t (row_change d)) has.definitions ∙ (ap (wants_of (schema_of s.store) t) (change_as m s.store number key new d has.rows d_is)
     ∙ sym (ap (λ o. put_wants (schema_of s.store) o (change_at s.store (number, key) new)) (object_is m s number (definition.Table t) has is)))

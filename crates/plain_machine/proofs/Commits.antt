@@ -7,7 +7,7 @@ use Rattle.iv_types.specs.declared.lock.GroupDelta.{GroupDelta}
 use Rattle.iv_types.specs.declared.statement.Mode.TheVariants.{Serial, Snapshot}
 use Rattle.table_laws.specs.Kept.{redo}
 use Rattle.table_laws.proofs.Stored.{by_session}
-use Rattle.iv_meaning.specs.Schema as schema
+use Rattle.iv_meaning.specs.Objects as defined
 use Rattle.iv_meaning.specs.Database.{Database}
 use Rattle.iv_meaning.specs.Escrow.{IsSession}
 use Rattle.iv_meaning.specs.History.{Entry, fold}
@@ -172,7 +172,7 @@ module _ (m l n : Machine) (s : State) (i number : ℕ) (t : Txn) (h : Stands m 
 
   holds : HoldsStore n u
   holds = record {
-    definitions = ap (λ (y : Machine). schema.schema_of y.catalog) rest ∙ (h.store.definitions ∙ ap (λ (db : Database). db.schema) (sym now_committed));
+    definitions = ap (λ (y : Machine). defined.schema_of y.catalog) rest ∙ (h.store.definitions ∙ ap (λ (db : Database). db.schema) (sym now_committed));
     number = ap (λ (y : Machine). y.number) rest ∙ (number_is ∙ ap (λ (db : Database). db.number) (sym now_committed));
     committed = entered.committed ∙ (ap (λ ks. redo (changes_of ks) l.committed) steps_are
         ∙ (ap (redo (changes_by s.store i)) (ap (λ (y : Machine). y.committed) l_is ∙ h.store.committed) ∙ ap (λ (db : Database). db.rows) (sym now_committed)));

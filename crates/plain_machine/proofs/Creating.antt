@@ -9,7 +9,7 @@ use Rattle.iv_meaning.specs.Binding as binding
 use Rattle.iv_meaning.specs.Database.{Row, Database}
 use Rattle.iv_meaning.specs.Escrow.{IsSession}
 use Rattle.iv_meaning.specs.History.{Entry}
-use Rattle.iv_meaning.specs.Schema as schema
+use Rattle.iv_meaning.specs.Objects as defined
 use Rattle.iv_meaning.specs.Schema.{Schema, Object, view, ViewTree}
 use Rattle.iv_meaning.specs.Statement.{BoundTree, create, create_meaning, Accepted, Refused, defines}
 use Rattle.iv_meaning.specs.View.{whole_view}
@@ -76,16 +76,16 @@ is_busy m s least h l = record {
 -- ---- what is refused
 
 module _ (m : Machine) (s : State) (i : ℕ) (statement : StatementTree) (h : Stands m s) where
-  bound_here : (r : Result BoundTree Refusal) → binding.bind (schema.schema_of m.catalog) statement ≡ r → binding.bind (schema_of s.store) statement ≡ r
+  bound_here : (r : Result BoundTree Refusal) → binding.bind (defined.schema_of m.catalog) statement ≡ r → binding.bind (schema_of s.store) statement ≡ r
   bound_here r e = ap (λ objects. binding.bind objects statement) (sym h.store.definitions) ∙ e
 
-  pub makes_here : (bound : BoundTree) (o : Object) → binding.bind (schema.schema_of m.catalog) statement ≡ Ok bound → bound ≡ create o → Makes s.store statement o
+  pub makes_here : (bound : BoundTree) (o : Object) → binding.bind (defined.schema_of m.catalog) statement ≡ Ok bound → bound ≡ create o → Makes s.store statement o
   makes_here bound o e is = record { bound = bound_here (Ok bound) e ∙ ap Ok is }
 
   denied_told : (why : Refusal) → IsDenied s.store statement why → Told s i (act.Schema statement) (answer.Denied why) m
   denied_told why d = told_still m s i (act.Schema statement) (answer.Denied why) refl h (d, refl) (λ sessions e. cc) refl
 
-  pub unbound_told : (why : Refusal) → binding.bind (schema.schema_of m.catalog) statement ≡ Err why → Told s i (act.Schema statement) (answer.Denied why) m
+  pub unbound_told : (why : Refusal) → binding.bind (defined.schema_of m.catalog) statement ≡ Err why → Told s i (act.Schema statement) (answer.Denied why) m
   unbound_told why e = denied_told why (unbound (bound_here (Err why) e))
 
   pub refused_told : (why : Refusal) (o : Object) → Makes s.store statement o → NoneIsOpen s.store → create_meaning o (committed s.store) ≡ Refused why → Told s i (act.Schema statement) (answer.Denied why) m
@@ -116,16 +116,16 @@ module _ (m l n : Machine) (s : State) (i number : ℕ) (statement : StatementTr
   number_is : number ≡ (committed s.store).number + 1
   number_is = d.next ∙ ap (λ k. k + 1) (ap (λ (y : Machine). y.number) l_is ∙ h.store.number)
 
-  schema_is : schema.schema_of n.catalog ≡ schema_of u
+  schema_is : defined.schema_of n.catalog ≡ schema_of u
   schema_is =
-      d.definitions ∙ (ap (λ (y : Machine). schema.schema_of y.catalog ++ o ∷ []) l_is
+      d.definitions ∙ (ap (λ (y : Machine). defined.schema_of y.catalog ++ o ∷ []) l_is
       ∙ (ap (λ (objects : Schema). objects ++ o ∷ []) h.store.definitions ∙ ap (λ (db : Database). db.schema) (sym now_committed)))
 
   view_is : n.view ≡ u.view
   view_is =
-      d.view ∙ (ap (λ (y : Machine). add_all y.view (made_of (schema.schema_of n.catalog) y.rows o)) l_is
-      ∙ (ap (λ w. add_all w (made_of (schema.schema_of n.catalog) m.rows o)) h.store.view
-      ∙ (ap (λ r. add_all s.store.view (made_of (schema.schema_of n.catalog) r o)) h.store.rows
+      d.view ∙ (ap (λ (y : Machine). add_all y.view (made_of (defined.schema_of n.catalog) y.rows o)) l_is
+      ∙ (ap (λ w. add_all w (made_of (defined.schema_of n.catalog) m.rows o)) h.store.view
+      ∙ (ap (λ r. add_all s.store.view (made_of (defined.schema_of n.catalog) r o)) h.store.rows
       ∙ ap (λ (objects : Schema). add_all s.store.view (made_of objects s.store.rows o)) schema_is)))
 
   -- an entry that defines has no deltas

@@ -11,7 +11,8 @@ use Rattle.iv_types.specs.declared.catalog.IndexDef.{IndexDef}
 use Rattle.iv_types.specs.declared.catalog.TableDef.{TableDef}
 use Rattle.iv_types.specs.declared.lock.Want.{Want}
 use Rattle.iv_types.specs.Definitions as definitions
-use Rattle.iv_meaning.specs.Schema.{Schema, Object, table, index, view, ViewTree, object_of, schema_of, indexes_of}
+use Rattle.iv_meaning.specs.Schema.{Schema, Object, table, index, view, ViewTree, indexes_of}
+use Rattle.iv_meaning.specs.Objects.{object_of, schema_of}
 use Rattle.iv_meaning.specs.Database.{Row}
 use Rattle.iv_meaning.specs.View.{index_key}
 use Rattle.txn_machine.specs.Deltas.{exclusive_point, views_of}

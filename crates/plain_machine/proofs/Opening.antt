@@ -5,7 +5,7 @@ use Rattle.std.specs.FinMap.{empty}
 use Rattle.std.proofs.lemmas.List.{length-replicate}
 use Rattle.std.proofs.lemmas.Option.{none-some}
 use Rattle.iv_meaning.specs.Database.{Database}
-use Rattle.iv_meaning.specs.Schema.{schema_of}
+use Rattle.iv_meaning.specs.Objects.{schema_of}
 use Rattle.plain_machine.specs.Locking.{HasLocks}
 use Rattle.lock_manager.specs.Table as table
 use Rattle.lock_manager.specs.Table.{SessionLocks}

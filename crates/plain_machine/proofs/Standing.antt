@@ -2,7 +2,7 @@
 use Rattle.std.proofs.Common.{◌≡◌, ℕ, ◌≤◌, List, Option, Some, None, refl, sym, ap, ◌∙◌, subst, arith}
 use Rattle.std.specs.Prelude.{◌≢◌}
 use Rattle.std.specs.Option.{unwrap_or}
-use Rattle.iv_meaning.specs.Schema as schema
+use Rattle.iv_meaning.specs.Objects as defined
 use Rattle.iv_meaning.specs.Database.{Rows, Database}
 use Rattle.iv_meaning.specs.Escrow.{IsSession}
 use Rattle.iv_meaning.specs.History.{fold, state_at}
@@ -76,7 +76,7 @@ module _ (m n : Machine) (s u : Store) (i : ℕ) (t : Option Txn) (o : Option Op
 
   pub moved : HoldsStore n u
   moved = record {
-    definitions = ap schema.schema_of c.catalog ∙ (h.definitions ∙ ap (λ (db : Database). db.schema) (sym same_committed));
+    definitions = ap defined.schema_of c.catalog ∙ (h.definitions ∙ ap (λ (db : Database). db.schema) (sym same_committed));
     number = c.number ∙ (h.number ∙ ap (λ (db : Database). db.number) (sym same_committed));
     committed = c.committed ∙ (h.committed ∙ ap (λ (db : Database). db.rows) (sym same_committed));
     rows = c.rows;

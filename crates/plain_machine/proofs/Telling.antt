@@ -8,7 +8,7 @@ use Rattle.iv_types.specs.declared.session.Sessions.{Sessions}
 use Rattle.iv_types.specs.declared.lock.Want.{Want}
 use Rattle.iv_types.specs.declared.statement.Mode.{Mode}
 use Rattle.iv_types.specs.declared.statement.Mode.TheVariants.{Serial, Snapshot}
-use Rattle.iv_meaning.specs.Schema as schema
+use Rattle.iv_meaning.specs.Objects as defined
 use Rattle.iv_meaning.specs.Database.{Rows, Database}
 use Rattle.iv_meaning.specs.Escrow.{IsSession}
 use Rattle.iv_meaning.specs.History.{state_at}
@@ -109,7 +109,7 @@ begun_told m n s i mode t defs h is none count new sets rest grown small =
     (record {
       room = may_begin s mode (fits_log m s end_bytes h) (fits_history m s 256 h (subst (λ w. w ≤ most_weight) grown small));
       number_is = h.store.number;
-      defs_are = count ∙ (sym (length-map m.catalog schema.object_of) ∙ ap length h.store.definitions);
+      defs_are = count ∙ (sym (length-map m.catalog defined.object_of) ∙ ap length h.store.definitions);
       effects = refl;
     })
     (moved m n s.store (does the_views s.store i (Opens mode)) i (Some t) (Some (begun mode (committed s.store).number)) h.store (record {

@@ -2,7 +2,8 @@
 --
 -- What a definition changes in a machine.
 use Rattle.std.specs.Prelude.{◌≡◌, ℕ, ◌+◌, ◌∷◌, [], ◌++◌}
-use Rattle.iv_meaning.specs.Schema.{Object, schema_of}
+use Rattle.iv_meaning.specs.Schema.{Object}
+use Rattle.iv_meaning.specs.Objects.{schema_of}
 use Rattle.txn_machine.specs.Fresh.{made_of}
 use Rattle.txn_machine.specs.Stored.{add_all}
 use Rattle.plain_machine.specs.declared.machine.Machine.{Machine}

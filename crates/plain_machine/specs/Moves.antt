@@ -7,7 +7,7 @@ use Rattle.iv_types.specs.declared.session.Cycle.{Cycle}
 use Rattle.iv_types.specs.declared.lock.Change.{Change}
 use Rattle.iv_types.specs.declared.lock.GroupDelta.{GroupDelta}
 use Rattle.table_laws.specs.Table.{write}
-use Rattle.iv_meaning.specs.Schema.{schema_of}
+use Rattle.iv_meaning.specs.Objects.{schema_of}
 use Rattle.iv_meaning.specs.Database.{Row, Rows}
 use Rattle.iv_types.specs.declared.refusal.EngineRefusal.TheVariants as refused
 use Rattle.iv_meaning.specs.Escrow.{Account}

@@ -6,7 +6,7 @@ use Rattle.std.specs.List.{flat_map}
 use Rattle.iv_types.specs.declared.lock.GroupDelta.{GroupDelta}
 use Rattle.iv_types.specs.declared.session.Sessions.{Sessions}
 use Rattle.iv_types.specs.declared.statement.Mode.TheVariants.{Snapshot}
-use Rattle.iv_meaning.specs.Schema as schema
+use Rattle.iv_meaning.specs.Objects as defined
 use Rattle.iv_meaning.specs.Escrow.{IsSession}
 use Rattle.iv_meaning.specs.History.{state_at}
 use Rattle.iv_meaning.specs.Sound.{IsSound}
@@ -68,7 +68,7 @@ abbrev pub HasRows : Store → Txn → Type 0
 HasRows s t = t.mode ≡ Snapshot → IsAt s t
 
 pub record HoldsStore (m : Machine) (s : Store) : Type 0 where
-  pub definitions : schema.schema_of m.catalog ≡ schema_of s
+  pub definitions : defined.schema_of m.catalog ≡ schema_of s
   pub number : m.number ≡ (committed s).number
   pub committed : m.committed ≡ (committed s).rows
   pub rows : m.rows ≡ s.rows
@@ -96,7 +96,7 @@ pub record Stands (m : Machine) (s : State) : Type 0 where
 -- it has the definitions and the stored rows of a state that steps lead to
 pub record HasStored (m : Machine) (s : State) : Type 0 where
   pub reached : IsReached s
-  pub definitions : schema.schema_of m.catalog ≡ schema_of s.store
+  pub definitions : defined.schema_of m.catalog ≡ schema_of s.store
   pub rows : m.rows ≡ s.store.rows
   pub view : m.view ≡ s.store.view
 

@@ -2,7 +2,7 @@
 ghost use Rattle.std.specs.Prelude.{◌≡◌, ◌++◌, [], ◌∷◌, IfOk, OnOk};
 ghost use Rattle.std.specs.List.{flat_map};
 ghost use Rattle.std.specs.Option.{option_to_list};
-ghost use Rattle.iv_meaning.specs.Schema.{schema_of, object_of};
+ghost use Rattle.iv_meaning.specs.Objects.{schema_of, object_of};
 ghost use Rattle.iv_meaning.specs.View as meaning;
 ghost use Rattle.txn_machine.specs.Deltas as machine;
 ghost use Rattle.txn_machine.specs.Deltas.{entry_wants, look_ups, views_of};

@@ -1,9 +1,9 @@
 //! CREATE statements.
 ghost use Rattle.std.specs.Prelude.{◌≡◌, ◌≢◌, ◌+◌, ℕ, List, [], ◌∷◌, ◌++◌, IfOk, IfSome};
 ghost use Rattle.iv_types.specs.declared.catalog.Definition.{Definition as CatalogDefinition};
-ghost use Rattle.iv_types.specs.Syntax.{statement_tree};
+ghost use Rattle.iv_types.specs.Trees.{statement_tree};
 ghost use Rattle.iv_types.specs.declared.refusal.Refusal.TheVariants as refused;
-ghost use Rattle.iv_meaning.specs.Schema.{object_of, schema_of};
+ghost use Rattle.iv_meaning.specs.Objects.{object_of, schema_of};
 ghost use Rattle.iv_meaning.specs.Statement as meaning;
 ghost use Rattle.iv_meaning.specs.Bound.{bound_tree};
 ghost use Rattle.list_store.specs.Made.{IsMade};

@@ -3,7 +3,7 @@ ghost use Rattle.std.specs.Prelude.{◌≡◌, ◌<◌, true, false, length, IfO
 ghost use mathlib.Core.Path.{sym, ap};
 ghost use Rattle.std.specs.FinMap.{empty};
 ghost use Rattle.iv_meaning.specs.Database.{Database};
-ghost use Rattle.iv_meaning.specs.Schema.{schema_of};
+ghost use Rattle.iv_meaning.specs.Objects.{schema_of};
 ghost use Rattle.txn_machine.specs.Laws.{IsOpened};
 ghost use Rattle.txn_machine.specs.Log.{unlimited};
 ghost use Rattle.txn_machine.specs.State.{State, opened_state};

@@ -3,7 +3,7 @@ ghost use Rattle.std.specs.Prelude.{◌≡◌, ◌++◌, [], ◌∷◌, map, neg
 ghost use Rattle.std.specs.List.{flat_map};
 ghost use Rattle.std.specs.Option.{option_to_list};
 ghost use Rattle.std.specs.FinMap.{get, empty};
-ghost use Rattle.iv_meaning.specs.Schema.{schema_of, object_of, view_tree};
+ghost use Rattle.iv_meaning.specs.Objects.{schema_of, object_of, view_tree};
 ghost use Rattle.iv_meaning.specs.Database.{Rows};
 ghost use Rattle.txn_machine.specs.Deltas as machine;
 ghost use Rattle.txn_machine.specs.Deltas.{owed_to, views_of, contributions};

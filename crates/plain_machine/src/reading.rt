@@ -2,7 +2,8 @@
 ghost use Rattle.std.specs.Prelude.{◌≡◌, ◌==◌, ℕ, pos, get_or, map, length, Some, IfOk};
 ghost use Rattle.std.specs.FinMap.{entries};
 ghost use Rattle.table_laws.specs.Table.{rows_where};
-ghost use Rattle.iv_meaning.specs.Schema.{Schema, ViewTree, schema_of, view_tree, group_kinds};
+ghost use Rattle.iv_meaning.specs.Schema.{Schema, ViewTree, group_kinds};
+ghost use Rattle.iv_meaning.specs.Objects.{schema_of, view_tree};
 ghost use Rattle.iv_meaning.specs.Database.{Database, rows_of};
 ghost use Rattle.iv_meaning.specs.View.{whole_view, read};
 ghost use Rattle.iv_meaning.specs.Sound.{IsSound};

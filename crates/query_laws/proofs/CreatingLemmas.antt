@@ -11,7 +11,7 @@ use Rattle.iv_types.specs.declared.statement.ColumnDef.{ColumnDef}
 use Rattle.iv_types.specs.declared.statement.Relation.{Relation}
 use Rattle.iv_types.specs.declared.catalog.TableDef.{TableDef}
 use Rattle.iv_types.specs.declared.catalog.IndexDef.{IndexDef}
-use Rattle.iv_types.specs.Definitions.{kinds_of}
+use Rattle.iv_types.specs.Encoding.{kinds_of}
 use Rattle.iv_types.specs.Syntax.{Tree, StatementTree, QueryTree, JoinTree, create_table, create_index, create_view, insert, update, delete, select}
 use Rattle.iv_meaning.specs.Schema.{Schema, Object, table, index, view, numbered, named, as_table, column_names, kinds_of_table, object_columns, object_kinds}
 use Rattle.iv_meaning.specs.Database.{Database}

@@ -15,8 +15,7 @@ use Rattle.iv_types.specs.declared.statement.Mode.TheVariants.{Serial, Snapshot}
 use Rattle.iv_types.specs.declared.statement.ColumnDef.{ColumnDef}
 use Rattle.iv_types.specs.declared.catalog.TableDef.{TableDef}
 use Rattle.iv_types.specs.declared.catalog.IndexDef.{IndexDef}
-use Rattle.iv_types.specs.Definitions.{kinds_of}
-use Rattle.iv_types.specs.Encoding.{FitAll, key_bytes}
+use Rattle.iv_types.specs.Encoding.{kinds_of, FitAll, key_bytes}
 use Rattle.row_codec.proofs.Columns.{fit_lengths}
 use Rattle.iv_meaning.specs.Schema.{Schema, Object, table, index, view, ViewTree, numbered, as_index, indexes_of, items_at, kinds_of_table, sources_of, group_kinds, object_kinds}
 use Rattle.iv_meaning.specs.Database.{Row, Database, rows_of, key_of}

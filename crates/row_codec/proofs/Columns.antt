@@ -4,13 +4,12 @@ use Rattle.std.specs.Prelude.{IsTrue, ◌↔◌}
 use Rattle.std.proofs.lemmas.List.{append-nil, length-append, length-drop, length-map, get_or-map, drop_more, drop_all, take_more, take_all, take-append-drop}
 use Rattle.iv_types.specs.declared.value.Kind.{Kind}
 use Rattle.iv_types.specs.declared.value.Value.{Value}
-use Rattle.iv_types.specs.Encoding.{Fits, FitAll, columns_bytes}
+use Rattle.iv_types.specs.Encoding.{Fits, FitAll, columns_bytes, kinds_of}
 use Rattle.iv_types.specs.BadRow.{Rule, LeftOver, StopsAt, IsBad}
 use Rattle.iv_types.specs.declared.catalog.TableDef.{TableDef}
 use Rattle.iv_types.specs.declared.statement.ColumnDef.{ColumnDef}
 use Rattle.row_codec.specs.declared.fault.RowFault.{RowFault}
 use Rattle.row_codec.specs.declared.fault.RowFault.TheVariants.{BadRow, NoMemory}
-use Rattle.iv_types.specs.Definitions.{kinds_of}
 use Rattle.row_codec.specs.Columns.{Blames, IsBroken}
 
 pub fit_lengths : (ks : List Kind) (vs : List Value) → FitAll ks vs → length ks ≡ length vs

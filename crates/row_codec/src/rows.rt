@@ -3,9 +3,8 @@ ghost use Rattle.std.specs.Prelude.{◌≡◌, ◌≤◌, ◌++◌, List, length
 ghost use Rattle.iv_types.specs.declared.value.Value.{Value};
 ghost use Rattle.iv_types.specs.declared.value.Kind.TheVariants as kinds;
 ghost use Rattle.iv_types.specs.declared.value.Value.TheVariants as values;
-ghost use Rattle.iv_types.specs.Encoding.{Fits, FitAll, value_bytes, row_bytes, longest_text};
+ghost use Rattle.iv_types.specs.Encoding.{Fits, FitAll, value_bytes, row_bytes, longest_text, kinds_of};
 ghost use Rattle.iv_types.specs.BadRow.{RowBreaks, IsBadRow};
-ghost use Rattle.iv_types.specs.Definitions.{kinds_of};
 ghost use Rattle.row_codec.specs.Columns.{Blames, Gives, IsBroken};
 
 use crate::RowFault;

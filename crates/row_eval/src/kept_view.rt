@@ -3,7 +3,8 @@ ghost use Rattle.std.specs.Prelude.{◌≡◌, ◌≤◌, ◌<◌, ◌+◌, ◌+
 ghost use Rattle.std.specs.List.{filter_map};
 ghost use Rattle.std.specs.Option.{option_map};
 ghost use Rattle.iv_types.specs.Encoding.{FitAll, key_bytes};
-ghost use Rattle.iv_meaning.specs.Schema.{schema_of, view_tree, numbered, kinds_of_table, sources_of, kind_at, group_kinds};
+ghost use Rattle.iv_meaning.specs.Schema.{numbered, kinds_of_table, sources_of, kind_at, group_kinds};
+ghost use Rattle.iv_meaning.specs.Objects.{schema_of, view_tree};
 ghost use Rattle.iv_meaning.specs.Grouping.{number_in};
 ghost use Rattle.row_eval.specs.Grouped.{Gives};
 ghost use Rattle.row_eval.specs.Fresh.{fresh, IsReadable, IsReadableView, kept_row, view_row, recomputed};

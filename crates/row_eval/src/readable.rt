@@ -3,7 +3,8 @@ ghost use Rattle.std.specs.Prelude.{◌≡◌, IsTrue, ◌↔◌, Some, slice_ge
 ghost use Rattle.std.specs.List.{AllByRecursion};
 ghost use Rattle.iv_types.specs.Encoding.{FitAll};
 ghost use Rattle.iv_types.specs.declared.value.Kind.{Kind};
-ghost use Rattle.iv_meaning.specs.Schema.{schema_of, view_tree, numbered, kinds_of_table, sources_of};
+ghost use Rattle.iv_meaning.specs.Schema.{numbered, kinds_of_table, sources_of};
+ghost use Rattle.iv_meaning.specs.Objects.{schema_of, view_tree};
 ghost use Rattle.row_eval.specs.Fresh.{AreAlike, RowsFit, JoinsAlike, IsReadable, HasOneKind};
 
 use crate::fresh::{primary_of, rows_of_table};

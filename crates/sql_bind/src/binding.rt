@@ -3,9 +3,10 @@
 
 ghost use Rattle.std.specs.Prelude.{◌≡◌, ◌⊎◌, ◌<◌, ◌^◌, ◌-◌, ◌++◌, ◌∷◌, [], map, length, not, Ok, Err, IfOk, IfErr};
 ghost use Rattle.std.specs.List.{list_all};
-ghost use Rattle.iv_types.specs.Syntax.{query_tree, statement_tree, create_table, create_index, create_view, insert, update, delete, select, trees, set_tree, perhaps_tree};
+ghost use Rattle.iv_types.specs.Syntax.{create_table, create_index, create_view, insert, update, delete, select};
+ghost use Rattle.iv_types.specs.Trees.{query_tree, statement_tree, trees, set_tree, perhaps_tree};
 ghost use Rattle.iv_types.specs.declared.refusal.Refusal.TheVariants as refusal;
-ghost use Rattle.iv_meaning.specs.Schema.{schema_of};
+ghost use Rattle.iv_meaning.specs.Objects.{schema_of};
 ghost use Rattle.iv_meaning.specs.Shape.{group_of, items_of, is_order, at_most};
 ghost use Rattle.iv_meaning.specs.Binding.{shape_faults, limit_faults, bound_query, bind, bound_to, type_faults};
 ghost use Rattle.iv_meaning.specs.Names as names;

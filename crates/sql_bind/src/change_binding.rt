@@ -5,8 +5,8 @@ ghost use Rattle.std.specs.Prelude.{◌≡◌, ◌<◌, ◌^◌, ◌++◌, ◌&&
 ghost use Rattle.std.specs.List.{list_all, list_any, flat_map};
 ghost use Rattle.std.specs.Option.{option_map, option_map_or};
 ghost use Rattle.std.specs.Str.{bytes_eq};
-ghost use Rattle.iv_types.specs.Syntax.{tree, trees, perhaps_tree};
-ghost use Rattle.iv_types.specs.Syntax as syntax;
+ghost use Rattle.iv_types.specs.Trees.{tree, trees, perhaps_tree};
+ghost use Rattle.iv_types.specs.Trees as trees;
 ghost use Rattle.iv_meaning.specs.Names.{bound};
 ghost use Rattle.iv_meaning.specs.Shape.{object_number, is_table, repeats, places_of, primary_places};
 ghost use Rattle.iv_meaning.specs.Binding.{shape_faults};
@@ -147,7 +147,7 @@ fn push_sets(
 ) -> Result<(), NoMemory>
     requires few { length scope.now < 2 ^ 32 }
     requires columns { length columns.now < 2 ^ 32 }
-    ensures { OnOk result (map set_tree found.new ≡ map set_tree found.old ++ sets_at (scope_seen scope.now) (names_in columns.now) (syntax.set_tree set.now)) }
+    ensures { OnOk result (map set_tree found.new ≡ map set_tree found.old ++ sets_at (scope_seen scope.now) (names_in columns.now) (trees.set_tree set.now)) }
 {
     let places = places_of(alloc, columns, &[&set.name])?;
     let places = places.as_slice();
@@ -165,7 +165,7 @@ fn bound_sets(
 ) -> Result<BoundSetList, NoMemory>
     requires few { length scope.now < 2 ^ 32 }
     requires columns { length columns.now < 2 ^ 32 }
-    ensures { IfOk result (λ found. map set_tree found ≡ flat_map (sets_at (scope_seen scope.now) (names_in columns.now)) (map syntax.set_tree sets.now)) }
+    ensures { IfOk result (λ found. map set_tree found ≡ flat_map (sets_at (scope_seen scope.now) (names_in columns.now)) (map trees.set_tree sets.now)) }
 {
     let mut found = BoundSetList::new(alloc);
     for set in sets {
@@ -188,11 +188,11 @@ pub fn bind_update(
 ) -> Result<Bound, Refusal>
     requires { scope_seen scope.now ≡ visible_of target.now ∷ [] }
     ensures fault { Checks result (shape_faults (
-        (3, is_set_key (primary_places (visible_of target.now)) (places_of (visible_of target.now).columns (map (λ x. x.name) (map syntax.set_tree sets.now))))
-        ∷ (4, repeats bytes_eq (map (λ x. x.name) (map syntax.set_tree sets.now)))
+        (3, is_set_key (primary_places (visible_of target.now)) (places_of (visible_of target.now).columns (map (λ x. x.name) (map trees.set_tree sets.now))))
+        ∷ (4, repeats bytes_eq (map (λ x. x.name) (map trees.set_tree sets.now)))
         ∷ (5, not (is_table (visible_of target.now))) ∷ [])) }
     ensures bound { IfOk result (λ b. bound_tree b ≡ statement.update (option_map_or object_number (visible_of target.now).object 0)
-        (flat_map (sets_at (visible_of target.now ∷ []) (visible_of target.now).columns) (map syntax.set_tree sets.now))
+        (flat_map (sets_at (visible_of target.now ∷ []) (visible_of target.now).columns) (map trees.set_tree sets.now))
         (option_map (bound (visible_of target.now ∷ [])) (perhaps_tree condition.now))) }
 {
     let columns = target.columns.as_slice();

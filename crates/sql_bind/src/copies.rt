@@ -2,7 +2,7 @@
 ghost use Rattle.std.specs.Prelude.{◌≡◌, ◌<◌, ◌^◌, ◌++◌, ◌∷◌, [], map, length, IfOk, OnOk};
 ghost use Rattle.std.specs.List.{flat_map};
 ghost use Rattle.std.specs.Option.{option_map};
-ghost use Rattle.iv_types.specs.Syntax.{tree, trees, perhaps_tree, join_tree, set_tree};
+ghost use Rattle.iv_types.specs.Trees.{tree, trees, perhaps_tree, join_tree, set_tree};
 ghost use Rattle.iv_types.specs.Syntax as syntax;
 ghost use Rattle.iv_meaning.specs.Names.{bound};
 ghost use Rattle.bind_names.specs.Seeing.{scope_seen};

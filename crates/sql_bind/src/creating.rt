@@ -5,8 +5,8 @@ ghost use Rattle.std.specs.Prelude.{◌≡◌, ◌<◌, ◌^◌, ◌-◌, ◌+�
 ghost use Rattle.std.specs.Option.{option_map_or};
 ghost use Rattle.std.specs.Str.{bytes_eq};
 ghost use Rattle.iv_types.specs.Printing.{statement_size};
-ghost use Rattle.iv_types.specs.Syntax.{statement_tree};
-ghost use Rattle.iv_meaning.specs.Schema.{schema_of};
+ghost use Rattle.iv_types.specs.Trees.{statement_tree};
+ghost use Rattle.iv_meaning.specs.Objects.{schema_of};
 ghost use Rattle.iv_meaning.specs.Schema as schema;
 ghost use Rattle.iv_meaning.specs.Shape.{object_number, is_table, repeats, places_of, primary_places};
 ghost use Rattle.iv_meaning.specs.Binding.{shape_faults, limit_faults};

@@ -1,8 +1,8 @@
 //! What a SELECT is bound to.
 ghost use Rattle.std.specs.Prelude.{◌≡◌, ◌<◌, ◌^◌, ◌++◌, ◌∷◌, [], map, length, IfOk, OnOk};
 ghost use Rattle.std.specs.Option.{option_to_list};
-ghost use Rattle.iv_types.specs.Syntax.{tree, trees, perhaps_tree, join_tree, query_tree};
-ghost use Rattle.iv_meaning.specs.Schema.{object_of};
+ghost use Rattle.iv_types.specs.Trees.{tree, trees, perhaps_tree, join_tree, query_tree};
+ghost use Rattle.iv_meaning.specs.Objects.{object_of};
 ghost use Rattle.iv_meaning.specs.Names.{bound};
 ghost use Rattle.iv_meaning.specs.Shape.{object_number, numbers_of};
 ghost use Rattle.iv_meaning.specs.Binding.{item_place, before_number, order_place, bound_order};

@@ -4,7 +4,7 @@
 ghost use Rattle.std.specs.Prelude.{◌≡◌, ◌<◌, ◌^◌, ◌-◌, ◌+◌, ◌++◌, [], map, length, slice_get, IfOk, OnOk};
 ghost use Rattle.std.specs.List.{filter_map};
 ghost use Rattle.std.specs.Option.{option_and_then, option_to_list, option_copied};
-ghost use Rattle.iv_meaning.specs.Schema.{schema_of, object_of};
+ghost use Rattle.iv_meaning.specs.Objects.{schema_of, object_of};
 ghost use Rattle.iv_meaning.specs.Binding.{begins_with, join_index, summed};
 ghost use Rattle.bind_shape.specs.Items.{named_item, items_seen};
 ghost use Rattle.bind_names.specs.Seeing.{scope_seen};

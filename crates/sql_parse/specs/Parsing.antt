@@ -8,7 +8,8 @@ use Rattle.text_grammar.specs.declared.fault.Fault.{Fault}
 use Rattle.iv_types.specs.declared.statement.Statement.{Statement}
 use Rattle.iv_types.specs.declared.refusal.Refusal.{Refusal}
 use Rattle.iv_types.specs.declared.refusal.Refusal.TheVariants as refusal
-use Rattle.iv_types.specs.Syntax.{StatementTree, statement_tree}
+use Rattle.iv_types.specs.Syntax.{StatementTree}
+use Rattle.iv_types.specs.Trees.{statement_tree}
 use Rattle.iv_types.specs.Tokens.{Placed, place_of_last}
 use Rattle.iv_types.specs.Limits.{most_of}
 

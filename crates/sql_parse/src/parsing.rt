@@ -3,7 +3,8 @@ ghost use Rattle.std.specs.Prelude.{◌≡◌, ◌⊎◌, ℕ, List, pos, map, I
 ghost use Rattle.iv_types.specs.declared.refusal.Refusal.TheVariants as refusal;
 ghost use Rattle.iv_types.specs.Tokens.{place_of_last};
 ghost use Rattle.iv_types.specs.Limits.{most_of};
-ghost use Rattle.iv_types.specs.Syntax.{StatementTree, statement_tree};
+ghost use Rattle.iv_types.specs.Syntax.{StatementTree};
+ghost use Rattle.iv_types.specs.Trees.{statement_tree};
 ghost use Rattle.iv_types.specs.Grammar.{Spells};
 ghost use Rattle.iv_types.specs.Refusing.{Refuses};
 ghost use Rattle.sql_tokens.specs.View.{placed};

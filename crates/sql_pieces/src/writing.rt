@@ -1,7 +1,8 @@
 //! Writing a statement as the pieces of its text, for any sink of pieces.
 ghost use Rattle.std.specs.Prelude.{◌≡◌, ◌≤◌, ◌+◌, min, [], ◌∷◌, ◌++◌, map, length, decimal};
 ghost use Rattle.std.specs.List.{flat_map};
-ghost use Rattle.iv_types.specs.Syntax.{tree, trees, perhaps_tree, query_tree, set_tree, statement_tree, create_table, create_index, create_view, insert, update, delete, begin, rollback, savepoint};
+ghost use Rattle.iv_types.specs.Syntax.{create_table, create_index, create_view, insert, update, delete, begin, rollback, savepoint};
+ghost use Rattle.iv_types.specs.Trees.{tree, trees, perhaps_tree, query_tree, set_tree, statement_tree, item_tree, join_tree};
 ghost use Rattle.iv_types.specs.Printing as printing;
 ghost use Rattle.sql_pieces.specs.Sinks.{Wrote, number_piece, is_tight, is_close, gap_size};
 
@@ -238,8 +239,6 @@ impl Part for Expr {
 // ---- queries
 
 impl Part for Item {
-    ghost use Rattle.iv_types.specs.Syntax.{item_tree};
-
     ghost pieces = { λ i. printing.item_pieces (item_tree i) };
 
     fn write<W: PieceSink>(&self, sink: &mut W) -> Result<(), NoMemory> {
@@ -275,8 +274,6 @@ fn write_relation<W: PieceSink>(sink: &mut W, relation: &Relation) -> Result<(),
 }
 
 impl Part for Join {
-    ghost use Rattle.iv_types.specs.Syntax.{join_tree};
-
     ghost pieces = { λ j. printing.join_pieces (join_tree j) };
 
     fn write<W: PieceSink>(&self, sink: &mut W) -> Result<(), NoMemory> {

@@ -1,8 +1,9 @@
 //! The kinds of the columns of tables and views.
 ghost use Rattle.std.specs.Prelude.{◌≡◌, map, IfOk};
 ghost use Rattle.std.specs.Option.{option_map, option_copied};
-ghost use Rattle.iv_types.specs.Definitions.{kinds_of};
-ghost use Rattle.iv_meaning.specs.Schema.{object_of, schema_of, view_tree, numbered, kinds_of_table, sources_of, group_kinds, object_kinds};
+ghost use Rattle.iv_types.specs.Encoding.{kinds_of};
+ghost use Rattle.iv_meaning.specs.Schema.{numbered, kinds_of_table, sources_of, group_kinds, object_kinds};
+ghost use Rattle.iv_meaning.specs.Objects.{object_of, schema_of, view_tree};
 ghost use Rattle.iv_meaning.specs.Schema as schema;
 ghost use Rattle.iv_meaning.specs.Plan.{kinds_for};
 

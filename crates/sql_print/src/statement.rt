@@ -1,6 +1,6 @@
 //! The one text of a statement.
 ghost use Rattle.std.specs.Prelude.{◌≡◌, ◌++◌, IfOk, OnOk};
-ghost use Rattle.iv_types.specs.Syntax.{statement_tree};
+ghost use Rattle.iv_types.specs.Trees.{statement_tree};
 ghost use Rattle.iv_types.specs.Printing.{statement_text as text_of};
 ghost use Rattle.sql_print.specs.Texts.{gap_text};
 ghost use Rattle.sql_print.specs.Law.{PrintedAgain};

@@ -9,7 +9,7 @@ use Rattle.iv_types.specs.declared.terminal.Terminal.{Terminal}
 use Rattle.iv_types.specs.declared.statement.Relation.{Relation}
 use Rattle.iv_types.specs.declared.statement.Join.{Join}
 use Rattle.iv_types.specs.Tokens.{Symbol}
-use Rattle.iv_types.specs.Syntax.{join_tree}
+use Rattle.iv_types.specs.Trees.{join_tree}
 use Rattle.iv_types.specs.Grammar.{Sources}
 use Rattle.iv_types.specs.Expressions.{the}
 

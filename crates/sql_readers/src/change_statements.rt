@@ -2,7 +2,7 @@
 ghost use Rattle.std.specs.Prelude.{◌≡◌, ◌<◌, ◌≤◌, length, map, IfOk};
 ghost use Rattle.text_grammar.specs.Readers.{Gives};
 ghost use Rattle.iv_types.specs.Limits.{the_limits};
-ghost use Rattle.iv_types.specs.Syntax.{trees, set_tree, statement_tree};
+ghost use Rattle.iv_types.specs.Trees.{trees, set_tree, statement_tree};
 ghost use Rattle.sql_readers.specs.Statements.{listed, tuples, assignment, insertion, update, deletion, control};
 
 use crate::cursor::Cursor;

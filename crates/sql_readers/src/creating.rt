@@ -2,7 +2,7 @@
 ghost use Rattle.std.specs.Prelude.{◌≡◌, ◌<◌, ◌≤◌, length, IfOk};
 ghost use Rattle.text_grammar.specs.Readers.{Gives};
 ghost use Rattle.iv_types.specs.Limits.{the_limits};
-ghost use Rattle.iv_types.specs.Syntax.{statement_tree};
+ghost use Rattle.iv_types.specs.Trees.{statement_tree};
 ghost use Rattle.sql_readers.specs.Statements.{enclosed, names, kind_reader, column, columns, table_body, table, index, view, creation};
 
 use crate::cursor::Cursor;

@@ -4,7 +4,8 @@
 ghost use Rattle.std.specs.Prelude.{◌≡◌, ◌+◌, ◌≤◌, ◌<◌, length, IfOk, IfErr};
 ghost use Rattle.text_grammar.specs.Readers.{Gives};
 ghost use Rattle.iv_types.specs.Limits.{the_limits};
-ghost use Rattle.iv_types.specs.Syntax.{tree, pair};
+ghost use Rattle.iv_types.specs.Syntax.{pair};
+ghost use Rattle.iv_types.specs.Trees.{tree};
 ghost use Rattle.iv_types.specs.Expressions.{operations};
 ghost use Rattle.sql_readers.specs.Ladder.{inner, reference, comparison, negation, unary, signed, negated, expression};
 ghost use Rattle.sql_readers.specs.Levels.{chain_at, operands};

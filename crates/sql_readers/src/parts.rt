@@ -4,7 +4,8 @@ ghost use Rattle.text_grammar.specs.Readers.{Gives};
 ghost use Rattle.iv_types.specs.declared.expression.Ref.{Ref};
 ghost use Rattle.iv_types.specs.declared.statement.Order.{Order};
 ghost use Rattle.iv_types.specs.Limits.{the_limits};
-ghost use Rattle.iv_types.specs.Syntax.{Tree, ItemTree, SetTree, tree, trees, item_tree, set_tree};
+ghost use Rattle.iv_types.specs.Syntax.{Tree, ItemTree, SetTree};
+ghost use Rattle.iv_types.specs.Trees.{tree, trees, item_tree, set_tree};
 ghost use Rattle.sql_readers.specs.Ladder.{name_reader, reference, expression};
 ghost use Rattle.sql_readers.specs.Statements.{key_reader, direction, enclosed, alias, item, count_item, sum_item, plain_item, tuple, assignment, order};
 

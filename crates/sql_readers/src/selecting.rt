@@ -2,7 +2,7 @@
 ghost use Rattle.std.specs.Prelude.{◌≡◌, ◌<◌, ◌≤◌, ◌+◌, length, map, IfOk};
 ghost use Rattle.text_grammar.specs.Readers.{Gives};
 ghost use Rattle.iv_types.specs.Limits.{the_limits};
-ghost use Rattle.iv_types.specs.Syntax.{item_tree, join_tree, perhaps_tree, query_tree, statement_tree};
+ghost use Rattle.iv_types.specs.Trees.{item_tree, join_tree, perhaps_tree, query_tree, statement_tree};
 ghost use Rattle.sql_readers.specs.Statements.{items, counted, source, joined, from, condition, grouping, ordering, query, selection};
 ghost use Rattle.sql_readers.specs.Passing.{sources};
 

@@ -9,9 +9,8 @@ use Rattle.iv_types.specs.declared.value.Kind.{Kind}
 use Rattle.iv_types.specs.declared.value.Value.{Value}
 use Rattle.iv_types.specs.declared.statement.ColumnDef.{ColumnDef}
 use Rattle.iv_types.specs.declared.catalog.TableDef.{TableDef}
-use Rattle.iv_types.specs.Definitions.{kinds_of}
+use Rattle.iv_types.specs.Encoding.{kinds_of, FitAll, Fits, key_bytes}
 use Rattle.iv_types.specs.declared.expression.ColumnAt.{ColumnAt}
-use Rattle.iv_types.specs.Encoding.{FitAll, Fits, key_bytes}
 use Rattle.iv_types.specs.Syntax.{Tree, SetTree, insert, update, delete}
 use Rattle.iv_meaning.specs.Schema.{Object, table, index, view, numbered, named, column_names, object_columns, items_at, key_kinds, as_table}
 use Rattle.iv_meaning.specs.Database.{Row, Database, key_of}

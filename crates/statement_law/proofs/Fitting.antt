@@ -14,8 +14,7 @@ use Rattle.iv_types.specs.declared.catalog.TableDef.{TableDef}
 use Rattle.iv_types.specs.declared.statement.Mode.TheVariants.{Serial}
 use Rattle.iv_types.specs.declared.lock.LockMode.TheVariants.{Exclusive}
 use Rattle.iv_types.specs.declared.lock.Want.{Want}
-use Rattle.iv_types.specs.Definitions.{kinds_of}
-use Rattle.iv_types.specs.Encoding.{FitAll, row_cmp}
+use Rattle.iv_types.specs.Encoding.{kinds_of, FitAll, row_cmp}
 use Rattle.iv_types.specs.Intervals.{point}
 use Rattle.iv_types.specs.Syntax.{Tree}
 use Rattle.iv_types.proofs.Orders.{row_cmp_total}

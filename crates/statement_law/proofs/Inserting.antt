@@ -7,8 +7,7 @@ use Rattle.std.proofs.Common.{append-nil, append_assoc}
 use Rattle.std.specs.FinMap.{get}
 use Rattle.iv_types.specs.declared.catalog.TableDef.{TableDef}
 use Rattle.iv_types.specs.declared.refusal.Refusal.TheVariants.{DuplicateKey}
-use Rattle.iv_types.specs.Definitions.{kinds_of}
-use Rattle.iv_types.specs.Encoding.{FitAll}
+use Rattle.iv_types.specs.Encoding.{kinds_of, FitAll}
 use Rattle.iv_types.specs.Intervals.{point}
 use Rattle.table_laws.specs.Place.{Place}
 use Rattle.table_laws.specs.Kept.{redo}

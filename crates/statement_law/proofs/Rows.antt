@@ -7,8 +7,7 @@ use Rattle.std.proofs.lemmas.List.Elements.{All-weaker, All-contains_itself, rec
 use Rattle.std.specs.FinMap.{get, entries}
 use Rattle.std.specs.Cmp.{tied_itself}
 use Rattle.iv_types.specs.declared.catalog.TableDef.{TableDef}
-use Rattle.iv_types.specs.Definitions.{kinds_of}
-use Rattle.iv_types.specs.Encoding.{FitAll}
+use Rattle.iv_types.specs.Encoding.{kinds_of, FitAll}
 use Rattle.iv_types.specs.Intervals.{point}
 use Rattle.iv_types.specs.declared.value.Interval.{Interval}
 use Rattle.table_laws.specs.Place.{Place}

@@ -18,11 +18,11 @@ use Rattle.iv_types.specs.declared.value.Kind.{Kind}
 use Rattle.iv_types.specs.declared.catalog.TableDef.{TableDef}
 use Rattle.iv_types.specs.declared.catalog.Definition.{Definition}
 use Rattle.iv_types.specs.declared.catalog.Definition.TheVariants.{Table, Index, View}
-use Rattle.iv_types.specs.Definitions.{Definitions, kinds_of}
-use Rattle.iv_types.specs.Encoding.{FitAll, value_bytes, row_bytes}
+use Rattle.iv_types.specs.Definitions.{Definitions}
+use Rattle.iv_types.specs.Encoding.{kinds_of, FitAll, value_bytes, row_bytes}
 use Rattle.iv_types.specs.Maps.{Map, Entry}
 use Rattle.iv_meaning.specs.Schema as schema
-use Rattle.iv_meaning.specs.Schema.{schema_of, object_of}
+use Rattle.iv_meaning.specs.Objects.{schema_of, object_of}
 use Rattle.iv_meaning.specs.Database.{Database, Rows, rows_of, key_of}
 use Rattle.iv_meaning.specs.View.{lies_in, rows_between, object_rows, read}
 use Rattle.row_codec.specs.Laws.{OneSpelling}

@@ -6,8 +6,8 @@ use Rattle.std.specs.Cmp.Lexicographic.{slice_cmp}
 use Rattle.std.specs.Ordering.{nat_cmp}
 use Rattle.iv_types.specs.declared.value.Value.{Value}
 use Rattle.iv_types.specs.declared.catalog.TableDef.{TableDef}
-use Rattle.iv_types.specs.Definitions.{Definitions, kinds_of}
-use Rattle.iv_types.specs.Encoding.{row_bytes}
+use Rattle.iv_types.specs.Definitions.{Definitions}
+use Rattle.iv_types.specs.Encoding.{kinds_of, row_bytes}
 use Rattle.iv_types.specs.Maps.{Map}
 use Rattle.iv_meaning.specs.Database.{Rows}
 use Rattle.table_laws.specs.Place.{place_cmp}

@@ -2,8 +2,7 @@
 ghost use Rattle.std.specs.Prelude.{◌≡◌, List, Some, None, IsSome, IfOk, IfSome};
 ghost use Rattle.std.specs.Option.{option_copied};
 ghost use Rattle.iv_types.specs.declared.value.Value.{Value};
-ghost use Rattle.iv_types.specs.Definitions.{kinds_of};
-ghost use Rattle.iv_types.specs.Encoding.{FitAll, row_bytes};
+ghost use Rattle.iv_types.specs.Encoding.{kinds_of, FitAll, row_bytes};
 ghost use Rattle.table_store.specs.Stored as specs;
 ghost use Rattle.table_store.specs.Stored.{stored, entries_of};
 

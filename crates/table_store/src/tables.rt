@@ -2,9 +2,9 @@
 ghost use Rattle.std.specs.Prelude.{◌≡◌, ℕ, ◌+◌, ◌-◌, ◌^◌, ◌≤◌, min, Some, IfOk, IfSome, OnOk, OnErr};
 ghost use Rattle.std.specs.FinMap as map;
 ghost use Rattle.std.specs.Borrow.{Lends, sem};
-ghost use Rattle.iv_types.specs.Definitions.{kinds_of};
+ghost use Rattle.iv_types.specs.Encoding.{kinds_of};
 ghost use Rattle.iv_types.specs.Maps.{map_size, used};
-ghost use Rattle.iv_meaning.specs.Schema.{schema_of};
+ghost use Rattle.iv_meaning.specs.Objects.{schema_of};
 ghost use Rattle.iv_meaning.specs.Database.{Database};
 ghost use Rattle.iv_meaning.specs.View as view;
 ghost use Rattle.table_store.specs.Stored.{stored, entries_of, HoldsTable, AreRows, Decode, between, before, CanPut, HasRoom, Sets, IsChange, IsKept, CanTakeBack, IsTableAnd, OfTable, SetsRow};

@@ -1,8 +1,8 @@
 -- No clause of `run` rests on this module: it serves contracts between crates.
 --
 -- Acts and answers of the code, as the step relation has them.
-use Rattle.iv_types.specs.Syntax.{statement_tree}
-use Rattle.iv_meaning.specs.Schema.{schema_of}
+use Rattle.iv_types.specs.Trees.{statement_tree}
+use Rattle.iv_meaning.specs.Objects.{schema_of}
 use Rattle.txn_machine.specs.Acts as machine
 use Rattle.txn_machine.specs.Answers as machine_answer
 use Rattle.txn_machine.specs.State as machine_state

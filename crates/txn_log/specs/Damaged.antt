@@ -7,8 +7,7 @@ use Rattle.std.specs.List.{Contains, All}
 use Rattle.std.specs.Str.{bytes_eq}
 use Rattle.byteorder.specs.Endian.{big_bytes}
 use Rattle.iv_types.specs.declared.catalog.TableDef.{TableDef}
-use Rattle.iv_types.specs.Definitions.{kinds_of}
-use Rattle.iv_types.specs.Encoding.{IsHuge, FitAll, row_bytes}
+use Rattle.iv_types.specs.Encoding.{kinds_of, IsHuge, FitAll, row_bytes}
 use Rattle.iv_meaning.specs.Schema.{Schema, Object, table, numbered}
 use Rattle.iv_meaning.specs.Database.{Row, key_of}
 use Rattle.txn_machine.specs.Log.{part_bytes}

@@ -6,12 +6,11 @@ use Rattle.std.specs.Prelude.{◌≡◌, ℕ, ◌+◌, pos, true, List, [], ◌�
 use Rattle.std.specs.FinMap.{get}
 use Rattle.table_laws.specs.Place.{Place}
 use Rattle.iv_types.specs.declared.catalog.TableDef.{TableDef}
-use Rattle.iv_types.specs.Definitions.{kinds_of}
+use Rattle.iv_types.specs.Encoding.{kinds_of, IsHuge, FitAll, key_bytes}
 use Rattle.iv_meaning.specs.Schema as object
 use Rattle.iv_meaning.specs.Schema.{Schema, Object, ViewTree, numbered, group_kinds}
 use Rattle.iv_meaning.specs.Database.{Row, Rows, Database, key_of}
 use Rattle.iv_meaning.specs.Statement as meaning
-use Rattle.iv_types.specs.Encoding.{IsHuge, FitAll, key_bytes}
 use Rattle.txn_machine.specs.Deltas.{RowChange, negated, place_of}
 use Rattle.txn_machine.specs.Stored.{ViewRows, add_to, stored_number}
 use Rattle.txn_machine.specs.May.{FitsUnder}

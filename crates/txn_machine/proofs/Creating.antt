@@ -18,7 +18,7 @@ use Rattle.iv_types.specs.declared.statement.Relation.{Relation}
 use Rattle.iv_types.specs.declared.catalog.TableDef.{TableDef}
 use Rattle.iv_types.specs.declared.catalog.IndexDef.{IndexDef}
 use Rattle.iv_types.specs.declared.catalog.Second.{Second}
-use Rattle.iv_types.specs.Definitions.{kinds_of}
+use Rattle.iv_types.specs.Encoding.{kinds_of}
 use Rattle.iv_types.specs.Syntax as tree
 use Rattle.iv_types.specs.Syntax.{Tree, StatementTree, QueryTree, JoinTree, create_table, create_index, create_view, insert, update, delete, select}
 use Rattle.iv_meaning.specs.Schema.{Schema, Object, table, index, view, ViewTree, numbered, named, as_table, as_index, items_at, indexes_of, sources_of}

@@ -24,8 +24,7 @@ use Rattle.iv_types.specs.declared.lock.Want.{Want}
 use Rattle.iv_types.specs.declared.lock.LockMode.TheVariants.{Share}
 use Rattle.iv_types.specs.declared.catalog.TableDef.{TableDef}
 use Rattle.iv_types.specs.declared.catalog.Second.{Second}
-use Rattle.iv_types.specs.Definitions.{kinds_of}
-use Rattle.iv_types.specs.Encoding.{Fits, FitAll, key_bytes, key_value_bytes}
+use Rattle.iv_types.specs.Encoding.{kinds_of, Fits, FitAll, key_bytes, key_value_bytes}
 use Rattle.iv_types.specs.Syntax as syntax_tree
 use Rattle.iv_types.specs.Syntax.{Tree}
 use Rattle.iv_types.specs.Intervals.{IsBelow, LiesIn, next, point, prefix_interval}

@@ -21,8 +21,7 @@ use Rattle.iv_types.specs.declared.value.Value.{Value}
 use Rattle.iv_types.specs.declared.value.Value.TheVariants.{Number}
 use Rattle.iv_types.specs.declared.value.Interval.{Interval}
 use Rattle.iv_types.specs.declared.refusal.EngineRefusal.TheVariants as refusal
-use Rattle.iv_types.specs.Encoding.{key_bytes, row_cmp}
-use Rattle.iv_types.specs.Definitions.{kinds_of}
+use Rattle.iv_types.specs.Encoding.{key_bytes, row_cmp, kinds_of}
 use Rattle.iv_types.specs.Replies.{members}
 use Rattle.iv_types.specs.Intervals.{point}
 use Rattle.table_laws.specs.Place.{Place, place_cmp}

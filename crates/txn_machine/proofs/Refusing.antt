@@ -17,10 +17,9 @@ use Rattle.iv_types.specs.declared.expression.ColumnAt.{ColumnAt}
 use Rattle.iv_types.specs.declared.catalog.TableDef.{TableDef}
 use Rattle.iv_types.specs.declared.catalog.Second.{Second}
 use Rattle.iv_types.specs.declared.statement.ColumnDef.{ColumnDef}
-use Rattle.iv_types.specs.Definitions.{kinds_of}
+use Rattle.iv_types.specs.Encoding.{kinds_of, Fits, FitAll, IsHuge, key_bytes}
 use Rattle.iv_types.specs.Syntax as s
 use Rattle.iv_types.specs.Syntax.{Tree}
-use Rattle.iv_types.specs.Encoding.{Fits, FitAll, IsHuge, key_bytes}
 use Rattle.table_laws.specs.Place.{Place}
 use Rattle.iv_meaning.specs.Types as types
 use Rattle.iv_meaning.specs.Types.{Family, family, family_of_kind, typed, is_truth, is_number, is_text, alike}

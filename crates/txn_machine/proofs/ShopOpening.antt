@@ -6,8 +6,7 @@ use Rattle.std.proofs.lemmas.Option.{none-some}
 use Rattle.std.proofs.lemmas.List.Elements.{All-from_recursion}
 use Rattle.std.specs.FinMap.{empty, get-empty}
 use Rattle.iv_types.specs.declared.value.Kind.TheVariants.{Int}
-use Rattle.iv_types.specs.Encoding.{IsHuge}
-use Rattle.iv_types.specs.Definitions.{kinds_of}
+use Rattle.iv_types.specs.Encoding.{IsHuge, kinds_of}
 use Rattle.table_laws.specs.Place.{Place, place_cmp}
 use Rattle.table_laws.specs.Table.{rows_where}
 use Rattle.iv_meaning.specs.Schema.{Object, table, view, ViewTree, numbered}

@@ -9,8 +9,7 @@ use Rattle.iv_types.specs.declared.lock.GroupDelta.{GroupDelta}
 use Rattle.iv_types.specs.declared.lock.LockMode.{LockMode}
 use Rattle.iv_types.specs.declared.lock.LockMode.TheVariants.{Share, Exclusive, Increment}
 use Rattle.iv_types.specs.declared.catalog.TableDef.{TableDef}
-use Rattle.iv_types.specs.Encoding.{FitAll}
-use Rattle.iv_types.specs.Definitions.{kinds_of}
+use Rattle.iv_types.specs.Encoding.{FitAll, kinds_of}
 use Rattle.iv_types.specs.Syntax.{StatementTree, create_table, create_index, create_view}
 use Rattle.iv_types.specs.Grammar.{Spells}
 use Rattle.iv_meaning.specs.Schema.{Object, table, index, view, numbered}

@@ -7,7 +7,7 @@ use Rattle.table_laws.specs.Place.{Place}
 use Rattle.iv_types.specs.declared.catalog.TableDef.{TableDef}
 use Rattle.iv_types.specs.declared.catalog.IndexDef.{IndexDef}
 use Rattle.iv_types.specs.declared.catalog.Second.{Second}
-use Rattle.iv_types.specs.Definitions.{kinds_of}
+use Rattle.iv_types.specs.Encoding.{kinds_of}
 use Rattle.iv_types.specs.Syntax.{Tree}
 use Rattle.iv_meaning.specs.Schema.{Schema, Object, table, index, view, ViewTree, numbered, items_at, key_kinds, sources_of, kinds_of_table}
 use Rattle.iv_meaning.specs.Shape.{has_arithmetic}

@@ -16,8 +16,7 @@ use Rattle.iv_types.specs.declared.lock.GroupDelta.{GroupDelta}
 use Rattle.iv_types.specs.declared.value.Kind.{Kind}
 use Rattle.iv_types.specs.declared.catalog.TableDef.{TableDef}
 use Rattle.iv_types.specs.declared.expression.ColumnAt.{ColumnAt}
-use Rattle.iv_types.specs.Definitions.{kinds_of}
-use Rattle.iv_types.specs.Encoding.{FitAll, key_bytes, row_cmp}
+use Rattle.iv_types.specs.Encoding.{kinds_of, FitAll, key_bytes, row_cmp}
 use Rattle.iv_types.proofs.Orders.{row_cmp_total}
 use Rattle.row_codec.proofs.KeyOrders.{key_order}
 use Rattle.table_laws.specs.Place.{Place, place_cmp}

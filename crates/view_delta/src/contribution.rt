@@ -3,13 +3,14 @@ ghost use Rattle.std.specs.Prelude.{◌≡◌, ◌++◌, [], ◌∷◌, map, IsN
 ghost use Rattle.std.specs.Option.{option_to_list, option_copied};
 ghost use Rattle.std.specs.List.{filter_map};
 ghost use Rattle.iv_types.specs.Encoding.{FitAll, key_bytes};
-ghost use Rattle.iv_meaning.specs.Schema.{schema_of, view_tree, numbered, kinds_of_table, kind_at, group_kinds};
+ghost use Rattle.iv_meaning.specs.Schema.{numbered, kinds_of_table, kind_at, group_kinds};
+ghost use Rattle.iv_meaning.specs.Objects.{schema_of, view_tree};
 ghost use Rattle.iv_meaning.specs.Database.{Rows};
 ghost use Rattle.iv_meaning.specs.Values.{value_at, is_true};
 ghost use Rattle.iv_meaning.specs.Query.{conjunction, values_at};
 ghost use Rattle.iv_meaning.specs.Grouping.{number_in};
 ghost use Rattle.txn_machine.specs.Deltas.{contributions};
-ghost use Rattle.iv_types.specs.Syntax.{perhaps_tree};
+ghost use Rattle.iv_types.specs.Trees.{perhaps_tree};
 ghost use Rattle.view_delta.specs.Owing.{AddsOne};
 
 use iv_types::{

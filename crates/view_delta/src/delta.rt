@@ -7,7 +7,7 @@ ghost use Rattle.std.specs.Ordering.{int_cmp, is_eq};
 ghost use Rattle.std.specs.Cmp.Lexicographic.{slice_cmp};
 ghost use Rattle.std.specs.Str.{bytes_eq};
 ghost use Rattle.iv_types.specs.Encoding.{IsHuge};
-ghost use Rattle.iv_meaning.specs.Schema.{schema_of, view_tree};
+ghost use Rattle.iv_meaning.specs.Objects.{schema_of, view_tree};
 ghost use Rattle.iv_meaning.specs.Database.{Rows};
 ghost use Rattle.txn_machine.specs.Deltas as machine;
 ghost use Rattle.txn_machine.specs.Deltas.{owed_to, look_ups};

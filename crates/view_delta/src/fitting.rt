@@ -1,7 +1,8 @@
 //! Whether a change can be handed in.
 ghost use Rattle.std.specs.Prelude.{IsTrue, IfSome, ◌↔◌};
 ghost use Rattle.iv_types.specs.Encoding.{FitAll};
-ghost use Rattle.iv_meaning.specs.Schema.{schema_of, numbered, kinds_of_table};
+ghost use Rattle.iv_meaning.specs.Schema.{numbered, kinds_of_table};
+ghost use Rattle.iv_meaning.specs.Objects.{schema_of};
 ghost use Rattle.view_delta.specs.Owing.{RowsFit};
 
 use iv_types::{Catalog, Change, Definition, Row};

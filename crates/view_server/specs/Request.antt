@@ -3,7 +3,7 @@
 -- What a line says, as it is read.
 use Rattle.std.specs.Prelude.{◌≡◌, ◌⊎◌, ℕ, List, Ok, Err}
 use Rattle.iv_types.specs.declared.refusal.Refusal.TheVariants.{NoMemory}
-use Rattle.iv_types.specs.Syntax.{statement_tree}
+use Rattle.iv_types.specs.Trees.{statement_tree}
 use Rattle.iv_meaning.specs.Said.{nothing, bad, runs, unread, IsOfSession, SaysRead}
 use Rattle.iv_meaning.specs.Autocommit.{built_forms}
 use Rattle.view_server.specs.declared.asked.Request.{Request}

@@ -1,6 +1,6 @@
 //! Which parsed statements are of a form that is built.
 ghost use Rattle.std.specs.Prelude.{◌≡◌, false, true, IfSome, IfNone};
-ghost use Rattle.iv_types.specs.Syntax.{statement_tree};
+ghost use Rattle.iv_types.specs.Trees.{statement_tree};
 ghost use Rattle.iv_meaning.specs.Autocommit.{is_built};
 
 use iv_types::Statement;

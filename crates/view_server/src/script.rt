@@ -1,7 +1,7 @@
 //! A run of a script.
 ghost use Rattle.std.specs.Prelude.{◌≡◌, ◌≢◌, ◌↔◌, ◌⊎◌, ◌++◌, ◌∷◌, ◌≤◌, ℕ, List, true, OnOk, OnErr, IsTrue, IsErr, Some, string_bytes};
 ghost use Rattle.iv_types.specs.Faults.{Rose, CountsFault};
-ghost use Rattle.iv_types.specs.Syntax.{statement_tree};
+ghost use Rattle.iv_types.specs.Trees.{statement_tree};
 ghost use Rattle.iv_meaning.specs.Database.{Database};
 ghost use Rattle.iv_meaning.specs.Serial.{World, latest};
 ghost use Rattle.iv_meaning.specs.Autocommit.{is_built};

@@ -1,7 +1,7 @@
 use Rattle.std.proofs.Common.{map, refl}
-use Rattle.iv_types.specs.Syntax.{join_tree}
+use Rattle.iv_types.specs.Trees.{join_tree}
 use Rattle.iv_meaning.specs.Names.{join_faults}
-use Rattle.iv_meaning.specs.Schema.{schema_of}
+use Rattle.iv_meaning.specs.Objects.{schema_of}
 use Rattle.bind_names.proofs.Checking.{all_passed, exits, halted, moved}
 use Rattle.bind_names.proofs.NameLemmas.{bad_join, one_join}
 use Rattle.bind_names.specs.Seeing.{names_in, scope_seen}

@@ -1,5 +1,5 @@
 use Rattle.std.proofs.Common.{◌∙◌, ◌+◌, drop, map, refl, subst, sym}
-use Rattle.iv_types.specs.Syntax.{set_tree}
+use Rattle.iv_types.specs.Trees.{set_tree}
 use Rattle.iv_meaning.specs.Names.{set_faults}
 use Rattle.bind_names.proofs.Checking.{all_passed, before, exits, halted, moved, skip}
 use Rattle.bind_names.specs.Checks.{Refuses}

@@ -1,5 +1,5 @@
 use Rattle.std.proofs.Common.{◌≡◌, drop, map}
-use Rattle.iv_types.specs.Syntax.{set_tree}
+use Rattle.iv_types.specs.Trees.{set_tree}
 use Rattle.iv_meaning.specs.Names.{set_faults}
 use Rattle.bind_names.specs.Seeing.{names_in, scope_seen}
 use Rattle.bind_names.proofs.names.check_sets.Given as goal

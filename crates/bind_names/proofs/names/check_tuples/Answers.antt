@@ -1,6 +1,6 @@
 use Rattle.std.proofs.Common.{◌∙◌, [], List, ap, map, refl, subst, sym}
 use Rattle.std.specs.List.{flat_map}
-use Rattle.iv_types.specs.Syntax.{trees}
+use Rattle.iv_types.specs.Trees.{trees}
 use Rattle.iv_meaning.specs.Names.{expression_faults}
 use Rattle.bind_names.proofs.Checking.{all_passed, before, exits, halted, moved, skip}
 use Rattle.bind_names.specs.Checks.{Refuses}

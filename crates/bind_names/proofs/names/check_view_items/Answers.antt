@@ -1,5 +1,5 @@
 use Rattle.std.proofs.Common.{◌+◌, drop, map, refl}
-use Rattle.iv_types.specs.Syntax.{item_tree}
+use Rattle.iv_types.specs.Trees.{item_tree}
 use Rattle.iv_meaning.specs.Names.{view_item_faults}
 use Rattle.bind_names.proofs.Checking.{all_passed, exits, halted, moved}
 use Rattle.bind_names.proofs.NameLemmas.{bad_view_item, one_view_item}

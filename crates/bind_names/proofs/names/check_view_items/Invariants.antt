@@ -1,5 +1,5 @@
 use Rattle.std.proofs.Common.{◌≡◌, [], drop, map}
-use Rattle.iv_types.specs.Syntax.{item_tree}
+use Rattle.iv_types.specs.Trees.{item_tree}
 use Rattle.iv_meaning.specs.Names.{view_item_faults}
 use Rattle.bind_names.specs.Seeing.{names_in, scope_seen}
 use Rattle.bind_names.proofs.names.check_view_items.Given as goal

@@ -1,5 +1,5 @@
 use Rattle.std.proofs.Common.{◌∙◌, ap, sym}
-use Rattle.iv_types.specs.Syntax.{item_tree}
+use Rattle.iv_types.specs.Trees.{item_tree}
 use Rattle.iv_meaning.specs.Names.{names_of_item}
 use Rattle.bind_names.specs.Seeing.{scope_seen}
 use Rattle.std.proofs.lemmas.Result.{IfOk-weaker}

@@ -1,7 +1,8 @@
 use Rattle.std.proofs.Common.{◌++◌, map, ap, ◌∙◌, refl}
 use Rattle.std.specs.List.{filter_map}
 use Rattle.std.specs.Option.{option_to_list}
-use Rattle.iv_meaning.specs.Schema.{schema_of, sources_of, kinds_of_table, kind_at, numbered, view_tree}
+use Rattle.iv_meaning.specs.Schema.{sources_of, kinds_of_table, kind_at, numbered}
+use Rattle.iv_meaning.specs.Objects.{schema_of, view_tree}
 use Rattle.iv_types.proofs.Walks.{walked_at, all_gathered, one_filtered}
 use Rattle.bind_names.proofs.seeing.kinds_of_group.Goals as goal
 

@@ -1,6 +1,7 @@
 use Rattle.std.proofs.Common.{◌≡◌, ◌++◌, map, drop}
 use Rattle.std.specs.List.{filter_map}
-use Rattle.iv_meaning.specs.Schema.{schema_of, sources_of, kinds_of_table, kind_at, numbered, view_tree, group_kinds}
+use Rattle.iv_meaning.specs.Schema.{sources_of, kinds_of_table, kind_at, numbered, group_kinds}
+use Rattle.iv_meaning.specs.Objects.{schema_of, view_tree}
 use Rattle.bind_names.proofs.seeing.kinds_of_group.Given as goal
 
 abbrev pub invariant-loop-place : goal.invariant-loop-place

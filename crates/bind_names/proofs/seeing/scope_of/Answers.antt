@@ -1,7 +1,7 @@
 use Rattle.std.proofs.Common.{◌++◌, ◌∷◌, [], map, ap, ◌∙◌, refl}
 use Rattle.std.proofs.lemmas.List.{map_push}
-use Rattle.iv_types.specs.Syntax.{join_tree}
-use Rattle.iv_meaning.specs.Schema.{schema_of}
+use Rattle.iv_types.specs.Trees.{join_tree}
+use Rattle.iv_meaning.specs.Objects.{schema_of}
 use Rattle.iv_meaning.specs.Names.{visible}
 use Rattle.bind_names.specs.Seeing.{scope_seen, visible_of}
 use Rattle.iv_types.proofs.Walks.{gathered, all_gathered}

@@ -1,6 +1,6 @@
 use Rattle.std.proofs.Common.{◌≡◌, ◌++◌, map, drop}
-use Rattle.iv_types.specs.Syntax.{query_tree, join_tree}
-use Rattle.iv_meaning.specs.Schema.{schema_of}
+use Rattle.iv_types.specs.Trees.{query_tree, join_tree}
+use Rattle.iv_meaning.specs.Objects.{schema_of}
 use Rattle.iv_meaning.specs.Names.{visible, scope_of}
 use Rattle.bind_names.specs.Seeing.{scope_seen}
 use Rattle.bind_names.proofs.seeing.scope_of.Given as goal

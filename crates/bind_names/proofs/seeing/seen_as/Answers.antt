@@ -1,7 +1,8 @@
 use Rattle.std.proofs.Common.{◌≡◌, IfOk, sym, subst, ap, ◌∙◌, Option, Some, None}
 use Rattle.std.specs.Option.{option_map}
 use Rattle.iv_types.specs.Definitions as definitions
-use Rattle.iv_meaning.specs.Schema.{schema_of, Object, object_of, named}
+use Rattle.iv_meaning.specs.Schema.{Object, named}
+use Rattle.iv_meaning.specs.Objects.{schema_of, object_of}
 use Rattle.bind_names.specs.Seeing.{visible_of, visible_as}
 use Rattle.bind_names.proofs.Objects.{named_alike}
 use Rattle.bind_names.proofs.seeing.seen_as.Goals as goal

@@ -1,5 +1,5 @@
 use Rattle.std.proofs.Common.{◌≡◌, ◌++◌, map, drop}
-use Rattle.iv_types.specs.Definitions.{kinds_of}
+use Rattle.iv_types.specs.Encoding.{kinds_of}
 use Rattle.bind_names.proofs.seeing.table_kinds.Given as goal
 
 abbrev pub invariant-loop-column : goal.invariant-loop-column

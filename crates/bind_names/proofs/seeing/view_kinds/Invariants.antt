@@ -1,6 +1,7 @@
 use Rattle.std.proofs.Common.{◌≡◌, ◌++◌, map, drop}
 use Rattle.iv_types.specs.declared.value.Kind.TheVariants.{Huge}
-use Rattle.iv_meaning.specs.Schema.{schema_of, view_tree, object_kinds, view}
+use Rattle.iv_meaning.specs.Schema.{object_kinds, view}
+use Rattle.iv_meaning.specs.Objects.{schema_of, view_tree}
 use Rattle.bind_names.proofs.seeing.view_kinds.Given as goal
 
 abbrev pub invariant-sums : goal.invariant-sums

@@ -1,6 +1,6 @@
 use Rattle.std.proofs.Common.{◌∙◌, ◌&&◌, ◌+◌, ap, drop, map, sym}
 use Rattle.std.specs.List.{list_all}
-use Rattle.iv_types.specs.Syntax.{item_tree}
+use Rattle.iv_types.specs.Trees.{item_tree}
 use Rattle.iv_meaning.specs.Types.{item_typed}
 use Rattle.iv_types.proofs.Walks.{ended}
 use Rattle.bind_names.specs.Seeing.{scope_seen}

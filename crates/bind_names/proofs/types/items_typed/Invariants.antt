@@ -1,6 +1,6 @@
 use Rattle.std.proofs.Common.{◌≡◌, drop, map}
 use Rattle.std.specs.List.{list_all}
-use Rattle.iv_types.specs.Syntax.{item_tree}
+use Rattle.iv_types.specs.Trees.{item_tree}
 use Rattle.iv_meaning.specs.Types.{item_typed}
 use Rattle.bind_names.specs.Seeing.{scope_seen}
 use Rattle.bind_names.proofs.types.items_typed.Given as goal

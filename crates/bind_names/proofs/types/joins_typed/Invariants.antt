@@ -1,6 +1,6 @@
 use Rattle.std.proofs.Common.{◌≡◌, drop, map}
 use Rattle.std.specs.List.{list_all}
-use Rattle.iv_types.specs.Syntax.{join_tree}
+use Rattle.iv_types.specs.Trees.{join_tree}
 use Rattle.iv_meaning.specs.Types.{family_in, is_truth}
 use Rattle.bind_names.specs.Seeing.{scope_seen}
 use Rattle.bind_names.proofs.types.joins_typed.Given as goal

@@ -1,6 +1,6 @@
 use Rattle.std.proofs.Common.{◌≡◌, drop, map}
 use Rattle.std.specs.List.{list_all}
-use Rattle.iv_types.specs.Syntax.{set_tree}
+use Rattle.iv_types.specs.Trees.{set_tree}
 use Rattle.iv_meaning.specs.Types.{set_typed}
 use Rattle.bind_names.specs.Seeing.{visible_of}
 use Rattle.bind_names.proofs.types.sets_typed.Given as goal

@@ -1,5 +1,5 @@
 use Rattle.std.proofs.Common.{◌∙◌, ◌&&◌, ◌+◌, ap, drop, sym}
-use Rattle.iv_types.specs.Syntax.{tree, trees}
+use Rattle.iv_types.specs.Trees.{tree, trees}
 use Rattle.iv_meaning.specs.Types.{tuple_typed}
 use Rattle.bind_names.proofs.TypeLemmas.{one_typed}
 use Rattle.iv_types.proofs.Walks.{ended}

@@ -1,5 +1,5 @@
 use Rattle.std.proofs.Common.{◌≡◌, drop}
-use Rattle.iv_types.specs.Syntax.{trees}
+use Rattle.iv_types.specs.Trees.{trees}
 use Rattle.iv_meaning.specs.Types.{tuple_typed}
 use Rattle.bind_names.proofs.types.tuple_typed.Given as goal
 

@@ -1,6 +1,6 @@
 use Rattle.std.proofs.Common.{◌∙◌, ◌&&◌, ◌+◌, List, ap, drop, map, sym}
 use Rattle.std.specs.List.{list_all}
-use Rattle.iv_types.specs.Syntax.{trees}
+use Rattle.iv_types.specs.Trees.{trees}
 use Rattle.iv_meaning.specs.Types.{tuple_typed}
 use Rattle.iv_types.proofs.Walks.{ended}
 use Rattle.iv_types.specs.declared.expression.Expr.{Expr}

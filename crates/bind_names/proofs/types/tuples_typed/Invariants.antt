@@ -1,6 +1,6 @@
 use Rattle.std.proofs.Common.{◌≡◌, drop, map}
 use Rattle.std.specs.List.{list_all}
-use Rattle.iv_types.specs.Syntax.{trees}
+use Rattle.iv_types.specs.Trees.{trees}
 use Rattle.iv_meaning.specs.Types.{tuple_typed}
 use Rattle.bind_names.proofs.types.tuples_typed.Given as goal
 

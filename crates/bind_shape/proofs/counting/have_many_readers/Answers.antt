@@ -1,6 +1,6 @@
 use Rattle.std.proofs.Common.{◌∙◌, ◌||◌, ◌+◌, ap, drop, nat_lt, sym}
 use Rattle.std.specs.List.{filter_map, list_any}
-use Rattle.iv_meaning.specs.Schema.{schema_of}
+use Rattle.iv_meaning.specs.Objects.{schema_of}
 use Rattle.iv_meaning.specs.Shape.{numbers_of, object_number, readers}
 use Rattle.bind_shape.proofs.LimitLemmas.{one_number}
 use Rattle.iv_types.proofs.Walks.{ended}

@@ -1,6 +1,6 @@
 use Rattle.std.proofs.Common.{◌≡◌, ◌+◌, drop, nat_lt}
 use Rattle.std.specs.List.{list_any}
-use Rattle.iv_meaning.specs.Schema.{schema_of}
+use Rattle.iv_meaning.specs.Objects.{schema_of}
 use Rattle.iv_meaning.specs.Shape.{numbers_of, readers}
 use Rattle.bind_names.specs.Seeing.{scope_seen}
 use Rattle.bind_shape.proofs.counting.have_many_readers.Given as goal

@@ -1,6 +1,6 @@
 use Rattle.std.proofs.Common.{map, refl}
 use Rattle.std.specs.List.{flat_map}
-use Rattle.iv_types.specs.Syntax.{item_tree}
+use Rattle.iv_types.specs.Trees.{item_tree}
 use Rattle.iv_meaning.specs.Shape.{named_items}
 use Rattle.iv_types.proofs.Walks.{all_gathered, gathered}
 use Rattle.bind_names.specs.Seeing.{scope_seen}

@@ -1,6 +1,6 @@
 use Rattle.std.proofs.Common.{◌≡◌, ◌++◌, drop, map}
 use Rattle.std.specs.List.{flat_map}
-use Rattle.iv_types.specs.Syntax.{item_tree}
+use Rattle.iv_types.specs.Trees.{item_tree}
 use Rattle.iv_meaning.specs.Shape.{named_items}
 use Rattle.bind_shape.specs.Items.{items_seen}
 use Rattle.bind_names.specs.Seeing.{scope_seen}

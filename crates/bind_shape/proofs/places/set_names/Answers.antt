@@ -1,6 +1,6 @@
 use Rattle.std.proofs.Common.{◌∷◌, ◌∙◌, [], ap, map, refl}
 use Rattle.std.proofs.lemmas.List.{map_push}
-use Rattle.iv_types.specs.Syntax.{set_tree}
+use Rattle.iv_types.specs.Trees.{set_tree}
 use Rattle.iv_types.proofs.Walks.{all_gathered, gathered}
 use Rattle.bind_names.specs.Seeing.{names_in}
 use Rattle.bind_shape.proofs.places.set_names.Goals as goal

@@ -1,5 +1,5 @@
 use Rattle.std.proofs.Common.{◌≡◌, ◌++◌, drop, map}
-use Rattle.iv_types.specs.Syntax.{set_tree}
+use Rattle.iv_types.specs.Trees.{set_tree}
 use Rattle.bind_names.specs.Seeing.{names_in}
 use Rattle.bind_shape.proofs.places.set_names.Given as goal
 

@@ -1,7 +1,7 @@
 use Rattle.std.proofs.Common.{◌++◌, ◌∷◌, []}
 use mathlib.Core.Path.{ap, ◌∙◌}
 use Rattle.std.proofs.lemmas.List.{map_push}
-use Rattle.iv_meaning.specs.Schema.{object_of, schema_of}
+use Rattle.iv_meaning.specs.Objects.{object_of, schema_of}
 use Rattle.query_laws.proofs.CreatingLemmas.{created_law}
 use Rattle.list_engine.proofs.creating.create.Goals as goal
 

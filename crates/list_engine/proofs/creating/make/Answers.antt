@@ -1,7 +1,7 @@
 use Rattle.std.proofs.Common.{Err, []}
 use mathlib.Core.Path.{sym, ap, subst, ◌∙◌}
 use Rattle.std.proofs.lemmas.Result.{err_from_is_err_and}
-use Rattle.iv_meaning.specs.Schema.{object_of, view_tree}
+use Rattle.iv_meaning.specs.Objects.{object_of, view_tree}
 use Rattle.list_store.specs.Held.{has_rows}
 use Rattle.list_engine.specs.Creating.{IsListed}
 use Rattle.list_store.specs.Made.{IsMade}

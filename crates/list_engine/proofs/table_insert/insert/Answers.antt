@@ -4,8 +4,9 @@ use Rattle.std.proofs.lemmas.Result.{err_from_is_err_and}
 use mathlib.Core.Path.{sym, ap, subst, ◌∙◌}
 use Rattle.iv_types.specs.declared.refusal.Refusal.{Refusal}
 use Rattle.iv_types.specs.declared.refusal.Refusal.TheVariants.{NoMemory}
-use Rattle.iv_types.specs.Syntax.{trees}
-use Rattle.iv_meaning.specs.Schema.{numbered, object_of, table}
+use Rattle.iv_types.specs.Trees.{trees}
+use Rattle.iv_meaning.specs.Schema.{numbered, table}
+use Rattle.iv_meaning.specs.Objects.{object_of}
 use Rattle.iv_meaning.specs.Statement.{Accepted, Refused, bound_meaning, tuple_rows}
 use Rattle.iv_meaning.specs.Statement as statement
 use Rattle.row_eval.proofs.Groups.{given}

@@ -3,7 +3,7 @@ use mathlib.Core.Path.{refl, sym, ap, subst, ◌∙◌}
 use Rattle.std.proofs.lemmas.Result.{err_from_is_err_and}
 use Rattle.iv_types.specs.declared.value.Kind.TheVariants.{Int}
 use Rattle.iv_types.specs.declared.value.Value.{Value}
-use Rattle.iv_types.specs.Syntax.{tree, trees}
+use Rattle.iv_types.specs.Trees.{tree, trees}
 use Rattle.iv_meaning.specs.Values.{meaning}
 use Rattle.iv_meaning.specs.Grouping.{all_of}
 use Rattle.iv_meaning.specs.Statement.{stored, tuple_values}

@@ -1,6 +1,6 @@
 use Rattle.std.proofs.Common.{◌≡◌, drop, map}
-use Rattle.iv_types.specs.Syntax.{trees}
-use Rattle.iv_types.specs.Definitions.{kinds_of}
+use Rattle.iv_types.specs.Trees.{trees}
+use Rattle.iv_types.specs.Encoding.{kinds_of}
 use Rattle.iv_meaning.specs.Grouping.{all_of}
 use Rattle.iv_meaning.specs.Statement.{tuple_values, tuple_rows}
 use Rattle.list_store.proofs.Collecting.{behind}

@@ -4,7 +4,7 @@ use Rattle.std.specs.List.{slice_get}
 use Rattle.std.proofs.lemmas.List.{map_push}
 use Rattle.std.proofs.lemmas.Option.{slice_get_within, get_or_from_slice_get}
 use Rattle.iv_types.proofs.Walks.{all_gathered, gathered}
-use Rattle.iv_meaning.specs.Schema.{object_of, schema_of}
+use Rattle.iv_meaning.specs.Objects.{object_of, schema_of}
 use Rattle.list_store.proofs.CatalogLemmas.{at_number, none_at}
 use Rattle.list_store.proofs.copying.copied_catalog.Goals as goal
 

@@ -1,5 +1,5 @@
 use Rattle.std.proofs.Common.{◌≡◌, ◌++◌, drop, map}
-use Rattle.iv_meaning.specs.Schema.{object_of, schema_of}
+use Rattle.iv_meaning.specs.Objects.{object_of, schema_of}
 use Rattle.list_store.proofs.copying.copied_catalog.Given as goal
 
 abbrev pub invariant-loop-number : goal.invariant-loop-number

@@ -2,7 +2,8 @@ use Rattle.std.proofs.Common.{◌≡◌, Some, [], ◌∷◌, true, rules}
 use mathlib.Core.Path.{sym, ap, subst, ◌∙◌}
 use Rattle.std.specs.Option.{option_map, option_copied}
 use Rattle.std.specs.List.{AllByRecursion}
-use Rattle.iv_meaning.specs.Schema.{numbered, object_of, table, view, view_tree, ViewTree}
+use Rattle.iv_meaning.specs.Schema.{numbered, table, view, ViewTree}
+use Rattle.iv_meaning.specs.Objects.{object_of, view_tree}
 use Rattle.iv_meaning.specs.Database.{rows_of}
 use Rattle.iv_meaning.specs.View.{whole_view}
 use Rattle.row_eval.proofs.Groups.{given}

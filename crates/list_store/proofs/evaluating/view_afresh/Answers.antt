@@ -1,5 +1,5 @@
 use mathlib.Core.Path.{subst}
-use Rattle.iv_meaning.specs.Schema.{view_tree}
+use Rattle.iv_meaning.specs.Objects.{view_tree}
 use Rattle.row_eval.specs.Grouped.{Gives}
 use Rattle.list_store.proofs.HeldLemmas.{view_held}
 use Rattle.list_store.proofs.evaluating.view_afresh.Goals as goal

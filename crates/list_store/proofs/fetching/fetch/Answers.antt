@@ -1,7 +1,8 @@
 use Rattle.std.proofs.Common.{◌≡◌, Some, filter, rules, true}
 use mathlib.Core.Path.{sym, ap, subst, ◌∙◌}
 use Rattle.std.specs.Option.{option_map, option_copied}
-use Rattle.iv_meaning.specs.Schema.{Schema, numbered, object_of, table, view, view_tree, schema_of}
+use Rattle.iv_meaning.specs.Schema.{Schema, numbered, table, view}
+use Rattle.iv_meaning.specs.Objects.{object_of, view_tree, schema_of}
 use Rattle.iv_meaning.specs.Database.{key_of}
 use Rattle.iv_meaning.specs.View.{read, lies_in, view_key}
 use Rattle.row_eval.specs.Fresh.{table_rows}

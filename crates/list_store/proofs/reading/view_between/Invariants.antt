@@ -1,5 +1,5 @@
 use Rattle.std.proofs.Common.{◌≡◌, ◌++◌, filter, drop}
-use Rattle.iv_meaning.specs.Schema.{schema_of, view_tree}
+use Rattle.iv_meaning.specs.Objects.{schema_of, view_tree}
 use Rattle.iv_meaning.specs.View.{lies_in, view_key}
 use Rattle.list_store.proofs.reading.view_between.Given as goal
 

@@ -1,7 +1,7 @@
 use Rattle.std.proofs.Common.{refl, ap, arith}
 use Rattle.std.specs.FinMap.{empty}
 use Rattle.iv_meaning.specs.Database.{Database}
-use Rattle.iv_meaning.specs.Schema.{schema_of}
+use Rattle.iv_meaning.specs.Objects.{schema_of}
 use Rattle.txn_machine.specs.Log.{unlimited}
 use Rattle.txn_machine.specs.State.{opened_state}
 use Rattle.txn_machine.specs.Store.{opened}

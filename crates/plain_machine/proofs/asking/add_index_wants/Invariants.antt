@@ -1,5 +1,5 @@
 use Rattle.std.proofs.Common.{◌≡◌, ◌++◌, drop}
-use Rattle.iv_meaning.specs.Schema.{schema_of}
+use Rattle.iv_meaning.specs.Objects.{schema_of}
 use Rattle.plain_machine.specs.Asking.{index_wants}
 use Rattle.plain_machine.proofs.asking.add_index_wants.Given as goal
 

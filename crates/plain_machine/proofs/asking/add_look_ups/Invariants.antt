@@ -1,6 +1,6 @@
 use Rattle.std.proofs.Common.{◌≡◌, ◌++◌, drop}
 use Rattle.std.specs.List.{flat_map}
-use Rattle.iv_meaning.specs.Schema.{schema_of}
+use Rattle.iv_meaning.specs.Objects.{schema_of}
 use Rattle.txn_machine.specs.Deltas.{look_ups, views_of}
 use Rattle.view_delta.specs.Owing.{row_change}
 use Rattle.plain_machine.proofs.asking.add_look_ups.Given as goal

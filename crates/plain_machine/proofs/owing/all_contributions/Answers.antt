@@ -1,5 +1,5 @@
 use Rattle.std.proofs.Common.{refl, ap, ◌∙◌}
-use Rattle.iv_meaning.specs.Schema.{schema_of, view_tree}
+use Rattle.iv_meaning.specs.Objects.{schema_of, view_tree}
 use Rattle.iv_types.proofs.Walks.{all_gathered}
 use Rattle.view_delta.proofs.Alone.{no_second}
 use Rattle.plain_machine.specs.Owing.{contributions_of}

@@ -1,5 +1,5 @@
 use Rattle.std.proofs.Common.{◌≡◌, ◌++◌, drop}
-use Rattle.iv_meaning.specs.Schema.{schema_of, view_tree}
+use Rattle.iv_meaning.specs.Objects.{schema_of, view_tree}
 use Rattle.plain_machine.specs.Owing.{contributions_of}
 use Rattle.plain_machine.proofs.owing.all_contributions.Given as goal
 

@@ -1,7 +1,7 @@
 use Rattle.std.proofs.Common.{ap, ◌∙◌}
 use Rattle.std.specs.FinMap.{empty}
 use Rattle.std.proofs.lemmas.Result.{IfOk-weaker}
-use Rattle.iv_meaning.specs.Schema.{schema_of, view_tree}
+use Rattle.iv_meaning.specs.Objects.{schema_of, view_tree}
 use Rattle.txn_machine.specs.Deltas.{contributions}
 use Rattle.plain_machine.proofs.owing.contribution_by.Goals as goal
 

@@ -1,7 +1,7 @@
 use Rattle.std.proofs.Common.{List, ◌++◌, drop}
 use Rattle.std.specs.List.{AllZip}
 use Rattle.table_laws.specs.Table.{rows_where}
-use Rattle.iv_meaning.specs.Schema.{schema_of, view_tree}
+use Rattle.iv_meaning.specs.Objects.{schema_of, view_tree}
 use Rattle.iv_meaning.specs.Database.{Row}
 use Rattle.txn_machine.specs.Stored.{IsShown, is_shown}
 use Rattle.plain_machine.proofs.reading.shown.Given as goal

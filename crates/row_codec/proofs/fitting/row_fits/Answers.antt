@@ -1,7 +1,6 @@
 use Rattle.std.proofs.Common.{◌≡◌, ◌<◌, List, length, true, arith, ap, sym, subst}
 use Rattle.iv_types.specs.declared.value.Value.{Value}
-use Rattle.iv_types.specs.Encoding.{FitAll}
-use Rattle.iv_types.specs.Definitions.{kinds_of}
+use Rattle.iv_types.specs.Encoding.{FitAll, kinds_of}
 use Rattle.row_codec.proofs.Columns.{refuted, fit_lengths, fits_at, fitting_more, kind_at, count_kinds}
 use Rattle.row_codec.proofs.fitting.row_fits.Goals as goal
 

@@ -1,4 +1,4 @@
-use Rattle.iv_types.specs.Definitions.{kinds_of}
+use Rattle.iv_types.specs.Encoding.{kinds_of}
 use Rattle.row_codec.proofs.Columns.{Fitting}
 use Rattle.row_codec.proofs.fitting.row_fits.Given as goal
 

@@ -2,7 +2,7 @@ use Rattle.std.proofs.Common.{◌<◌, ◌≤◌, length, arith, refl}
 use Rattle.std.proofs.lemmas.Result.{err_from_is_err_and}
 use Rattle.row_codec.proofs.Columns.{taken_more, taken_fails, taken_over, some_left, kind_at, count_kinds}
 use Rattle.iv_types.specs.BadRow.{RowBreaks}
-use Rattle.iv_types.specs.Definitions.{kinds_of}
+use Rattle.iv_types.specs.Encoding.{kinds_of}
 use Rattle.row_codec.proofs.rows.columns_of.Goals as goal
 
 pub returns-in_err-value-clause-fault : goal.returns-in_err-value-clause-fault

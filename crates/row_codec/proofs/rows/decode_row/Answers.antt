@@ -1,6 +1,6 @@
 use Rattle.std.proofs.Common.{◌∙◌}
 use Rattle.std.proofs.lemmas.Result.{err_from_is_err_and}
-use Rattle.iv_types.specs.Definitions.{kinds_of}
+use Rattle.iv_types.specs.Encoding.{kinds_of}
 use Rattle.row_codec.proofs.Formats.{same_again, no_fault}
 use Rattle.row_codec.proofs.RowFormat.{row_format}
 use Rattle.row_codec.proofs.rows.decode_row.Goals as goal

@@ -1,6 +1,6 @@
 use Rattle.std.proofs.Common.{◌<◌, length, arith}
 use Rattle.row_codec.proofs.Columns.{written_inside, written_fits, written_more, kind_at, count_kinds}
-use Rattle.iv_types.specs.Definitions.{kinds_of}
+use Rattle.iv_types.specs.Encoding.{kinds_of}
 use Rattle.row_codec.proofs.rows.encode_row.Goals as goal
 
 pub bounds-values-place : goal.bounds-values-place

@@ -1,5 +1,4 @@
-use Rattle.iv_types.specs.Encoding.{value_bytes}
-use Rattle.iv_types.specs.Definitions.{kinds_of}
+use Rattle.iv_types.specs.Encoding.{value_bytes, kinds_of}
 use Rattle.row_codec.proofs.Columns.{Written}
 use Rattle.row_codec.proofs.rows.encode_row.Given as goal
 

@@ -1,5 +1,6 @@
 use mathlib.Core.Path.{◌∙◌}
-use Rattle.iv_meaning.specs.Schema.{Schema, ViewTree, schema_of, view_tree, group_kinds}
+use Rattle.iv_meaning.specs.Schema.{Schema, ViewTree, group_kinds}
+use Rattle.iv_meaning.specs.Objects.{schema_of, view_tree}
 use Rattle.row_eval.proofs.Keeping.{row_at, row_wide, row_group}
 use Rattle.row_eval.proofs.kept_view.kept_rows.Goals as goal
 

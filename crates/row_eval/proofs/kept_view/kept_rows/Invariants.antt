@@ -1,5 +1,5 @@
 use Rattle.std.proofs.Common.{◌≡◌, ◌++◌, drop, map}
-use Rattle.iv_meaning.specs.Schema.{schema_of, view_tree}
+use Rattle.iv_meaning.specs.Objects.{schema_of, view_tree}
 use Rattle.row_eval.specs.Fresh.{view_row}
 use Rattle.row_eval.proofs.kept_view.kept_rows.Given as goal
 

@@ -1,6 +1,7 @@
 use Rattle.std.proofs.Common.{◌≡◌, ◌++◌, drop, map}
 use Rattle.std.specs.List.{filter_map}
-use Rattle.iv_meaning.specs.Schema.{schema_of, view_tree, numbered, kinds_of_table, sources_of, kind_at}
+use Rattle.iv_meaning.specs.Schema.{numbered, kinds_of_table, sources_of, kind_at}
+use Rattle.iv_meaning.specs.Objects.{schema_of, view_tree}
 use Rattle.row_eval.proofs.kept_view.kinds_of_group.Given as goal
 
 abbrev pub invariant-loop-index : goal.invariant-loop-index

@@ -1,7 +1,8 @@
 use Rattle.std.proofs.Common.{◌↔◌, drop}
 use Rattle.std.specs.List.{AllByRecursion}
 use Rattle.iv_types.specs.Encoding.{FitAll}
-use Rattle.iv_meaning.specs.Schema.{schema_of, numbered, kinds_of_table}
+use Rattle.iv_meaning.specs.Schema.{numbered, kinds_of_table}
+use Rattle.iv_meaning.specs.Objects.{schema_of}
 use Rattle.row_eval.proofs.readable.all_fit.Given as goal
 
 abbrev pub invariant-loop-index : goal.invariant-loop-index

@@ -1,4 +1,5 @@
-use Rattle.iv_meaning.specs.Schema.{schema_of, numbered, kinds_of_table}
+use Rattle.iv_meaning.specs.Schema.{numbered, kinds_of_table}
+use Rattle.iv_meaning.specs.Objects.{schema_of}
 use Rattle.row_eval.proofs.Reading.{not_as_many}
 use Rattle.row_eval.proofs.readable.are_alike.Goals as goal
 

@@ -1,5 +1,6 @@
 use Rattle.std.proofs.Common.{◌↔◌, drop}
-use Rattle.iv_meaning.specs.Schema.{schema_of, numbered, kinds_of_table}
+use Rattle.iv_meaning.specs.Schema.{numbered, kinds_of_table}
+use Rattle.iv_meaning.specs.Objects.{schema_of}
 use Rattle.row_eval.specs.Fresh.{AreAlike}
 use Rattle.row_eval.proofs.readable.are_alike.Given as goal
 

@@ -1,5 +1,5 @@
-use Rattle.iv_types.specs.Syntax.{statement_tree}
-use Rattle.iv_meaning.specs.Schema.{schema_of}
+use Rattle.iv_types.specs.Trees.{statement_tree}
+use Rattle.iv_meaning.specs.Objects.{schema_of}
 use Rattle.sql_bind.proofs.BindLemmas.{whole_found, whole_fault}
 use Rattle.sql_bind.proofs.binding.bind.Goals as goal
 

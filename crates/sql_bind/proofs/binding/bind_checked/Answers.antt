@@ -1,7 +1,7 @@
 use Rattle.std.proofs.Common.{ap}
 use Rattle.iv_types.specs.declared.statement.Statement.{Statement}
-use Rattle.iv_types.specs.Syntax.{statement_tree}
-use Rattle.iv_meaning.specs.Schema.{schema_of}
+use Rattle.iv_types.specs.Trees.{statement_tree}
+use Rattle.iv_meaning.specs.Objects.{schema_of}
 use Rattle.sql_bind.specs.Passes.{later_faults}
 use Rattle.sql_bind.proofs.binding.bind_checked.Goals as goal
 

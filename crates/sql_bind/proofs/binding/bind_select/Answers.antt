@@ -1,6 +1,6 @@
 use Rattle.std.proofs.Common.{◌≡◌, ◌++◌, ◌∷◌, ◌∙◌, [], List, ap, length, map, not, subst}
 use Rattle.std.specs.List.{flat_map, list_all}
-use Rattle.iv_types.specs.Syntax.{item_tree, query_tree}
+use Rattle.iv_types.specs.Trees.{item_tree, query_tree}
 use Rattle.iv_meaning.specs.Binding.{limit_faults, shape_faults}
 use Rattle.iv_meaning.specs.Shape.{at_most, group_of, is_order, items_of, named_items, resolved}
 use Rattle.bind_names.proofs.Checking.{before, exits}
@@ -8,7 +8,6 @@ use Rattle.bind_names.specs.Checks.{Refuses}
 use Rattle.bind_shape.specs.Items.{items_seen}
 use Rattle.bind_shape.specs.Rules.{rules_of_query}
 use Rattle.bind_names.specs.Seeing.{scope_seen}
-use Rattle.iv_types.specs.Syntax.{item_tree}
 use Rattle.iv_types.specs.declared.expression.Ref.{Ref}
 use Rattle.iv_types.specs.declared.statement.Item.{Item}
 use Rattle.iv_types.specs.declared.expression.ColumnAt.{ColumnAt}

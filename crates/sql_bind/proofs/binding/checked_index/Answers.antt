@@ -1,6 +1,6 @@
-use Rattle.iv_meaning.specs.Schema.{schema_of}
+use Rattle.iv_meaning.specs.Objects.{schema_of}
 use Rattle.iv_meaning.specs.Names.{seen_as}
-use Rattle.iv_types.specs.Syntax.{statement_tree}
+use Rattle.iv_types.specs.Trees.{statement_tree}
 use Rattle.bind_names.specs.Seeing.{visible_of}
 use Rattle.sql_bind.proofs.BindLemmas.{checked_index}
 use Rattle.sql_bind.proofs.binding.checked_index.Goals as goal

@@ -1,5 +1,5 @@
-use Rattle.iv_meaning.specs.Schema.{schema_of}
-use Rattle.iv_types.specs.Syntax.{query_tree}
+use Rattle.iv_meaning.specs.Objects.{schema_of}
+use Rattle.iv_types.specs.Trees.{query_tree}
 use Rattle.bind_names.specs.Seeing.{scope_seen}
 use Rattle.sql_bind.proofs.BindLemmas.{checked_select}
 use Rattle.sql_bind.proofs.binding.checked_select.Goals as goal

@@ -1,5 +1,5 @@
-use Rattle.iv_meaning.specs.Schema.{schema_of}
-use Rattle.iv_types.specs.Syntax.{statement_tree}
+use Rattle.iv_meaning.specs.Objects.{schema_of}
+use Rattle.iv_types.specs.Trees.{statement_tree}
 use Rattle.sql_bind.proofs.BindLemmas.{checked_table}
 use Rattle.sql_bind.proofs.binding.checked_table.Goals as goal
 

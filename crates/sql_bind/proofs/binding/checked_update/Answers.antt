@@ -1,7 +1,7 @@
 use Rattle.std.proofs.Common.{map}
-use Rattle.iv_meaning.specs.Schema.{schema_of}
+use Rattle.iv_meaning.specs.Objects.{schema_of}
 use Rattle.iv_meaning.specs.Names.{seen_as}
-use Rattle.iv_types.specs.Syntax.{set_tree, perhaps_tree}
+use Rattle.iv_types.specs.Trees.{set_tree, perhaps_tree}
 use Rattle.bind_names.specs.Seeing.{visible_of}
 use Rattle.sql_bind.proofs.BindLemmas.{checked_update, updated}
 use Rattle.sql_bind.proofs.binding.checked_update.Goals as goal

@@ -1,6 +1,6 @@
 use Rattle.std.proofs.Common.{◌∙◌, ◌&&◌, ◌+◌, ◌==◌, List, ap, drop, length, map, sym}
 use Rattle.std.specs.List.{list_all}
-use Rattle.iv_types.specs.Syntax.{trees}
+use Rattle.iv_types.specs.Trees.{trees}
 use Rattle.iv_types.proofs.Walks.{ended}
 use Rattle.iv_types.specs.declared.expression.Expr.{Expr}
 use Rattle.iv_types.proofs.Walks.{moved_on, left_at}

@@ -1,6 +1,6 @@
 use Rattle.std.proofs.Common.{◌≡◌, ◌==◌, drop, length, map}
 use Rattle.std.specs.List.{list_all}
-use Rattle.iv_types.specs.Syntax.{trees}
+use Rattle.iv_types.specs.Trees.{trees}
 use Rattle.sql_bind.proofs.change_binding.have_length.Given as goal
 
 abbrev pub invariant-loop-tuple : goal.invariant-loop-tuple

@@ -1,5 +1,5 @@
 use Rattle.std.proofs.Common.{◌++◌, ◌∷◌, [], append_assoc, ap, refl, ◌∙◌, map, sym}
-use Rattle.iv_types.specs.Syntax.{tree}
+use Rattle.iv_types.specs.Trees.{tree}
 use Rattle.iv_types.proofs.Walks.{walked_at, all_gathered}
 use Rattle.sql_bind.specs.Changing.{set_at}
 use Rattle.bind_names.specs.Seeing.{scope_seen}

@@ -1,5 +1,5 @@
 use Rattle.std.proofs.Common.{◌≡◌, ◌++◌, drop, map}
-use Rattle.iv_types.specs.Syntax.{tree}
+use Rattle.iv_types.specs.Trees.{tree}
 use Rattle.sql_bind.specs.Changing.{set_at}
 use Rattle.bind_names.specs.Seeing.{scope_seen}
 use Rattle.iv_meaning.specs.Bound.{set_tree}

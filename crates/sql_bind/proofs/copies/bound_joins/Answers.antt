@@ -1,6 +1,6 @@
 use Rattle.std.proofs.Common.{◌++◌, ◌∷◌, ◌∙◌, [], ap, map, refl}
 use Rattle.std.proofs.lemmas.List.{map_push}
-use Rattle.iv_types.specs.Syntax.{join_tree, tree, trees}
+use Rattle.iv_types.specs.Trees.{join_tree, tree, trees}
 use Rattle.iv_meaning.specs.Names.{bound}
 use Rattle.iv_types.proofs.Walks.{all_gathered, gathered}
 use Rattle.bind_names.specs.Seeing.{scope_seen}

@@ -1,5 +1,5 @@
 use Rattle.std.proofs.Common.{◌≡◌, ◌++◌, drop, map}
-use Rattle.iv_types.specs.Syntax.{join_tree, trees}
+use Rattle.iv_types.specs.Trees.{join_tree, trees}
 use Rattle.iv_meaning.specs.Names.{bound}
 use Rattle.bind_names.specs.Seeing.{scope_seen}
 use Rattle.sql_bind.proofs.copies.bound_joins.Given as goal

@@ -1,5 +1,5 @@
 use Rattle.std.proofs.Common.{◌≡◌, ◌++◌, drop}
-use Rattle.iv_types.specs.Syntax.{trees}
+use Rattle.iv_types.specs.Trees.{trees}
 use Rattle.sql_bind.proofs.copies.copied_tuple.Given as goal
 
 abbrev pub invariant-loop-expression : goal.invariant-loop-expression

@@ -1,6 +1,6 @@
 use Rattle.std.proofs.Common.{◌++◌, ◌∷◌, ◌∙◌, [], ap, map, refl}
 use Rattle.std.proofs.lemmas.List.{map_push}
-use Rattle.iv_types.specs.Syntax.{trees}
+use Rattle.iv_types.specs.Trees.{trees}
 use Rattle.iv_types.proofs.Walks.{all_gathered, gathered}
 use Rattle.sql_bind.proofs.copies.copied_tuples.Goals as goal
 

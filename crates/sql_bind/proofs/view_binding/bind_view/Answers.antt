@@ -1,9 +1,9 @@
 use Rattle.std.proofs.Common.{◌≡◌, ◌++◌, ◌∙◌, List, ap, length, map, subst}
 use Rattle.std.specs.List.{flat_map}
 use Rattle.iv_types.specs.Printing.{statement_size}
-use Rattle.iv_types.specs.Syntax.{item_tree, query_tree, statement_tree}
+use Rattle.iv_types.specs.Trees.{item_tree, query_tree, statement_tree}
 use Rattle.iv_meaning.specs.Binding.{limit_faults, shape_faults}
-use Rattle.iv_meaning.specs.Schema.{schema_of}
+use Rattle.iv_meaning.specs.Objects.{schema_of}
 use Rattle.iv_meaning.specs.Shape.{group_of, items_of, named_items, resolved}
 use Rattle.bind_names.proofs.Checking.{before, exits}
 use Rattle.bind_names.specs.Checks.{Refuses}
@@ -12,7 +12,6 @@ use Rattle.bind_shape.specs.Limits.{limits_of_view}
 use Rattle.bind_shape.specs.Rules.{rules_of_query, rules_of_view}
 use Rattle.bind_names.specs.Seeing.{scope_seen}
 use Rattle.sql_bind.specs.Viewing.{view_lacks}
-use Rattle.iv_types.specs.Syntax.{item_tree}
 use Rattle.iv_types.specs.declared.expression.Ref.{Ref}
 use Rattle.iv_types.specs.declared.statement.Item.{Item}
 use Rattle.iv_types.specs.declared.expression.ColumnAt.{ColumnAt}

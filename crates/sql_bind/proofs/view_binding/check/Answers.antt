@@ -1,8 +1,8 @@
 use Rattle.std.proofs.Common.{◌++◌, length}
 use Rattle.iv_types.specs.Printing.{statement_size}
-use Rattle.iv_types.specs.Syntax.{query_tree, statement_tree}
+use Rattle.iv_types.specs.Trees.{query_tree, statement_tree}
 use Rattle.iv_meaning.specs.Binding.{limit_faults, shape_faults}
-use Rattle.iv_meaning.specs.Schema.{schema_of}
+use Rattle.iv_meaning.specs.Objects.{schema_of}
 use Rattle.bind_names.proofs.Checking.{before, behind, exits}
 use Rattle.bind_shape.specs.Items.{items_seen}
 use Rattle.bind_shape.specs.Limits.{limits_of_view}

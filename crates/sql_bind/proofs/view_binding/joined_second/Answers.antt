@@ -1,6 +1,6 @@
 use Rattle.std.proofs.Common.{◌∙◌, List, ap}
 use Rattle.std.specs.List.{filter_map}
-use Rattle.iv_types.specs.Syntax.{tree}
+use Rattle.iv_types.specs.Trees.{tree}
 use Rattle.iv_meaning.specs.Names.{bound}
 use Rattle.sql_bind.proofs.ViewLemmas.{columns_joined}
 use Rattle.bind_shape.specs.Joining.{pairs_of}

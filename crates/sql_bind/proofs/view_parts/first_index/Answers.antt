@@ -1,5 +1,5 @@
 use Rattle.std.proofs.Common.{◌∙◌, ◌≤◌, ◌+◌, ap, drop, length, sym}
-use Rattle.iv_meaning.specs.Schema.{object_of, schema_of}
+use Rattle.iv_meaning.specs.Objects.{object_of, schema_of}
 use Rattle.sql_bind.proofs.ViewLemmas.{one_found}
 use Rattle.iv_types.proofs.Walks.{ended}
 use Rattle.sql_bind.specs.Viewing.{first_some, or_else, serves}

@@ -1,5 +1,5 @@
 use Rattle.std.proofs.Common.{◌≡◌, drop}
-use Rattle.iv_meaning.specs.Schema.{schema_of}
+use Rattle.iv_meaning.specs.Objects.{schema_of}
 use Rattle.sql_bind.specs.Viewing.{first_some, serves}
 use Rattle.sql_bind.proofs.view_parts.first_index.Given as goal
 

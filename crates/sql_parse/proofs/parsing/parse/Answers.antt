@@ -3,7 +3,7 @@ use Rattle.text_grammar.specs.declared.fault.ParseError.{ParseError}
 use Rattle.text_grammar.specs.Readers.{Fails}
 use Rattle.iv_types.specs.Limits.{the_limits}
 use Rattle.sql_readers.specs.Statements.{whole_line}
-use Rattle.iv_types.specs.Syntax.{statement_tree}
+use Rattle.iv_types.specs.Trees.{statement_tree}
 use Rattle.iv_types.specs.Grammar.{Spells}
 use Rattle.iv_types.specs.Refusing.{Refuses}
 use Rattle.iv_types.specs.Tokens.{tokens, Placed}

@@ -4,7 +4,7 @@ use Rattle.std.specs.Int.RustNames.{FitsSigned}
 use Rattle.std.proofs.lemmas.Int.{to_z-of_z}
 use Rattle.sql_pieces.specs.Sinks.{number_piece}
 use Rattle.iv_types.specs.Printing.{bare_pieces}
-use Rattle.iv_types.specs.Syntax.{tree}
+use Rattle.iv_types.specs.Trees.{tree}
 use Rattle.sql_pieces.proofs.Pieces.{behind, nothing, same_pieces, bare_number}
 use Rattle.sql_pieces.proofs.writing.+expressions.Goals as goal
 

@@ -1,5 +1,5 @@
 use Rattle.std.proofs.Common.{refl}
-use Rattle.iv_types.specs.Syntax.{statement_tree}
+use Rattle.iv_types.specs.Trees.{statement_tree}
 use Rattle.iv_types.specs.Printing.{statement_pieces}
 use Rattle.sql_pieces.proofs.Counting.{counted}
 use Rattle.sql_pieces.proofs.writing.statement_bytes.Goals as goal

@@ -1,4 +1,4 @@
-use Rattle.iv_types.specs.Syntax.{trees}
+use Rattle.iv_types.specs.Trees.{trees}
 use Rattle.iv_types.specs.Printing.{tuple_pieces}
 use Rattle.sql_pieces.proofs.Pieces.{behind, listed_as}
 use Rattle.sql_pieces.proofs.writing.write_insertion.Goals as goal

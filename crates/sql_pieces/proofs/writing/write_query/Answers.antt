@@ -1,4 +1,4 @@
-use Rattle.iv_types.specs.Syntax.{item_tree, join_tree}
+use Rattle.iv_types.specs.Trees.{item_tree, join_tree}
 use Rattle.iv_types.specs.Printing.{item_pieces, join_pieces}
 use Rattle.sql_pieces.proofs.Pieces.{behind, listed_as, each_as}
 use Rattle.sql_pieces.proofs.writing.write_query.Goals as goal

@@ -1,4 +1,4 @@
-use Rattle.iv_types.specs.Syntax.{set_tree}
+use Rattle.iv_types.specs.Trees.{set_tree}
 use Rattle.iv_types.specs.Printing.{set_pieces}
 use Rattle.sql_pieces.proofs.Pieces.{behind, listed_as}
 use Rattle.sql_pieces.proofs.writing.write_update.Goals as goal

@@ -2,7 +2,7 @@ use Rattle.std.proofs.Common.{length, List, arith, ap, sym, ◌∙◌, refl, dro
 use Rattle.std.proofs.lemmas.Result.{err_from_is_err_and}
 use Rattle.text_grammar.proofs.Loops.{passed_on}
 use Rattle.iv_types.specs.Limits.{the_limits}
-use Rattle.iv_types.specs.Syntax.{tree}
+use Rattle.iv_types.specs.Trees.{tree}
 use Rattle.sql_readers.proofs.Steps.{chain_full, chain_ends, turned, turn_fails, negation_deep, negation_full, negation_not, signed_minus_deep, signed_minus, signed_open_deep, signed_open}
 use Rattle.sql_readers.proofs.expressions.+expressions.Goals as goal
 

@@ -1,7 +1,7 @@
 use Rattle.std.proofs.Common.{◌≡◌, ◌<◌, length, ℕ, ◌+◌, ◌*◌}
 use Rattle.text_grammar.specs.Readers.{folded, is}
 use Rattle.iv_types.specs.Limits.{the_limits}
-use Rattle.iv_types.specs.Syntax.{tree}
+use Rattle.iv_types.specs.Trees.{tree}
 use Rattle.iv_types.specs.Expressions.{operations, joined}
 use Rattle.sql_readers.specs.declared.expressions.Level.{Level}
 use Rattle.sql_readers.specs.declared.expressions.Level.TheVariants as level

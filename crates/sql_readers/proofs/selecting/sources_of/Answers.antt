@@ -3,7 +3,7 @@ use Rattle.std.proofs.lemmas.List.{map_push, length-map}
 use Rattle.std.proofs.lemmas.Result.{err_from_is_err_and}
 use Rattle.text_grammar.proofs.Loops.{passed_on}
 use Rattle.iv_types.specs.Limits.{the_limits}
-use Rattle.iv_types.specs.Syntax.{join_tree}
+use Rattle.iv_types.specs.Trees.{join_tree}
 use Rattle.sql_readers.proofs.Rounds.{source_on, source_fails, source_over, sources_end}
 use Rattle.sql_readers.proofs.selecting.sources_of.Goals as goal
 

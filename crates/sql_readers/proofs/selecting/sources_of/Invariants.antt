@@ -1,6 +1,6 @@
 use Rattle.std.proofs.Common.{◌≡◌, ◌<◌, length, map}
 use Rattle.iv_types.specs.Limits.{the_limits}
-use Rattle.iv_types.specs.Syntax.{join_tree}
+use Rattle.iv_types.specs.Trees.{join_tree}
 use Rattle.sql_readers.specs.Statements.{from}
 use Rattle.sql_readers.proofs.Rounds.{more_sources}
 use Rattle.sql_readers.proofs.selecting.sources_of.Given as goal

@@ -1,6 +1,6 @@
 use Rattle.std.proofs.Common.{◌++◌, refl}
 use Rattle.std.specs.Prelude.{slice_get}
-use Rattle.iv_types.specs.Definitions.{kinds_of}
+use Rattle.iv_types.specs.Encoding.{kinds_of}
 use Rattle.iv_types.proofs.Walks.{all_gathered, one_filtered, walked_at}
 use Rattle.iv_meaning.specs.Schema.{items_at}
 use Rattle.store_cases.proofs.table_facts.kinds_at.Goals as goal

@@ -1,5 +1,5 @@
 use Rattle.std.proofs.Common.{◌≡◌, ◌++◌, drop}
-use Rattle.iv_types.specs.Definitions.{kinds_of}
+use Rattle.iv_types.specs.Encoding.{kinds_of}
 use Rattle.iv_meaning.specs.Schema.{items_at, key_kinds}
 use Rattle.store_cases.proofs.table_facts.kinds_at.Given as goal
 

@@ -4,7 +4,7 @@ use Rattle.std.specs.Option.{option_to_list}
 use Rattle.std.proofs.lemmas.Option.{slice_get_past}
 use Rattle.std.proofs.lemmas.List.{length-map}
 use Rattle.iv_types.specs.declared.statement.ColumnDef.{ColumnDef}
-use Rattle.iv_types.specs.Definitions.{kinds_of}
+use Rattle.iv_types.specs.Encoding.{kinds_of}
 use Rattle.store_cases.proofs.table_facts.push_kind.Goals as goal
 
 pub returns-in-None : goal.returns-in-None

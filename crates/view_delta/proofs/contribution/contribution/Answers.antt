@@ -3,7 +3,8 @@ use Rattle.std.specs.List.{AllByRecursion}
 use Rattle.iv_types.specs.Encoding.{IsHuge}
 use Rattle.iv_types.specs.declared.expression.ColumnAt.{ColumnAt}
 use Rattle.std.specs.Prelude.{List}
-use Rattle.iv_meaning.specs.Schema.{schema_of, numbered, kinds_of_table}
+use Rattle.iv_meaning.specs.Schema.{numbered, kinds_of_table}
+use Rattle.iv_meaning.specs.Objects.{schema_of}
 use Rattle.iv_meaning.specs.Values.{value_at}
 use Rattle.iv_meaning.specs.Grouping.{number_in}
 use Rattle.view_delta.proofs.Alone.{sums_huge}

@@ -1,5 +1,6 @@
 use Rattle.std.proofs.Common.{sym, ◌∙◌, ◌∷◌, []}
-use Rattle.iv_meaning.specs.Schema.{schema_of, numbered, kinds_of_table}
+use Rattle.iv_meaning.specs.Schema.{numbered, kinds_of_table}
+use Rattle.iv_meaning.specs.Objects.{schema_of}
 use Rattle.view_delta.proofs.Alone.{group_fits_as}
 use Rattle.view_delta.proofs.contribution.group_of.Goals as goal
 

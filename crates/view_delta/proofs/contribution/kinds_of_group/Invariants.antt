@@ -1,6 +1,7 @@
 use Rattle.std.proofs.Common.{◌≡◌, ◌++◌, [], ◌∷◌, drop}
 use Rattle.std.specs.List.{filter_map}
-use Rattle.iv_meaning.specs.Schema.{schema_of, numbered, kinds_of_table, kind_at}
+use Rattle.iv_meaning.specs.Schema.{numbered, kinds_of_table, kind_at}
+use Rattle.iv_meaning.specs.Objects.{schema_of}
 use Rattle.view_delta.proofs.contribution.kinds_of_group.Given as goal
 
 abbrev pub invariant-loop-index : goal.invariant-loop-index

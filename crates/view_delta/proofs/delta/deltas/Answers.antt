@@ -4,7 +4,8 @@ use Rattle.std.specs.Prelude.{◌==◌, List, Option, None, ◌≡◌}
 use Rattle.std.specs.Option.{option_to_list, is_some}
 use Rattle.iv_types.specs.declared.lock.GroupDelta.{GroupDelta}
 use Rattle.iv_types.specs.declared.catalog.Second.{Second}
-use Rattle.iv_meaning.specs.Schema.{Schema, ViewTree, schema_of, view_tree}
+use Rattle.iv_meaning.specs.Schema.{Schema, ViewTree}
+use Rattle.iv_meaning.specs.Objects.{schema_of, view_tree}
 use Rattle.iv_meaning.specs.Database.{Rows}
 use Rattle.txn_machine.specs.Deltas as machine
 use Rattle.view_delta.specs.Owing.{row_change}

@@ -1,5 +1,5 @@
 use Rattle.std.proofs.Common.{refl, inl, inr}
-use Rattle.iv_types.specs.Syntax.{statement_tree}
+use Rattle.iv_types.specs.Trees.{statement_tree}
 use Rattle.view_server.proofs.Reading.{form_left}
 use Rattle.view_server.proofs.request.asked.Goals as goal
 

@@ -5,7 +5,7 @@ use Rattle.iv_types.specs.declared.refusal.EngineRefusal.TheVariants.{NoMemory}
 use Rattle.list_engine.specs.Engine.{Moved}
 use Rattle.std.proofs.Common.{Some, length}
 use Rattle.std.proofs.lemmas.List.{length-map}
-use Rattle.iv_meaning.specs.Schema.{object_of}
+use Rattle.iv_meaning.specs.Objects.{object_of}
 use Rattle.list_engine.proofs.engine.ListEngine.begin.Goals as goal
 
 pub returns-in_default : goal.returns-in_default

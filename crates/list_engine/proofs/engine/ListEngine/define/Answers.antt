@@ -3,8 +3,9 @@ use mathlib.Core.Logic.{inl, inr}
 use Rattle.list_engine.specs.State.{counted}
 use Rattle.std.proofs.Common.{◌+◌}
 use Rattle.std.specs.List.{AllByRecursion}
-use Rattle.iv_types.specs.Syntax.{statement_tree}
-use Rattle.iv_meaning.specs.Schema.{Object, object_of}
+use Rattle.iv_types.specs.Trees.{statement_tree}
+use Rattle.iv_meaning.specs.Schema.{Object}
+use Rattle.iv_meaning.specs.Objects.{object_of}
 use Rattle.iv_meaning.specs.Database.{Database}
 use Rattle.iv_meaning.specs.Statement.{keep, defines}
 use Rattle.iv_meaning.specs.Transaction.{bound_or_refused}

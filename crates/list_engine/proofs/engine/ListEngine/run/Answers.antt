@@ -1,5 +1,6 @@
 use Rattle.std.proofs.Common.{refl}
-use Rattle.iv_types.specs.Syntax.{StatementTree, statement_tree}
+use Rattle.iv_types.specs.Syntax.{StatementTree}
+use Rattle.iv_types.specs.Trees.{statement_tree}
 use Rattle.list_engine.specs.Whole.{means_whole}
 use Rattle.list_engine.specs.Engine.{Answers, EndsAs}
 use Rattle.list_store.proofs.HeldLemmas.{if_ok}

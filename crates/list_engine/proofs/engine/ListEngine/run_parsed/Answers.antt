@@ -3,7 +3,8 @@ use mathlib.Core.Path.{sym, ap, subst, ◌∙◌}
 use mathlib.Core.Logic.{inl, inr}
 use Rattle.iv_types.specs.declared.refusal.Refusal.TheVariants.{NoMemory}
 use Rattle.iv_types.specs.declared.reply.Reply.TheVariants as reply
-use Rattle.iv_types.specs.Syntax.{StatementTree, statement_tree}
+use Rattle.iv_types.specs.Syntax.{StatementTree}
+use Rattle.iv_types.specs.Trees.{statement_tree}
 use Rattle.iv_meaning.specs.Schema.{Schema}
 use Rattle.iv_meaning.specs.Binding.{bind}
 use Rattle.iv_meaning.specs.Statement.{Refused}

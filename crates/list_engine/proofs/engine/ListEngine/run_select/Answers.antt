@@ -3,7 +3,8 @@ use mathlib.Core.Path.{sym, ap, subst, ◌∙◌}
 use Rattle.iv_types.specs.declared.refusal.Refusal.TheVariants.{NoMemory}
 use Rattle.iv_types.specs.declared.reply.Reply.TheVariants as reply
 use Rattle.iv_types.specs.declared.statement.Mode.TheVariants.{Serial}
-use Rattle.iv_meaning.specs.Schema.{Schema, schema_of}
+use Rattle.iv_meaning.specs.Schema.{Schema}
+use Rattle.iv_meaning.specs.Objects.{schema_of}
 use Rattle.iv_meaning.specs.Plan.{Part, plan}
 use Rattle.iv_meaning.specs.View.{select_answer, read as reader}
 use Rattle.iv_meaning.specs.Query.{BoundQuery}

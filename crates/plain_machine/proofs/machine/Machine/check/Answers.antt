@@ -1,6 +1,6 @@
 use Rattle.std.proofs.Common.{◌≡◌, [], ◌∷◌, Err, sym, subst}
 use Rattle.std.proofs.lemmas.Result.{err_from_is_err_and}
-use Rattle.iv_meaning.specs.Schema.{object_of, view_tree}
+use Rattle.iv_meaning.specs.Objects.{object_of, view_tree}
 use Rattle.iv_meaning.specs.Statement.{create_meaning, Accepted, defines}
 use Rattle.list_store.specs.Made.{IsMade}
 use Rattle.list_store.proofs.HeldLemmas.{view_refused}

@@ -1,6 +1,6 @@
 use Rattle.std.proofs.Common.{◌≡◌, ◌+◌, IfSome, refl, sym, ap, ◌∙◌, subst, inl, inr}
-use Rattle.iv_types.specs.Syntax.{statement_tree}
-use Rattle.iv_meaning.specs.Schema.{object_of}
+use Rattle.iv_types.specs.Trees.{statement_tree}
+use Rattle.iv_meaning.specs.Objects.{object_of}
 use Rattle.list_store.proofs.HeldLemmas.{if_ok}
 use Rattle.txn_machine.specs.Acts as act
 use Rattle.txn_machine.specs.Counts.{entry_size, definition_size}

@@ -1,4 +1,4 @@
-use Rattle.iv_types.specs.Syntax.{tree}
+use Rattle.iv_types.specs.Trees.{tree}
 use Rattle.iv_types.specs.Printing.{tree_pieces}
 use Rattle.sql_pieces.proofs.Pieces.{behind, listed_as}
 use Rattle.sql_pieces.proofs.writing.ExprListPart.write.Goals as goal
