@@ -2,13 +2,12 @@
 #![tactic(auto)]
 
 mod intervals;
-mod kinds;
 mod parts;
 mod planning;
 mod terms;
 
 pub use intervals::{fits_columns, interval};
-pub use kinds::{group_kinds, kinds_of, numbered};
+pub use object_kinds::{group_kinds, kinds_of, numbered};
 pub use parts::{Equal, EqualList, Plan, PlanPart, PlanPartList, RangeTerm, RangeTermList};
 pub use planning::{plan, plan_select};
 pub use terms::fits;

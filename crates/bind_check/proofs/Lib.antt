@@ -1,0 +1,4 @@
+pub mod JoinLemmas
+pub mod ShapeLemmas
+pub mod SeenLemmas
+pub mod TestLemmas

@@ -1,0 +1,16 @@
+-- No clause of `run` rests on this module: it serves contracts between crates.
+--
+-- What the types of expressions are.
+use Rattle.std.specs.Prelude.{Option}
+use Rattle.std.specs.Option.{option_map}
+use Rattle.iv_meaning.specs.Types as types
+use Rattle.bind_check.specs.declared.family.Family.{Family}
+use Rattle.bind_check.specs.declared.family.Family.TheVariants as family
+
+abbrev pub family_of : Family → types.Family
+family_of family.Number = types.number
+family_of family.Text = types.text
+family_of family.Truth = types.truth
+
+abbrev pub perhaps_family : Option Family → Option types.Family
+perhaps_family = option_map family_of

@@ -1,0 +1,80 @@
+-- No clause of `run` rests on this module: it serves contracts between crates.
+--
+-- The terms by which two tables are joined, and the index that a join needs.
+use Rattle.std.specs.Prelude.{ℕ, Bool, true, false, ◌&&◌, ◌==◌, List, [], ◌∷◌, map, slice_get, Option, Some, None, if◌then◌else◌}
+use Rattle.std.specs.List.{list_any}
+use Rattle.std.specs.Option.{option_map_or}
+use Rattle.iv_types.specs.declared.expression.Op.{Op}
+use Rattle.iv_types.specs.declared.expression.Op.TheVariants as op
+use Rattle.iv_types.specs.declared.expression.ColumnAt.{ColumnAt}
+use Rattle.iv_types.specs.declared.catalog.TableDef.{TableDef}
+use Rattle.iv_types.specs.Encoding.{kinds_of}
+use Rattle.iv_types.specs.Syntax as s
+use Rattle.iv_types.specs.Syntax.{Tree}
+use Rattle.iv_meaning.specs.Schema.{Object, table, index, view}
+use Rattle.iv_meaning.specs.Shape.{terms, joins_by, both_kinds}
+use Rattle.iv_meaning.specs.Binding.{begins_with}
+
+abbrev pub is_and : Op → Bool
+is_and op.And = true
+is_and _ = false
+
+abbrev pub is_equal : Op → Bool
+is_equal op.Equal = true
+is_equal _ = false
+
+-- a column of the first relation and one of the second
+abbrev pub joined_by : ColumnAt → ColumnAt → Option (ℕ × ℕ)
+joined_by a b =
+    if (a.source == 0) && (b.source == 1) then Some (a.column, b.column)
+    else if (a.source == 1) && (b.source == 0) then Some (b.column, a.column)
+    else None
+
+abbrev pub perhaps_joined : Option ColumnAt → Option ColumnAt → Option (ℕ × ℕ)
+perhaps_joined (Some a) (Some b) = joined_by a b
+perhaps_joined _ _ = None
+
+-- for each term of a condition the columns that it holds equal
+abbrev pub pairs_of : Tree → List (Option (ℕ × ℕ))
+pairs_of e = map joins_by (terms e)
+
+abbrev pub pair_is_key : TableDef → TableDef → ℕ × ℕ → Bool
+pair_is_key first second p = list_any (λ place. place == p.1) second.primary && both_kinds (slice_get (kinds_of first) p.0) (slice_get (kinds_of second) p.1)
+
+abbrev pub is_key : TableDef → TableDef → Option (ℕ × ℕ) → Bool
+is_key first second pair = option_map_or (pair_is_key first second) pair false
+
+-- the term is equal to the column of this place
+abbrev pub is_of_column : ℕ → Option (ℕ × ℕ) → Bool
+is_of_column place pair = option_map_or (λ p. p.1 == place) pair false
+
+-- the place of an expression that is a column
+abbrev pub place_in : Tree → Option ColumnAt
+place_in (s.at place) = Some place
+place_in e = None
+
+-- ---- the index
+
+-- the first that is found
+abbrev pub or_else : {Y : Type 0} → Option Y → Option Y → Option Y
+or_else None other = other
+or_else (Some y) other = Some y
+
+abbrev pub first_some : {X Y : Type 0} → (X → Option Y) → List X → Option Y
+first_some find [] = None
+first_some find (x ∷ xs) = or_else (find x) (first_some find xs)
+
+-- the column that a term holds equal to the column of this place
+abbrev pub left_of : ℕ → Option (ℕ × ℕ) → Option ℕ
+left_of place None = None
+left_of place (Some p) = if p.1 == place then Some p.0 else None
+
+-- an index of a table that begins with these columns
+abbrev pub serves : ℕ → List ℕ → Object → Option ℕ
+serves number columns (index i) = if i.table == number then (if begins_with columns i.columns then Some i.number else None) else None
+serves number columns (table t) = None
+serves number columns (view v) = None
+
+abbrev pub is_at : ℕ → Option ℕ → Bool
+is_at place None = false
+is_at place (Some other) = place == other

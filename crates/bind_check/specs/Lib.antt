@@ -1,0 +1,4 @@
+pub mod Families
+pub mod Checked
+pub mod Joining
+pub mod Shapes

@@ -1,0 +1,234 @@
+//! Whether resolved expressions have their types.
+ghost use Rattle.std.specs.Prelude.{◌≡◌, ◌&&◌, ◌∷◌, [], map, slice_get};
+ghost use Rattle.std.specs.List.{list_all};
+ghost use Rattle.std.specs.Option.{option_copied, option_map};
+ghost use Rattle.iv_types.specs.Trees.{tree, trees, perhaps_tree};
+ghost use Rattle.iv_meaning.specs.Schema.{object_kinds, kind_at};
+ghost use Rattle.iv_meaning.specs.Objects.{schema_of, object_of};
+ghost use Rattle.iv_meaning.specs.Bound.{item_tree, set_tree};
+ghost use Rattle.iv_meaning.specs.Types.{family_of_kind, is_number, is_text, is_truth, is_of, is_value, alike, typed, family_of_pair, family};
+ghost use Rattle.bind_check.specs.Families.{family_of, perhaps_family};
+ghost use Rattle.bind_check.specs.Checked.{query_by, value_typed};
+ghost use Rattle.iv_meaning.specs.Typing.{condition_typed, item_typed, query_typed, set_typed, tuple_typed};
+ghost use Rattle.bind_resolve.specs.Seen.{item_seen, joined_seen, query_seen};
+
+use crate::family::Family;
+use bind_resolve::{Joined, NamedItem, ResolvedQuery};
+use iv_types::{BoundItem, BoundSet, ColumnAt, Expr, ExprList, Kind, KindList, Op};
+use object_kinds::kind_at;
+
+fn family_of_kind(kind: Kind) -> Family
+    ensures { family_of result ≡ family_of_kind kind }
+{
+    match kind {
+        Kind::Int => Family::Number,
+        Kind::Huge => Family::Number,
+        Kind::Text => Family::Text,
+    }
+}
+
+fn is_number(family: Option<Family>) -> bool
+    ensures { result ≡ is_number (perhaps_family family) }
+{
+    matches!(family, Some(Family::Number))
+}
+
+fn is_text(family: Option<Family>) -> bool
+    ensures { result ≡ is_text (perhaps_family family) }
+{
+    matches!(family, Some(Family::Text))
+}
+
+fn is_truth(family: Option<Family>) -> bool
+    ensures { result ≡ is_truth (perhaps_family family) }
+{
+    matches!(family, Some(Family::Truth))
+}
+
+// Whether it is a number or a text.
+fn is_value(family: Option<Family>) -> bool
+    ensures { result ≡ is_value (perhaps_family family) }
+{
+    matches!(family, Some(Family::Number | Family::Text))
+}
+
+// Whether it is of the family of a column.
+fn is_of(kind: Kind, family: Option<Family>) -> bool
+    ensures { result ≡ is_of kind (perhaps_family family) }
+{
+    match kind {
+        Kind::Int => is_number(family),
+        Kind::Huge => is_number(family),
+        Kind::Text => is_text(family),
+    }
+}
+
+// Whether both are numbers or both texts.
+fn alike(left: Option<Family>, right: Option<Family>) -> bool
+    ensures { result ≡ alike (perhaps_family left) (perhaps_family right) }
+{
+    match left {
+        Some(Family::Number) => is_number(right),
+        Some(Family::Text) => is_text(right),
+        Some(Family::Truth) => false,
+        None => false,
+    }
+}
+
+// A family, if the operands have their types.
+fn typed(holds: bool, family: Family) -> Option<Family>
+    ensures { perhaps_family result ≡ typed holds (family_of family) }
+{
+    if holds { Some(family) } else { None }
+}
+
+fn both_truths(left: Option<Family>, right: Option<Family>) -> bool
+    ensures { result ≡ (is_truth (perhaps_family left) && is_truth (perhaps_family right)) }
+{
+    is_truth(left) && is_truth(right)
+}
+
+fn both_numbers(left: Option<Family>, right: Option<Family>) -> bool
+    ensures { result ≡ (is_number (perhaps_family left) && is_number (perhaps_family right)) }
+{
+    is_number(left) && is_number(right)
+}
+
+fn family_of_pair(op: Op, left: Option<Family>, right: Option<Family>) -> Option<Family>
+    ensures { perhaps_family result ≡ family_of_pair op (perhaps_family left) (perhaps_family right) }
+{
+    match op {
+        Op::Or => typed(both_truths(left, right), Family::Truth),
+        Op::And => typed(both_truths(left, right), Family::Truth),
+        Op::Add => typed(both_numbers(left, right), Family::Number),
+        Op::Subtract => typed(both_numbers(left, right), Family::Number),
+        Op::Multiply => typed(both_numbers(left, right), Family::Number),
+        Op::Equal => typed(alike(left, right), Family::Truth),
+        Op::NotEqual => typed(alike(left, right), Family::Truth),
+        Op::Less => typed(alike(left, right), Family::Truth),
+        Op::AtMost => typed(alike(left, right), Family::Truth),
+        Op::Greater => typed(alike(left, right), Family::Truth),
+        Op::AtLeast => typed(alike(left, right), Family::Truth),
+    }
+}
+
+fn family_of_place(kinds: &[KindList], place: ColumnAt) -> Option<Family>
+    ensures { perhaps_family result ≡ option_map family_of_kind (kind_at kinds.now place) }
+{
+    match kind_at(kinds, place) {
+        Some(kind) => Some(family_of_kind(kind)),
+        None => None,
+    }
+}
+
+// The family of a bound expression, or none where a type is wrong.
+fn family(kinds: &[KindList], expression: &Expr) -> Option<Family>
+    ensures { perhaps_family result ≡ family kinds.now (tree expression.now) }
+{
+    match expression {
+        Expr::Number(_) => Some(Family::Number),
+        Expr::Word(_) => Some(Family::Text),
+        Expr::Named(_) => None,
+        Expr::At(place) => family_of_place(kinds, *place),
+        Expr::Not(operand) => typed(is_truth(family(kinds, operand)), Family::Truth),
+        Expr::Minus(operand) => typed(is_number(family(kinds, operand)), Family::Number),
+        Expr::Pair(op, left, right) => {
+            let left = family(kinds, left);
+            let right = family(kinds, right);
+            family_of_pair(*op, left, right)
+        }
+    }
+}
+
+/// Whether a condition, if there is one, is a truth.
+pub fn condition_typed(kinds: &[KindList], condition: &Option<Expr>) -> bool
+    ensures { result ≡ condition_typed kinds.now (perhaps_tree condition.now) }
+{
+    match condition {
+        Some(condition) => is_truth(family(kinds, condition)),
+        None => true,
+    }
+}
+
+fn set_typed(kinds: &[KindList], set: &BoundSet) -> bool
+    ensures { result ≡ set_typed kinds.now (set_tree set.now) }
+{
+    let place = ColumnAt {
+        source: 0,
+        column: set.column,
+    };
+    match kind_at(kinds, place) {
+        Some(kind) => is_of(kind, family(kinds, &set.value)),
+        None => false,
+    }
+}
+
+/// Whether assignments have the families of their columns.
+pub fn sets_typed(kinds: &[KindList], sets: &[BoundSet]) -> bool
+    ensures { result ≡ list_all (λ a. set_typed kinds.now (set_tree a)) sets.now }
+{
+    sets.iter().all(|set| set_typed(kinds, set))
+}
+
+fn item_typed(kinds: &[KindList], item: &BoundItem) -> bool
+    ensures { result ≡ item_typed kinds.now (item_tree item.now) }
+{
+    match item {
+        BoundItem::Count => true,
+        BoundItem::Sum(place) => is_number(family_of_place(kinds, *place)),
+        BoundItem::Plain(value) => is_value(family(kinds, value)),
+    }
+}
+
+fn items_typed(kinds: &[KindList], items: &[NamedItem<'_>]) -> bool
+    ensures { result ≡ list_all (λ i. item_typed kinds.now (item_seen i).item) items.now }
+{
+    items.iter().all(|i| item_typed(kinds, &i.item))
+}
+
+fn joins_typed(kinds: &[KindList], joins: &[Joined<'_>]) -> bool
+    ensures { result ≡ list_all (λ j. is_truth (family kinds.now (joined_seen j).on)) joins.now }
+{
+    joins.iter().all(|j| is_truth(family(kinds, &j.on)))
+}
+
+/// Whether the items and the conditions of a query have their types, where these are the kinds of its relations' columns.
+pub fn query_typed(kinds: &[KindList], query: &ResolvedQuery<'_>) -> bool
+    ensures { result ≡ query_by kinds.now query.now }
+{
+    let items = items_typed(kinds, query.items.as_slice());
+    let joins = joins_typed(kinds, query.joins.as_slice());
+    items && joins && condition_typed(kinds, &query.condition)
+}
+
+// Whether a value may stand in a column of this kind, or behind the last one.
+fn value_typed(kind: Option<&Kind>, value: &Expr) -> bool
+    ensures { result ≡ value_typed (option_copied kind.entry) (tree value.now) }
+{
+    let family = family(&[], value);
+    match kind {
+        Some(kind) => is_of(*kind, family),
+        None => is_value(family),
+    }
+}
+
+// Whether the values of a tuple have the families of the columns.
+fn tuple_typed(kinds: &[Kind], tuple: &[Expr]) -> bool
+    ensures { result ≡ tuple_typed kinds.now (trees tuple.now) }
+{
+    for index in 0..tuple.len() {
+        if !value_typed(kinds.get(index), &tuple[index]) {
+            return false;
+        }
+    }
+    true
+}
+
+/// Whether the values of tuples have the families of the columns, which are of these kinds.
+pub fn tuples_typed(kinds: &[Kind], tuples: &[ExprList]) -> bool
+    ensures { result ≡ list_all (λ tuple. tuple_typed kinds.now (trees tuple)) tuples.now }
+{
+    tuples
+        .iter()
+        .all(|tuple| tuple_typed(kinds, tuple.as_slice()))
+}

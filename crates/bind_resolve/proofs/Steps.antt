@@ -1,0 +1,57 @@
+-- Lemmas on steps that give what is meant, one behind the other.
+use Rattle.std.proofs.Common.{◌≡◌, ◌⊎◌, ℕ, ◌==◌, if◌then◌else◌, Bool, true, false, cond, List, [], ◌∷◌, map, filter, Result, Ok, Err}
+use mathlib.Core.Path.{refl, sym, ap, subst, ◌∙◌}
+use mathlib.Core.Logic.{inl, inr}
+use Rattle.std.specs.Result.{IsErrAnd}
+use Rattle.std.proofs.lemmas.Result.{err_from_is_err_and}
+use Rattle.iv_types.specs.declared.refusal.Refusal.{Refusal}
+use Rattle.iv_types.specs.declared.refusal.Refusal.TheVariants.{NoMemory}
+use Rattle.iv_types.specs.declared.expression.ColumnAt.{ColumnAt}
+use Rattle.iv_meaning.specs.Resolving.{and_then}
+use Rattle.iv_meaning.specs.Resolving as defined
+use Rattle.bind_resolve.specs.declared.resolved.Column.{Column}
+use Rattle.bind_resolve.specs.Meant.{IsMeant}
+use Rattle.bind_resolve.specs.Seen.{column_seen}
+
+-- what is refused is refused whatever comes behind
+pub stops : {A B : Type 0} (meant : Result A Refusal) (more : A → Result B Refusal) (r : Refusal) → (r ≡ NoMemory) ⊎ (meant ≡ Err r) → (r ≡ NoMemory) ⊎ (and_then meant more ≡ Err r)
+stops meant more r (inl e) = inl e
+stops meant more r (inr e) = inr (ap (λ m. and_then m more) e)
+
+-- what is given goes on
+pub goes_on : {A B C : Type 0} (f : C → B) (result : Result C Refusal) (meant : Result A Refusal) (more : A → Result B Refusal) (a : A)
+    → meant ≡ Ok a → IsMeant f result (more a) → IsMeant f result (and_then meant more)
+goes_on f result meant more a is h = subst (λ m. IsMeant f result (and_then m more)) (sym is) h
+
+one_seen : (t : Bool) (c : Column) (cs : List Column) (ds : List defined.Column) → map (λ c. c.place) cs ≡ map (λ c. c.place) ds
+    → map (λ c. c.place) (cond t (c ∷ cs) cs) ≡ map (λ c. c.place) (cond t (column_seen c ∷ ds) ds)
+one_seen true c cs ds e = ap (λ ps. c.place ∷ ps) e
+one_seen false c cs ds e = e
+
+-- what is seen of columns by a test
+pub places_seen : (test : defined.Column → Bool) (cs : List Column) → map (λ c. c.place) (filter (λ c. test (column_seen c)) cs) ≡ map (λ c. c.place) (filter test (map column_seen cs))
+places_seen test [] = refl
+places_seen test (c ∷ cs) = one_seen (test (column_seen c)) c (filter (λ c. test (column_seen c)) cs) (filter test (map column_seen cs)) (places_seen test cs)
+
+-- the one relation that is called so
+pub when_one : (n m : ℕ) (result : Result ColumnAt Refusal) (x y : Result ColumnAt Refusal) → n ≡ m → n ≡ 1 → IsMeant (λ place. place) result x → IsMeant (λ place. place) result (if m == 1 then x else y)
+when_one n m result x y is one h = subst (λ (k : ℕ). IsMeant (λ place. place) result (if k == 1 then x else y)) (sym one ∙ is) h
+
+-- the exit of a `?`
+pub exits_gives : {A B : Type 0} (f : A → B) (result : Result A Refusal) (r : Refusal) (meant : Result B Refusal) → IsErrAnd result (λ y. y ≡ r) → (r ≡ NoMemory) ⊎ (meant ≡ Err r) → IsMeant f result meant
+exits_gives f result r meant h bad =
+    let p = err_from_is_err_and result h in
+    subst (λ x. IsMeant f x meant) (sym p.1) (subst (λ y. (y ≡ NoMemory) ⊎ (meant ≡ Err y)) (sym p.2) bad)
+
+-- the last of five steps that do not ask for one another
+pub fifth_stops : {A B C D E F : Type 0} (m : Result A Refusal) (n : Result B Refusal) (o : Result C Refusal) (p : Result D Refusal) (q : Result E Refusal)
+    (more : A → B → C → D → E → Result F Refusal) (a : A) (b : B) (c : C) (d : D) (r : Refusal)
+    → m ≡ Ok a → n ≡ Ok b → o ≡ Ok c → p ≡ Ok d → (r ≡ NoMemory) ⊎ (q ≡ Err r)
+    → (r ≡ NoMemory) ⊎ (and_then m (λ a. and_then n (λ b. and_then o (λ c. and_then p (λ d. and_then q (λ e. more a b c d e))))) ≡ Err r)
+fifth_stops m n o p q more a b c d r is_a is_b is_c is_d (inl h) = inl h
+fifth_stops m n o p q more a b c d r is_a is_b is_c is_d (inr h) = inr (
+    ap (λ x. and_then x (λ a. and_then n (λ b. and_then o (λ c. and_then p (λ d. and_then q (λ e. more a b c d e)))))) is_a
+    ∙ (ap (λ x. and_then x (λ b. and_then o (λ c. and_then p (λ d. and_then q (λ e. more a b c d e))))) is_b
+    ∙ (ap (λ x. and_then x (λ c. and_then p (λ d. and_then q (λ e. more a b c d e)))) is_c
+    ∙ (ap (λ x. and_then x (λ d. and_then q (λ e. more a b c d e))) is_d
+    ∙ ap (λ x. and_then x (λ e. more a b c d e)) h))))

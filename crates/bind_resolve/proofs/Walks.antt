@@ -1,0 +1,180 @@
+-- Lemmas on items and relations one after another.
+use Rattle.std.proofs.Common.{◌≡◌, ◌⊎◌, ℕ, ◌+◌, ◌<◌, ◌≤◌, Bool, true, false, ◌||◌, IsTrue, List, [], ◌∷◌, ◌++◌, map, length, drop, get_or, Result, Ok, Err, append-nil, append_assoc, if◌then◌else◌}
+use mathlib.Core.Path.{refl, sym, ap, subst, ◌∙◌}
+use mathlib.Core.Logic.{inl, inr}
+use Rattle.std.specs.Str.{bytes_eq}
+use Rattle.std.proofs.lemmas.List.{at_drop_more, at_drop_all}
+use Rattle.std.proofs.lemmas.List.Folds.{list_any-append}
+use Rattle.iv_types.specs.declared.refusal.Refusal.{Refusal}
+use Rattle.iv_types.specs.declared.refusal.Refusal.TheVariants.{NoMemory, NameTaken}
+use Rattle.iv_types.specs.Syntax.{ItemTree, JoinTree}
+use Rattle.iv_meaning.specs.Schema.{Schema}
+use Rattle.iv_meaning.specs.Names.{is_among}
+use Rattle.iv_meaning.specs.Shape.{NamedItem}
+use Rattle.iv_meaning.specs.Resolving.{Scope, Joined, and_then, called, expression, fresh, items_for, items_resolved, joins_resolved, known, names_in, source}
+use Rattle.bind_resolve.specs.Seen.{Alike}
+use Rattle.bind_resolve.specs.Walking.{next_items, next_join, Joins}
+
+-- ---- steps
+
+pub under : {A B : Type 0} (m : Result A Refusal) (f g : A → Result B Refusal) → ((a : A) → f a ≡ g a) → and_then m f ≡ and_then m g
+under (Ok a) f g h = h a
+under (Err r) f g h = refl
+
+pub nested : {A B C : Type 0} (m : Result A Refusal) (f : A → Result B Refusal) (g : B → Result C Refusal) → and_then (and_then m f) g ≡ and_then m (λ a. and_then (f a) g)
+nested (Ok a) f g = refl
+nested (Err r) f g = refl
+
+-- ---- lists that grow step by step: what is found so far stands before what the rest gives
+
+abbrev pub before : {A : Type 0} → List A → Result (List A) Refusal → Result (List A) Refusal
+before found rest = and_then rest (λ more. Ok (found ++ more))
+
+pub starts : {A : Type 0} (rest : Result (List A) Refusal) → before [] rest ≡ rest
+starts (Ok more) = refl
+starts (Err r) = refl
+
+grown : {A : Type 0} (found some : List A) (rest : Result (List A) Refusal) → before found (before some rest) ≡ before (found ++ some) rest
+grown found some (Ok more) = ap Ok (sym (append_assoc found some more))
+grown found some (Err r) = refl
+
+pub grows : {A : Type 0} (found some : List A) (rest next whole : Result (List A) Refusal) → rest ≡ before some next → before found rest ≡ whole → before (found ++ some) next ≡ whole
+grows found some rest next whole step e = sym (grown found some next) ∙ (ap (before found) (sym step) ∙ e)
+
+pub halts : {A : Type 0} (found : List A) (rest whole : Result (List A) Refusal) (r : Refusal) → (r ≡ NoMemory) ⊎ (rest ≡ Err r) → before found rest ≡ whole → (r ≡ NoMemory) ⊎ (whole ≡ Err r)
+halts found rest whole r (inl h) e = inl h
+halts found rest whole r (inr h) e = inr (sym e ∙ ap (before found) h)
+
+pub ends : {A : Type 0} (found : List A) (rest whole : Result (List A) Refusal) → rest ≡ Ok [] → before found rest ≡ whole → whole ≡ Ok found
+ends found rest whole none e = sym e ∙ (ap (before found) none ∙ ap Ok (append-nil found))
+
+-- ---- names in whatever order
+
+or_turned : (a b : Bool) → (a || b) ≡ (b || a)
+or_turned true true = refl
+or_turned true false = refl
+or_turned false true = refl
+or_turned false false = refl
+
+pub turned : (xs ys : List (List ℕ)) → Alike (xs ++ ys) (ys ++ xs)
+turned xs ys name =
+    list_any-append (bytes_eq name) xs ys
+    ∙ (or_turned (is_among xs name) (is_among ys name) ∙ sym (list_any-append (bytes_eq name) ys xs))
+
+pub behind_alike : (names xs ys : List (List ℕ)) → Alike xs ys → Alike (names ++ xs) (names ++ ys)
+behind_alike [] xs ys h = h
+behind_alike (n ∷ names) xs ys h = λ name. ap (λ t. bytes_eq name n || t) (behind_alike names xs ys h name)
+
+pub fresh_alike : (xs ys names : List (List ℕ)) → Alike xs ys → fresh xs names ≡ fresh ys names
+fresh_alike xs ys [] h = refl
+fresh_alike xs ys (n ∷ names) h =
+    ap (λ t. if t then Err (NameTaken n) else fresh (n ∷ xs) names) (h n)
+    ∙ ap (λ m. if is_among ys n then Err (NameTaken n) else m) (fresh_alike (n ∷ xs) (n ∷ ys) names (λ m. ap (λ t. bytes_eq m n || t) (h m)))
+
+-- ---- new names one after another
+
+-- a name that joins others behind them
+pub joined_behind : (others after : List (List ℕ)) (n : List ℕ) → after ≡ others ++ n ∷ [] → Alike after (n ∷ others)
+joined_behind others after n is = subst (λ a. Alike a (n ∷ others)) (sym is) (turned others (n ∷ []))
+
+abbrev tested : Bool → List ℕ → Result (Unit {0}) Refusal → Result (Unit {0}) Refusal
+tested t n free = if t then Err (NameTaken n) else free
+
+at_test : (t : Bool) (n : List ℕ) (free : Result (Unit {0}) Refusal) → tested t n free ≡ and_then (tested t n (Ok tt)) (λ u. free)
+at_test true n free = refl
+at_test false n free = refl
+
+first_fresh : (others names : List (List ℕ)) (n : List ℕ) → fresh others (n ∷ names) ≡ and_then (fresh others (n ∷ [])) (λ free. fresh (n ∷ others) names)
+first_fresh others names n = at_test (is_among others n) n (fresh (n ∷ others) names)
+
+pub one_fresh : (others after names : List (List ℕ)) (n : List ℕ) → Alike after (n ∷ others) → fresh others (n ∷ []) ≡ Ok tt → fresh others (n ∷ names) ≡ fresh after names
+one_fresh others after names n h e =
+    first_fresh others names n ∙ (ap (λ m. and_then m (λ free. fresh (n ∷ others) names)) e ∙ sym (fresh_alike after (n ∷ others) names h))
+
+pub not_fresh : (others names : List (List ℕ)) (n : List ℕ) (r : Refusal) → (r ≡ NoMemory) ⊎ (fresh others (n ∷ []) ≡ Err r) → (r ≡ NoMemory) ⊎ (fresh others (n ∷ names) ≡ Err r)
+not_fresh others names n r (inl e) = inl e
+not_fresh others names n r (inr e) = inr (first_fresh others names n ∙ ap (λ m. and_then m (λ free. fresh (n ∷ others) names)) e)
+
+-- ---- items
+
+view_alike : (view : Bool) (xs ys names : List (List ℕ)) → (IsTrue view → Alike xs ys) → (if view then fresh xs names else Ok tt) ≡ (if view then fresh ys names else Ok tt)
+view_alike true xs ys names h = fresh_alike xs ys names (h refl)
+view_alike false xs ys names h = refl
+
+pub items_alike : (view : Bool) (scope : Scope) (xs ys : List (List ℕ)) (items : List ItemTree) → (IsTrue view → Alike xs ys) → items_resolved view scope xs items ≡ items_resolved view scope ys items
+items_alike view scope xs ys [] h = refl
+items_alike view scope xs ys (item ∷ items) h =
+    under (items_for scope item) _ _ (λ some.
+    ap (λ m. and_then m (λ new. and_then (items_resolved view scope (names_in some ++ xs) items) (λ more. Ok (some ++ more)))) (view_alike view xs ys (names_in some) h)
+    ∙ ap (λ m. and_then (if view then fresh ys (names_in some) else Ok tt) (λ new. and_then m (λ more. Ok (some ++ more))))
+    (items_alike view scope (names_in some ++ xs) (names_in some ++ ys) items (λ is. behind_alike (names_in some) xs ys (h is))))
+
+item_step : (view : Bool) (scope : Scope) (others : List (List ℕ)) (item : ItemTree) (items : List ItemTree)
+    → items_resolved view scope others (item ∷ items) ≡ and_then (next_items view scope others item) (λ some. before some (items_resolved view scope (names_in some ++ others) items))
+item_step view scope others item items =
+    under (items_for scope item) _ _ (λ some. sym (nested (if view then fresh others (names_in some) else Ok tt) (λ new. Ok some) (λ found. before found (items_resolved view scope (names_in found ++ others) items))))
+    ∙ sym (nested (items_for scope item) (λ some. and_then (if view then fresh others (names_in some) else Ok tt) (λ new. Ok some)) (λ some. before some (items_resolved view scope (names_in some ++ others) items)))
+
+pub one_item : (view : Bool) (scope : Scope) (others after : List (List ℕ)) (item : ItemTree) (items : List ItemTree) (some : List NamedItem)
+    → next_items view scope others item ≡ Ok some → Joins view others (names_in some) after
+    → items_resolved view scope others (item ∷ items) ≡ before some (items_resolved view scope after items)
+one_item view scope others after item items some given joins =
+    item_step view scope others item items
+    ∙ (ap (λ m. and_then m (λ found. before found (items_resolved view scope (names_in found ++ others) items))) given
+    ∙ ap (before some) (items_alike view scope (names_in some ++ others) after items (λ is. subst (Alike (names_in some ++ others)) (sym (joins is)) (turned (names_in some) others))))
+
+pub no_item : (view : Bool) (scope : Scope) (others : List (List ℕ)) (item : ItemTree) (items : List ItemTree) (r : Refusal)
+    → (r ≡ NoMemory) ⊎ (next_items view scope others item ≡ Err r) → (r ≡ NoMemory) ⊎ (items_resolved view scope others (item ∷ items) ≡ Err r)
+no_item view scope others item items r (inl e) = inl e
+no_item view scope others item items r (inr e) =
+    inr (item_step view scope others item items ∙ ap (λ m. and_then m (λ found. before found (items_resolved view scope (names_in found ++ others) items))) e)
+
+-- ---- relations
+
+pub joins_alike : (objects : Schema) (scope : Scope) (xs ys : List (List ℕ)) (joins : List JoinTree) → Alike xs ys → joins_resolved objects scope xs joins ≡ joins_resolved objects scope ys joins
+joins_alike objects scope xs ys [] h = refl
+joins_alike objects scope xs ys (join ∷ joins) h =
+    ap (λ m. and_then m (λ object. and_then (expression scope join.on) (λ on. and_then (joins_resolved objects scope (called join.relation ∷ xs) joins) (λ more. Ok (record { object = object; on = on } ∷ more)))))
+    (under (known objects join.relation.name) _ _ (λ object. ap (λ m. and_then m (λ new. Ok object)) (fresh_alike xs ys (called join.relation ∷ []) h)))
+    ∙ under (source objects ys join.relation) _ _ (λ object. under (expression scope join.on) _ _ (λ on.
+    ap (λ m. and_then m (λ more. Ok (record { object = object; on = on } ∷ more)))
+    (joins_alike objects scope (called join.relation ∷ xs) (called join.relation ∷ ys) joins (behind_alike (called join.relation ∷ []) xs ys h))))
+
+join_step : (objects : Schema) (scope : Scope) (others : List (List ℕ)) (join : JoinTree) (joins : List JoinTree)
+    → joins_resolved objects scope others (join ∷ joins) ≡ and_then (next_join objects scope others join) (λ j. before (j ∷ []) (joins_resolved objects scope (called join.relation ∷ others) joins))
+join_step objects scope others join joins =
+    under (source objects others join.relation) _ _ (λ object. sym (nested (expression scope join.on) (λ on. Ok (record { object = object; on = on })) (λ (j : Joined). before (j ∷ []) (joins_resolved objects scope (called join.relation ∷ others) joins))))
+    ∙ sym (nested (source objects others join.relation) (λ object. and_then (expression scope join.on) (λ on. Ok (record { object = object; on = on }))) (λ (j : Joined). before (j ∷ []) (joins_resolved objects scope (called join.relation ∷ others) joins)))
+
+pub one_join : (objects : Schema) (scope : Scope) (others after : List (List ℕ)) (join : JoinTree) (joins : List JoinTree) (j : Joined)
+    → next_join objects scope others join ≡ Ok j → after ≡ others ++ called join.relation ∷ []
+    → joins_resolved objects scope others (join ∷ joins) ≡ before (j ∷ []) (joins_resolved objects scope after joins)
+one_join objects scope others after join joins j given is =
+    join_step objects scope others join joins
+    ∙ (ap (λ m. and_then m (λ (k : Joined). before (k ∷ []) (joins_resolved objects scope (called join.relation ∷ others) joins))) given
+    ∙ ap (before (j ∷ [])) (joins_alike objects scope (called join.relation ∷ others) after joins (subst (Alike (called join.relation ∷ others)) (sym is) (turned (called join.relation ∷ []) others))))
+
+pub no_join : (objects : Schema) (scope : Scope) (others : List (List ℕ)) (join : JoinTree) (joins : List JoinTree) (r : Refusal)
+    → (r ≡ NoMemory) ⊎ (next_join objects scope others join ≡ Err r) → (r ≡ NoMemory) ⊎ (joins_resolved objects scope others (join ∷ joins) ≡ Err r)
+no_join objects scope others join joins r (inl e) = inl e
+no_join objects scope others join joins r (inr e) =
+    inr (join_step objects scope others join joins ∙ ap (λ m. and_then m (λ (k : Joined). before (k ∷ []) (joins_resolved objects scope (called join.relation ∷ others) joins))) e)
+
+-- ---- loops: G is what the rest gives
+
+pub moved : {X Y : Type 0} (G H : List X → Y) (whole : Y) (xs : List X) (i : ℕ) (x : X)
+    → i < length xs → x ≡ get_or xs i x → G (x ∷ drop (i + 1) xs) ≡ H (drop (i + 1) xs)
+    → G (drop i xs) ≡ whole → H (drop (i + 1) xs) ≡ whole
+moved G H whole xs i x lt at step e = sym step ∙ (ap (λ y. G (y ∷ drop (i + 1) xs)) at ∙ (sym (at_drop_more G xs i x lt) ∙ e))
+
+pub halted : {X B : Type 0} (G : List X → Result B Refusal) (r : Refusal) (whole : Result B Refusal) (xs : List X) (i : ℕ) (x : X)
+    → i < length xs → x ≡ get_or xs i x → (r ≡ NoMemory) ⊎ (G (x ∷ drop (i + 1) xs) ≡ Err r) → G (drop i xs) ≡ whole → (r ≡ NoMemory) ⊎ (whole ≡ Err r)
+halted G r whole xs i x lt at (inl h) e = inl h
+halted G r whole xs i x lt at (inr h) e = inr (sym e ∙ (at_drop_more G xs i x lt ∙ (ap (λ y. G (y ∷ drop (i + 1) xs)) (sym at) ∙ h)))
+
+pub all_done : {X Y : Type 0} (G : List X → Y) (whole end : Y) (xs : List X) (i : ℕ) → length xs ≤ i → G [] ≡ end → G (drop i xs) ≡ whole → whole ≡ end
+all_done G whole end xs i le none e = sym e ∙ (at_drop_all G xs i le ∙ none)
+
+-- what stands at a place, and what behind it
+pub rest_at : {X : Type 0} (xs : List X) (i : ℕ) (x : X) → i < length xs → x ≡ get_or xs i x → drop i xs ≡ x ∷ drop (i + 1) xs
+rest_at xs i x lt at = at_drop_more (λ ys. ys) xs i x lt ∙ ap (λ y. y ∷ drop (i + 1) xs) (sym at)

@@ -1,0 +1,4 @@
+pub mod Meant
+pub mod Each
+pub mod Seen
+pub mod Walking

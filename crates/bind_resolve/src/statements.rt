@@ -1,0 +1,186 @@
+//! Statements with objects and places for names.
+#![tactic(auto, using(crate::proofs::Steps::stops, crate::proofs::Steps::goes_on))]
+
+ghost use Rattle.std.specs.Prelude.{◌≡◌, [], map};
+ghost use Rattle.iv_types.specs.Trees.{trees, perhaps_tree, query_tree, statement_tree};
+ghost use Rattle.iv_types.specs.Syntax as syntax;
+ghost use Rattle.iv_types.specs.Trees as trees_of;
+ghost use Rattle.iv_meaning.specs.Objects.{schema_of};
+ghost use Rattle.iv_meaning.specs.Resolving as meant;
+ghost use Rattle.bind_resolve.specs.Meant.{IsMeant};
+ghost use Rattle.bind_resolve.specs.Seen.{names_in, resolved_seen};
+
+use crate::Resolved;
+use crate::expressions::{assignments, condition, places, values};
+use crate::names::{known, new_object};
+use crate::queries::query;
+use crate::scope::{names_of, scope_of_object, scope_of_one};
+use crate::sorted_names::distinct;
+use iv_types::{
+    Bytes, Catalog, ColumnDef, Expr, ExprList, Order, Places, Query, Refusal, Set, Statement,
+};
+use std::alloc::Global;
+
+// The columns of a primary key among the columns of these names, which are distinct.
+fn key_places(
+    alloc: Global,
+    table: &Bytes,
+    names: &[&Bytes],
+    primary: &[Bytes],
+) -> Result<Places, Refusal>
+    ensures { IsMeant (λ places. places) result (meant.each (meant.place_of (meant.scope_of_one table.now (names_in names.now))) primary.now) }
+{
+    let scope = scope_of_one(alloc, table, names)?;
+    places(alloc, &scope, primary)
+}
+
+fn create_table<'a>(
+    alloc: Global,
+    catalog: &'a Catalog,
+    name: &'a Bytes,
+    columns: &'a [ColumnDef],
+    primary: &[Bytes],
+) -> Result<Resolved<'a>, Refusal>
+    ensures { IsMeant resolved_seen result (meant.resolved (schema_of catalog.now) (syntax.create_table name.now columns.now primary.now)) }
+{
+    new_object(alloc, catalog, name)?;
+    let names = names_of(alloc, columns)?;
+    distinct(alloc, names.as_slice())?;
+    let primary = key_places(alloc, name, names.as_slice(), primary)?;
+    Ok(Resolved::Table {
+        name,
+        columns,
+        primary,
+    })
+}
+
+fn create_index<'a>(
+    alloc: Global,
+    catalog: &'a Catalog,
+    name: &'a Bytes,
+    table: &'a Bytes,
+    columns: &[Bytes],
+) -> Result<Resolved<'a>, Refusal>
+    ensures { IsMeant resolved_seen result (meant.resolved (schema_of catalog.now) (syntax.create_index name.now table.now columns.now)) }
+{
+    new_object(alloc, catalog, name)?;
+    let target = known(alloc, catalog, table)?;
+    let scope = scope_of_object(alloc, table, target)?;
+    let columns = places(alloc, &scope, columns)?;
+    Ok(Resolved::Index {
+        name,
+        target,
+        columns,
+    })
+}
+
+fn create_view<'a>(
+    alloc: Global,
+    catalog: &'a Catalog,
+    name: &'a Bytes,
+    statement: &'a Query,
+) -> Result<Resolved<'a>, Refusal>
+    ensures { IsMeant resolved_seen result (meant.resolved (schema_of catalog.now) (syntax.create_view name.now (query_tree statement.now))) }
+{
+    new_object(alloc, catalog, name)?;
+    let query = query(alloc, true, catalog, statement)?;
+    Ok(Resolved::View { name, query })
+}
+
+fn insert<'a>(
+    alloc: Global,
+    catalog: &'a Catalog,
+    table: &Bytes,
+    tuples: &[ExprList],
+) -> Result<Resolved<'a>, Refusal>
+    ensures { IsMeant resolved_seen result (meant.resolved (schema_of catalog.now) (syntax.insert table.now (map trees tuples.now))) }
+{
+    let target = known(alloc, catalog, table)?;
+    let tuples = values(alloc, tuples)?;
+    Ok(Resolved::Insert { target, tuples })
+}
+
+fn update<'a>(
+    alloc: Global,
+    catalog: &'a Catalog,
+    table: &'a Bytes,
+    sets: &[Set],
+    where_: &Option<Expr>,
+) -> Result<Resolved<'a>, Refusal>
+    ensures { IsMeant resolved_seen result (meant.resolved (schema_of catalog.now) (syntax.update table.now (map trees_of.set_tree sets.now) (perhaps_tree where_.now))) }
+{
+    let target = known(alloc, catalog, table)?;
+    let scope = scope_of_object(alloc, table, target)?;
+    let sets = assignments(alloc, &scope, sets)?;
+    let condition = condition(alloc, &scope, where_)?;
+    Ok(Resolved::Update {
+        target,
+        sets,
+        condition,
+    })
+}
+
+fn delete<'a>(
+    alloc: Global,
+    catalog: &'a Catalog,
+    table: &'a Bytes,
+    where_: &Option<Expr>,
+) -> Result<Resolved<'a>, Refusal>
+    ensures { IsMeant resolved_seen result (meant.resolved (schema_of catalog.now) (syntax.delete table.now (perhaps_tree where_.now))) }
+{
+    let target = known(alloc, catalog, table)?;
+    let scope = scope_of_object(alloc, table, target)?;
+    let condition = condition(alloc, &scope, where_)?;
+    Ok(Resolved::Delete { target, condition })
+}
+
+fn select<'a>(
+    alloc: Global,
+    catalog: &'a Catalog,
+    statement: &'a Query,
+    order: &'a [Order],
+) -> Result<Resolved<'a>, Refusal>
+    ensures { IsMeant resolved_seen result (meant.resolved (schema_of catalog.now) (syntax.select (query_tree statement.now) order.now)) }
+{
+    let query = query(alloc, false, catalog, statement)?;
+    Ok(Resolved::Select { query, order })
+}
+
+/// A statement with objects and places for names.
+///
+/// # Errors
+///
+/// `UnknownName` or `NameTaken` at the first place of the text, and `NoMemory`.
+pub fn resolve<'a>(
+    alloc: Global,
+    catalog: &'a Catalog,
+    statement: &'a Statement,
+) -> Result<Resolved<'a>, Refusal>
+    ensures { IsMeant resolved_seen result (meant.resolved (schema_of catalog.now) (statement_tree statement.now)) }
+{
+    match statement {
+        Statement::CreateTable {
+            name,
+            columns,
+            primary,
+        } => create_table(alloc, catalog, name, columns.as_slice(), primary.as_slice()),
+        Statement::CreateIndex {
+            name,
+            table,
+            columns,
+        } => create_index(alloc, catalog, name, table, columns.as_slice()),
+        Statement::CreateView { name, query } => create_view(alloc, catalog, name, query),
+        Statement::Insert { table, tuples } => insert(alloc, catalog, table, tuples.as_slice()),
+        Statement::Update {
+            table,
+            sets,
+            condition,
+        } => update(alloc, catalog, table, sets.as_slice(), condition),
+        Statement::Delete { table, condition } => delete(alloc, catalog, table, condition),
+        Statement::Select { query, order } => select(alloc, catalog, query, order.as_slice()),
+        Statement::Begin(_) => Ok(Resolved::Control),
+        Statement::Commit => Ok(Resolved::Control),
+        Statement::Rollback { .. } => Ok(Resolved::Control),
+        Statement::Savepoint { .. } => Ok(Resolved::Control),
+    }
+}
