@@ -1,15 +1,9 @@
 //! The kinds of the columns of tables and views.
-<<<<<<< HEAD:crates/sql_plan/src/kinds.rt
-ghost use Rattle.std.specs.Prelude.{◌≡◌, map, IfOk};
-ghost use Rattle.std.specs.Option.{option_map, option_copied};
-ghost use Rattle.iv_types.specs.Encoding.{kinds_of};
-ghost use Rattle.iv_meaning.specs.Schema.{numbered, kinds_of_table, sources_of, group_kinds, object_kinds};
-ghost use Rattle.iv_meaning.specs.Objects.{object_of, schema_of, view_tree};
-=======
 ghost use Rattle.std.specs.Prelude.{◌≡◌, ◌++◌, map, slice_get, IfOk, OnOk};
 ghost use Rattle.std.specs.Option.{option_map, option_copied, option_to_list};
 ghost use Rattle.iv_meaning.specs.Schema.{numbered, kinds_of_table, sources_of, group_kinds, items_at, kind_at, object_kinds};
->>>>>>> ca6a0f11135b07599c01d08f06e3fee0944b1138:crates/object_kinds/src/kinds.rt
+ghost use Rattle.iv_types.specs.Encoding.{kinds_of};
+ghost use Rattle.iv_meaning.specs.Objects.{object_of, schema_of, view_tree};
 ghost use Rattle.iv_meaning.specs.Schema as schema;
 
 use iv_types::{

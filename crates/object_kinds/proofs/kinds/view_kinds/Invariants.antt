@@ -1,13 +1,8 @@
 use Rattle.std.proofs.Common.{◌≡◌, ◌++◌, map, drop}
 use Rattle.iv_types.specs.declared.value.Kind.TheVariants.{Huge}
-<<<<<<< HEAD:crates/sql_plan/proofs/kinds/view_kinds/Invariants.antt
 use Rattle.iv_meaning.specs.Schema.{object_kinds, view}
 use Rattle.iv_meaning.specs.Objects.{schema_of, view_tree}
-use Rattle.sql_plan.proofs.kinds.view_kinds.Given as goal
-=======
-use Rattle.iv_meaning.specs.Schema.{object_kinds, view}
 use Rattle.object_kinds.proofs.kinds.view_kinds.Given as goal
->>>>>>> ca6a0f11135b07599c01d08f06e3fee0944b1138:crates/object_kinds/proofs/kinds/view_kinds/Invariants.antt
 
 abbrev pub invariant-loop : goal.invariant-loop
 invariant-loop l = l.kinds ++ map (λ sum. Huge) (drop l.index l.items) ≡ object_kinds (schema_of l.catalog) (view (view_tree l.view))
