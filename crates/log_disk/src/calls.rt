@@ -1,5 +1,5 @@
 //! Laws of calls on a disk. Each function is there for its contract.
-ghost use Rattle.log_disk.specs.Calls.{Telling};
+ghost use Rattle.log_disk.specs.Calls.{DiskTells};
 ghost use Rattle.log_disk.specs.Laws.{AreasLaw, OpeningLaw, OpenedLaw, StandingLaw, CallsLaw, PrefixLaw};
 
 use disk_io::Disk;
