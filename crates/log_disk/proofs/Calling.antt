@@ -5,25 +5,27 @@ use Rattle.page_store.specs.declared.facts.HeaderFacts.{HeaderFacts}
 use Rattle.page_store.specs.Image.{image}
 use Rattle.page_store.specs.Publish.{OldOrNew}
 use Rattle.wal_log.specs.Log.{LogState}
-use Rattle.txn_machine.specs.Store.{schema_of}
+use Rattle.txn_machine.specs.Store.{Store, committed, schema_of}
 use Rattle.txn_machine.specs.Log.{Opening}
 use Rattle.txn_machine.specs.Laws.{IsOpened}
-use Rattle.txn_log.specs.Replay.{Deed, Pages}
+use Rattle.txn_log.specs.Replay.{Deed, Pages, recovered}
 use Rattle.txn_log.specs.Appended.{Numbered, written, Image}
 use Rattle.txn_log.specs.Moments as moments
-use Rattle.txn_log.specs.Moments.{Disk, World, Writes, store_of, disk_of, with_disk, image_of, with_record, flushed_all, pages_now, published, Moves, Run, here, then_move, opened_world, left_by, IsRight}
+use Rattle.txn_log.specs.Moments.{Disk, World, At, Writes, store_of, disk_of, with_disk, image_of, with_record, flushed_all, pages_now, published, Moves, Run, here, then_move, opened_world, left_by, IsRight}
 use Rattle.txn_log.proofs.Lifting.{run_both}
 use Rattle.txn_log.proofs.Printed.{prints_again}
-use Rattle.txn_log.proofs.Passing.{disk_with, acknowledged_grows}
+use Rattle.txn_log.proofs.Passing.{disk_with, acknowledged_grows, same_grows, grows_run, one_of_two, holds_at}
+use Rattle.txn_log.proofs.Running.{Grows}
+use Rattle.txn_log.proofs.Settling.{settled_run}
 use Rattle.txn_log.proofs.Happening.{AllSaid, all_said, crash}
 use Rattle.log_disk.specs.Spelled.{IsSpellable, AreSpellable, LeadTo}
 use Rattle.log_disk.specs.Bears.{Bears}
 use Rattle.log_disk.specs.Calls.{DiskTells, IsOn, FlushCalled, PublishCalled, Stage, SameRecords, Saves, Appends, AreTwins, Call, goes_on, reads, appends, flushes, publishes, fails_flush, fails_publish, Calls, none, then_call, IsInStep, first_block}
-use Rattle.log_disk.specs.Laws.{OnTheWay, OpeningLaw, OpenedLaw, StandingLaw, CallsLaw, PrefixLaw}
+use Rattle.log_disk.specs.Laws.{OnTheWay, OpeningLaw, OpenedLaw, StandingLaw, CallsLaw, PrefixLaw, OneStepLaw}
 use Rattle.log_disk.proofs.Spelling.{said_leads, right_carried, right_last}
 use Rattle.log_disk.proofs.Fresh.{new_bears, new_on}
 use Rattle.log_disk.proofs.Flushing.{bears_none, flush_bears, flushed_on, appended_on}
-use Rattle.log_disk.proofs.Worlds.{by_writes, twin_itself, twin_stopped, twin_run, twin_acknowledged}
+use Rattle.log_disk.proofs.Worlds.{by_writes, twin_itself, twin_stopped, twin_run, twin_acknowledged, twin_store}
 
 -- the same records, on the same disk
 same_on : (room count : ℕ) (d e : Disk) (log : LogState) (s : List ℕ) → SameRecords d e → IsOn room count d log s → IsOn room count e log s
@@ -366,3 +368,37 @@ module _ {D : Type 0} (t : DiskTells D) (sizes : (disk : D) → length (t.seen d
           opens = right.opens;
         },
       )
+
+  pub one_step : OneStepLaw t
+  one_step room count p was opening first is begun a b before since s d at near c left =
+      let reached = calls_go room count p was opening first a before (first_stands room count p was opening first is begun) in
+      let went = calls_go room count p was opening a b since reached.stands in
+      let i = went.since c left in
+      let w : World = i.0 in
+      let right : IsRight (store_of w) (left_by w i.1) (disk_of w).acknowledged = crash prints_again p was opening w i.2 i.1 in
+      let n : ℕ = (recovered right.reading).db.number in
+      let settled : (disk_of a.world).acknowledged ≡ (committed (store_of a.world)).number =
+      subst (λ (x : World). (disk_of x).acknowledged ≡ (committed (store_of x)).number) (sym at) (settled_run (opened_world opening p) (At s d) (subst (Run (opened_world opening p)) at reached.stands.run) refl) in
+      let had : (disk_of a.world).acknowledged ≤ (disk_of w).acknowledged = (
+      elim i.3 [
+        | inl x ↦ acknowledged_grows prints_again p was opening a.world w reached.stands.run x.0
+        | inr y ↦ (
+            let e = twin_acknowledged b.world w y in
+            let grown = acknowledged_grows prints_again p was opening a.world b.world reached.stands.run went.moved in
+            omega (arith, e, grown))
+      ]) in
+      let more : Grows (store_of w) (store_of b.world) = (
+      elim i.3 [
+        | inl x ↦ grows_run prints_again p was opening w b.world i.2 x.1
+        | inr y ↦ subst (λ (x : Store). Grows x (store_of b.world)) (sym (twin_store b.world w y)) (same_grows (store_of b.world))
+      ]) in
+      let grown : Grows (store_of a.world) (store_of b.world) = grows_run prints_again p was opening a.world b.world reached.stands.run went.moved in
+      let store_is : store_of a.world ≡ s.store = ap store_of at in
+      let low = right.has_all in
+      let high = right.not_more in
+      let grew = more.more in
+      let number = ap (λ (x : Store). (committed x).number) store_is in
+      let both : ((recovered right.reading).db ≡ committed (store_of a.world)) ⊎ ((recovered right.reading).db ≡ committed (store_of b.world)) =
+      one_of_two (store_of a.world) (store_of b.world) (recovered right.reading).db n (holds_at prints_again p was opening a.world reached.stands.run) (holds_at prints_again p was opening b.world went.stands.run)
+      grown (omega (arith, near, number)) (omega (arith, settled, had, low)) (omega (arith, high, grew)) (right.db ∙ sym (more.states n high)) in
+      (left_by w i.1, i.4, right.reading, right.is_read, right.fits, subst (λ (x : Store). ((recovered right.reading).db ≡ committed x) ⊎ ((recovered right.reading).db ≡ committed (store_of b.world))) store_is both)

@@ -8,10 +8,13 @@ use Rattle.page_store.specs.Image as page
 use Rattle.page_store.specs.Image.{image}
 use Rattle.wal_log.specs.Log.{LogState, IsOutside}
 use Rattle.txn_machine.specs.Log.{Opening}
+use Rattle.txn_machine.specs.State.{State}
+use Rattle.txn_machine.specs.Store.{committed}
 use Rattle.txn_machine.specs.Laws.{IsOpened}
-use Rattle.txn_log.specs.Replay.{Pages}
-use Rattle.txn_log.specs.Appended.{Image}
-use Rattle.txn_log.specs.Moments.{World, Writes, disk_of, store_of, left_by, Run, opened_world, IsRight}
+use Rattle.txn_log.specs.Replay.{Pages, Reading, recovered}
+use Rattle.txn_log.specs.Fitting.{IsFit}
+use Rattle.txn_log.specs.Appended.{Image, IsRead}
+use Rattle.txn_log.specs.Moments.{Disk, World, At, Writes, disk_of, store_of, left_by, Run, opened_world, IsRight}
 use Rattle.log_disk.specs.Bears.{Bears}
 use Rattle.log_disk.specs.Calls.{DiskTells, Stage, Saves, PublishCalled, Published, first_block, Calls, IsInStep, AreTwins}
 
@@ -56,3 +59,10 @@ module _ {D : Type 0} (t : DiskTells D) where
   PrefixLaw = (room count : ℕ) (p : Pages) → IsOpened p.db p.view → (opening : Opening) (first : Stage D) → first.world ≡ opened_world opening p → IsInStep t room count first
       → (a b : Stage D) → Calls t room count first a → Calls t room count a b → (c : List ℕ) → t.left_since b.disk (t.moment a.disk) c
       → (w : World) × (k : ℕ) × OnTheWay a.world b.world w × Bears room count c (left_by w k) × IsRight (store_of w) (left_by w k) (disk_of a.world).acknowledged
+
+  -- and where one step, or none, was committed since, it recovers to what was committed before it or to what is committed after it
+  abbrev pub OneStepLaw : Type 0
+  OneStepLaw = (room count : ℕ) (p : Pages) → IsOpened p.db p.view → (opening : Opening) (first : Stage D) → first.world ≡ opened_world opening p → IsInStep t room count first
+      → (a b : Stage D) → Calls t room count first a → Calls t room count a b → (s : State) (d : Disk) → a.world ≡ At s d
+      → (committed (store_of b.world)).number ≤ (committed s.store).number + 1 → (c : List ℕ) → t.left_since b.disk (t.moment a.disk) c
+      → (i : Image) × Bears room count c i × (r : Reading) × IsRead i r × IsFit r × (((recovered r).db ≡ committed s.store) ⊎ ((recovered r).db ≡ committed (store_of b.world)))
