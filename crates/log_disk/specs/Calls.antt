@@ -51,7 +51,7 @@ first_block log = block log.first ++ 0 ∷ []
 
 -- ---- between two calls
 
--- the bytes of a disk, and a log in memory, have the pages and the records of the machine's disk; no header or slot lies in an area
+-- the bytes of a disk, and a log in memory, have the pages and the records of the machine's disk
 pub record IsOn (room count : ℕ) (d : Disk) (log : LogState) (s : List ℕ) : Type 0 where
   pub size : length s ≡ 278528 + 2 * room + 16384 * count
   pub few : count ≤ 131072
