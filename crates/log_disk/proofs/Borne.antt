@@ -29,7 +29,7 @@ use Rattle.txn_log.specs.Groups.{after_of}
 use Rattle.txn_log.specs.Stored.{PageEntry, StandFor, Define, AreParts}
 use Rattle.txn_log.proofs.Printed.{one_statement}
 use Rattle.txn_log.proofs.Standing.{one_stored, row_numbered, total_numbered}
-use Rattle.log_disk.specs.Spelled.{row_in, in_bytes, spelled, RowsFit, AllRowsFit, LeadTo, AreSpelled}
+use Rattle.log_disk.specs.Spelled.{row_in, in_bytes, spelled, IsSpellable, AreSpellable, LeadTo, AreSpelled}
 use Rattle.log_disk.specs.Bears.{all_entries, AreStoredAs, OneImageLaw}
 use Rattle.log_disk.proofs.Areas.{some_image, block_long}
 use Rattle.log_disk.proofs.Spelling.{leads_once}
@@ -111,7 +111,7 @@ row_once kinds None (Some row) f g e = absurd (none-some (row_bytes kinds row) e
 row_once kinds (Some row) None f g e = absurd (none-some (row_bytes kinds row) (sym e))
 row_once kinds (Some row) (Some other) f g e = ap (λ (r : Row). Some r) (one_spelling row_format kinds row other f g (some_same (row_bytes kinds row) (row_bytes kinds other) e))
 
-change_once : (objects : Schema) (c d : RowChange) → RowsFit objects (machine.Write 0 c) → RowsFit objects (machine.Write 0 d) → c.key ≡ d.key
+change_once : (objects : Schema) (c d : RowChange) → IsSpellable objects (machine.Write 0 c) → IsSpellable objects (machine.Write 0 d) → c.key ≡ d.key
     → row_in objects c.key c.before ≡ row_in objects d.key d.before → row_in objects c.key c.after ≡ row_in objects d.key d.after → c ≡ d
 change_once objects c d f g key before after =
     let kinds : List Kind = kinds_of_table (numbered objects d.key.0) in
@@ -121,7 +121,7 @@ change_once objects c d f g key before after =
     let a : c.after ≡ d.after = row_once kinds c.after d.after fit.1 g.1 (ap (λ (k : Place). row_in objects k c.after) (sym key) ∙ after) in
     λ t. record { key = key t; before = b t; after = a t }
 
-record_once : (objects : Schema) (a b : Record) → RowsFit objects a → RowsFit objects b → in_bytes objects a ≡ in_bytes objects b → a ≡ b
+record_once : (objects : Schema) (a b : Record) → IsSpellable objects a → IsSpellable objects b → in_bytes objects a ≡ in_bytes objects b → a ≡ b
 record_once objects (machine.Write t c) (machine.Write u d) f g e =
     let n : c.key.0 ≡ d.key.0 = cc in
     let k : c.key.1 ≡ d.key.1 = cc in
@@ -149,7 +149,7 @@ record_once objects (machine.Abort t) (machine.Abort u) f g e = cc
 record_once objects (machine.Definition n s x) (machine.Definition m r y) f g e = cc
 record_once objects a b f g e = absurd (cc)
 
-entry_once : (objects : Schema) (r q : Numbered) → RowsFit objects r.of → RowsFit objects q.of → spelled objects r ≡ spelled objects q → r ≡ q
+entry_once : (objects : Schema) (r q : Numbered) → IsSpellable objects r.of → IsSpellable objects q.of → spelled objects r ≡ spelled objects q → r ≡ q
 entry_once objects r q f g e =
     let number : r.number ≡ q.number = ap (λ (x : Entry). x.number) e in
     let of : r.of ≡ q.of = record_once objects r.of q.of f g (ap (λ (x : Entry). x.entry) e) in
@@ -161,7 +161,7 @@ cons_head x y xs ys e = cc
 cons_tail : {X : Type 0} (x y : X) (xs ys : List X) → x ∷ xs ≡ y ∷ ys → xs ≡ ys
 cons_tail x y xs ys e = cc
 
-carried_once : (objects : Schema) (rs qs : List Numbered) → AllRowsFit objects rs → AllRowsFit objects qs → map (spelled objects) rs ≡ map (spelled objects) qs → rs ≡ qs
+carried_once : (objects : Schema) (rs qs : List Numbered) → AreSpellable objects rs → AreSpellable objects qs → map (spelled objects) rs ≡ map (spelled objects) qs → rs ≡ qs
 carried_once objects [] [] f g e = refl
 carried_once objects [] (q ∷ qs) f g e = absurd (cc)
 carried_once objects (r ∷ rs) [] f g e = absurd (cc)
@@ -179,7 +179,7 @@ spelled_once objects (r ∷ rs) [] (e ∷ es) h k = absurd k
 spelled_once objects (r ∷ rs) (q ∷ qs) (e ∷ es) h k =
     let rest : rs ≡ qs = spelled_once objects rs qs es h.0 k.0 in
     let before : h.1.0 ≡ k.1.0 = leads_once objects qs h.1.0 k.1.0 (subst (λ xs. LeadTo objects xs h.1.0) rest h.1.1) k.1.1 in
-    let first : r ≡ q = entry_once k.1.0 r q (subst (λ o. RowsFit o r.of) before h.1.2) k.1.2 (ap (λ o. spelled o r) (sym before) ∙ (sym h.1.3 ∙ k.1.3)) in
+    let first : r ≡ q = entry_once k.1.0 r q (subst (λ o. IsSpellable o r.of) before h.1.2) k.1.2 (ap (λ o. spelled o r) (sym before) ∙ (sym h.1.3 ∙ k.1.3)) in
     λ t. first t ∷ rest t
 
 -- ---- blocks
@@ -235,7 +235,7 @@ one_image room count c i j a b =
     let ends : length (block (group a.first)) ≡ length (block (group b.first)) = sym a.records.redo ∙ ap (λ (x : page.Image). x.redo) here ∙ b.records.redo in
     let split = first_once a.first b.first (flat a.others) (flat b.others) all (omega (arith, ends, block_long (group a.first), block_long (group b.first))) in
     let objects : i.pages.db.schema ≡ j.pages.db.schema = ap (λ (x : Pages). x.db.schema) pages in
-    let carried : i.carried ≡ j.carried = carried_once j.pages.db.schema i.carried j.carried (subst (λ o. AllRowsFit o i.carried) objects a.records.fit) b.records.fit
+    let carried : i.carried ≡ j.carried = carried_once j.pages.db.schema i.carried j.carried (subst (λ o. AreSpellable o i.carried) objects a.records.fit) b.records.fit
     (ap (λ o. map (spelled o) i.carried) (sym objects) ∙ (sym a.records.carried ∙ (ap reverse split.0 ∙ b.records.carried))) in
     let others : after_of a.others ≡ after_of b.others = same_after a.others ∙ (ap reverse split.1 ∙ sym (same_after b.others)) in
     let after : i.after ≡ j.after = spelled_once j.pages.db.schema i.after j.after (after_of b.others)

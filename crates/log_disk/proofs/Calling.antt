@@ -5,25 +5,27 @@ use Rattle.page_store.specs.declared.facts.HeaderFacts.{HeaderFacts}
 use Rattle.page_store.specs.Image.{image}
 use Rattle.page_store.specs.Publish.{OldOrNew}
 use Rattle.wal_log.specs.Log.{LogState}
-use Rattle.txn_machine.specs.Store.{schema_of}
+use Rattle.txn_machine.specs.Store.{Store, committed, schema_of}
 use Rattle.txn_machine.specs.Log.{Opening}
 use Rattle.txn_machine.specs.Laws.{IsOpened}
-use Rattle.txn_log.specs.Replay.{Deed, Pages}
+use Rattle.txn_log.specs.Replay.{Deed, Pages, recovered}
 use Rattle.txn_log.specs.Appended.{Numbered, written, Image}
 use Rattle.txn_log.specs.Moments as moments
-use Rattle.txn_log.specs.Moments.{Disk, World, Writes, store_of, disk_of, with_disk, image_of, with_record, flushed_all, pages_now, published, Moves, Run, here, then_move, opened_world, left_by, IsRight}
+use Rattle.txn_log.specs.Moments.{Disk, World, At, Writes, store_of, disk_of, with_disk, image_of, with_record, flushed_all, pages_now, published, Moves, Run, here, then_move, opened_world, left_by, IsRight}
 use Rattle.txn_log.proofs.Lifting.{run_both}
 use Rattle.txn_log.proofs.Printed.{prints_again}
-use Rattle.txn_log.proofs.Passing.{disk_with, acknowledged_grows}
+use Rattle.txn_log.proofs.Passing.{disk_with, acknowledged_grows, same_grows, grows_run, one_of_two, holds_at}
+use Rattle.txn_log.proofs.Running.{Grows}
+use Rattle.txn_log.proofs.Settling.{settled_run}
 use Rattle.txn_log.proofs.Happening.{AllSaid, all_said, crash}
-use Rattle.log_disk.specs.Spelled.{RowsFit, AllRowsFit, LeadTo}
+use Rattle.log_disk.specs.Spelled.{IsSpellable, AreSpellable, LeadTo}
 use Rattle.log_disk.specs.Bears.{Bears}
-use Rattle.log_disk.specs.Calls.{Telling, IsOn, FlushCalled, PublishCalled, Stage, SameRecords, Saves, Appends, AreTwins, Call, goes_on, reads, appends, flushes, publishes, fails_flush, fails_publish, Calls, none, then_call, Begun, first_block}
-use Rattle.log_disk.specs.Laws.{Between, OpeningLaw, OpenedLaw, StandingLaw, CallsLaw, PrefixLaw}
+use Rattle.log_disk.specs.Calls.{DiskTells, IsOn, FlushCalled, PublishCalled, Stage, SameRecords, Saves, Appends, AreTwins, Call, goes_on, reads, appends, flushes, publishes, fails_flush, fails_publish, Calls, none, then_call, IsInStep, first_block}
+use Rattle.log_disk.specs.Laws.{OnTheWay, OpeningLaw, OpenedLaw, StandingLaw, CallsLaw, PrefixLaw, OneStepLaw}
 use Rattle.log_disk.proofs.Spelling.{said_leads, right_carried, right_last}
 use Rattle.log_disk.proofs.Fresh.{new_bears, new_on}
 use Rattle.log_disk.proofs.Flushing.{bears_none, flush_bears, flushed_on, appended_on}
-use Rattle.log_disk.proofs.Worlds.{by_writes, twin_itself, twin_stopped, twin_run, twin_acknowledged}
+use Rattle.log_disk.proofs.Worlds.{by_writes, twin_itself, twin_stopped, twin_run, twin_acknowledged, twin_store}
 
 -- the same records, on the same disk
 same_on : (room count : ℕ) (d e : Disk) (log : LogState) (s : List ℕ) → SameRecords d e → IsOn room count d log s → IsOn room count e log s
@@ -60,7 +62,7 @@ bears_before : (room count : ℕ) (c : List ℕ) (d e : Disk) → SameRecords d 
 bears_before room count c d e same b = subst (Bears room count c)
     (λ t. record { pages = sym same.pages t; carried = map written (sym same.carried t); after = drop (length (sym same.waiting t)) (sym same.waiting t) ++ sym same.flushed t }) b
 
-module _ {D : Type 0} (t : Telling D) (sizes : (disk : D) → length (t.seen disk) ≡ t.size_of disk)
+module _ {D : Type 0} (t : DiskTells D) (sizes : (disk : D) → length (t.seen disk) ≡ t.size_of disk)
     (only_now : (disk : D) (c : List ℕ) → t.left_since disk (t.moment disk) c → t.may_leave disk c)
     (counts_now : (disk : D) (n : ℕ) (c : List ℕ) → n ≤ t.moment disk → t.may_leave disk c → t.left_since disk n c) where
   pub opened_on : OpenedLaw t
@@ -81,11 +83,11 @@ module _ {D : Type 0} (t : Telling D) (sizes : (disk : D) → length (t.seen dis
 
     -- some image of the machine between two worlds
     abbrev LeftIn : World → World → List ℕ → Type 0
-    LeftIn u v c = (w : World) × (k : ℕ) × Run begin w × Between u v w × Bears room count c (left_by w k)
+    LeftIn u v c = (w : World) × (k : ℕ) × Run begin w × OnTheWay u v w × Bears room count c (left_by w k)
 
     record Stands (a : Stage D) : Type 0 where
       run : Run begin a.world
-      begun : Writes a.world → Begun t room count a
+      begun : Writes a.world → IsInStep t room count a
       images : (Writes a.world → ⊥) → (c : List ℕ) → t.may_leave a.disk c → (w : World) × (k : ℕ) × Run begin w × AreTwins a.world w × Bears room count c (left_by w k)
 
     record Goes (a b : Stage D) : Type 0 where
@@ -93,11 +95,11 @@ module _ {D : Type 0} (t : Telling D) (sizes : (disk : D) → length (t.seen dis
       later : t.moment a.disk ≤ t.moment b.disk
       before : (n : ℕ) (c : List ℕ) → n ≤ t.moment a.disk → t.left_since b.disk n c → t.left_since a.disk n c ⊎ LeftIn a.world b.world c
 
-    bears_begun : (a : Stage D) → Begun t room count a → (c : List ℕ) → t.may_leave a.disk c → Bears room count c (left_by a.world (length (disk_of a.world).waiting))
+    bears_begun : (a : Stage D) → IsInStep t room count a → (c : List ℕ) → t.may_leave a.disk c → Bears room count c (left_by a.world (length (disk_of a.world).waiting))
     bears_begun a b c may = subst (λ (s : List ℕ). Bears room count s (left_by a.world (length (disk_of a.world).waiting))) (sym (b.settled c may)) (bears_none room count (disk_of a.world) a.log (t.seen a.disk) b.is_on)
 
     -- where the disk is in step with the machine, what may be left is known
-    stands_begun : (a : Stage D) → Run begin a.world → Begun t room count a → Stands a
+    stands_begun : (a : Stage D) → Run begin a.world → IsInStep t room count a → Stands a
     stands_begun a r b = record {
       run = r;
       begun = λ writes. b;
@@ -138,19 +140,19 @@ module _ {D : Type 0} (t : Telling D) (sizes : (disk : D) → length (t.seen dis
         (said_leads (disk_of a.world).pages.db.schema ((disk_of a.world).waiting ++ (disk_of a.world).flushed) said.events said.say)
 
     -- what a checkpoint carries fits
-    carried_fit : (w : World) (q : Pages) (carried : List Deed) (d : Disk) → Run begin w → disk_of w ≡ published q carried d → AllRowsFit q.db.schema (map written carried)
+    carried_fit : (w : World) (q : Pages) (carried : List Deed) (d : Disk) → Run begin w → disk_of w ≡ published q carried d → AreSpellable q.db.schema (map written carried)
     carried_fit w q carried d r is =
         let right : IsRight (store_of w) (left_by w 0) (disk_of w).acknowledged = crash prints_again p was opening w r 0 in
-        subst (λ (e : Disk). AllRowsFit e.pages.db.schema (map written e.carried)) is (right_carried (store_of w) (left_by w 0) (disk_of w).acknowledged right)
+        subst (λ (e : Disk). AreSpellable e.pages.db.schema (map written e.carried)) is (right_carried (store_of w) (left_by w 0) (disk_of w).acknowledged right)
 
     -- and so does what is appended
-    appended_is : (a : Stage D) (w : World) (log : LogState) → Moves a.world w → Appends a.world w a.log log → Stands a → Begun t room count a → IsOn room count (disk_of w) log (t.seen a.disk)
+    appended_is : (a : Stage D) (w : World) (log : LogState) → Moves a.world w → Appends a.world w a.log log → Stands a → IsInStep t room count a → IsOn room count (disk_of w) log (t.seen a.disk)
     appended_is a w log move app is b =
         let d : Disk = disk_of a.world in
         let r : Numbered = record { number = app.number; of = app.of } in
         let right : IsRight (store_of w) (image_of (with_record (Some app.of) app.number d) (r ∷ d.waiting)) (disk_of w).acknowledged =
         subst (λ (e : Disk). IsRight (store_of w) (image_of e e.waiting) (disk_of w).acknowledged) app.disk (crash prints_again p was opening w (extended a.world w is.run move) 0) in
-        let fit : RowsFit (schema_of (store_of a.world)) app.of = right_last (store_of w) d.pages (map written d.carried) r (d.waiting ++ d.flushed) (disk_of w).acknowledged right (schema_of (store_of a.world)) (leads a is) in
+        let fit : IsSpellable (schema_of (store_of a.world)) app.of = right_last (store_of w) d.pages (map written d.carried) r (d.waiting ++ d.flushed) (disk_of w).acknowledged right (schema_of (store_of a.world)) (leads a is) in
         appended_on room count d a.log (t.seen a.disk) b.is_on (disk_of w) log (schema_of (store_of a.world)) r app.disk (leads a is) fit app.small app.log_is
 
     -- ---- a flush
@@ -166,8 +168,8 @@ module _ {D : Type 0} (t : Telling D) (sizes : (disk : D) → length (t.seen dis
 
     -- ---- a publish
 
-    publish_left : (a : Stage D) (carried : List Deed) (log : LogState) (facts : HeaderFacts) (stored : List Bool) (bytes : List ℕ) (new : D) → Begun t room count a
-        → Saves room count (pages_now (store_of a.world)) carried a.log log facts stored bytes → AllRowsFit (pages_now (store_of a.world)).db.schema (map written carried)
+    publish_left : (a : Stage D) (carried : List Deed) (log : LogState) (facts : HeaderFacts) (stored : List Bool) (bytes : List ℕ) (new : D) → IsInStep t room count a
+        → Saves room count (pages_now (store_of a.world)) carried a.log log facts stored bytes → AreSpellable (pages_now (store_of a.world)).db.schema (map written carried)
         → PublishCalled t room facts (first_block log) stored bytes a.disk new
         → LeavesOnly t.moment t.left_since a.disk new (λ c. Bears room count c (left_by a.world (length (disk_of a.world).waiting)) ⊎ Bears room count c (record { pages = pages_now (store_of a.world); carried = map written carried; after = [] }))
     publish_left a carried log facts stored bytes new b saves fit called =
@@ -218,7 +220,7 @@ module _ {D : Type 0} (t : Telling D) (sizes : (disk : D) → length (t.seen dis
       stays x (record { world = w; log = log; disk = x.disk }) refl (one_move x.world w move),
     )
     call_goes a b (flushes x log new writes flushed) is =
-        let begun : Begun t room count x = is.begun writes in
+        let begun : IsInStep t room count x = is.begun writes in
         let on : IsOn room count (disk_of x.world) x.log (t.seen x.disk) = begun.is_on in
         let w : World = with_disk x.world (flushed_all (disk_of x.world)) in
         let move : Moves x.world w = moments.flushes x.world writes in
@@ -237,12 +239,12 @@ module _ {D : Type 0} (t : Telling D) (sizes : (disk : D) → length (t.seen dis
         )
     call_goes a b (publishes x carried log facts stored bytes new keeps fall saves done) is =
         let writes : Writes x.world = kept_writes x.world carried keeps in
-        let begun : Begun t room count x = is.begun writes in
+        let begun : IsInStep t room count x = is.begun writes in
         let q : Pages = pages_now (store_of x.world) in
         let w : World = with_disk x.world (published q carried (disk_of x.world)) in
         let move : Moves x.world w = moments.publishes x.world carried keeps fall in
         let there : disk_of w ≡ published q carried (disk_of x.world) = disk_with x.world (published q carried (disk_of x.world)) in
-        let fit : AllRowsFit q.db.schema (map written carried) = carried_fit w q carried (disk_of x.world) (extended x.world w is.run move) there in
+        let fit : AreSpellable q.db.schema (map written carried) = carried_fit w q carried (disk_of x.world) (extended x.world w is.run move) there in
         let left = publish_left x carried log facts stored bytes new begun saves fit done.called in
         let size : length (t.seen new) ≡ 278528 + 2 * room + 16384 * count = sizes new ∙ done.called.size ∙ sym (sizes x.disk) ∙ begun.is_on.size in (
           stands_begun (record { world = w; log = log; disk = new }) (extended x.world w is.run move) (record {
@@ -265,7 +267,7 @@ module _ {D : Type 0} (t : Telling D) (sizes : (disk : D) → length (t.seen dis
         kept_writes (moments.Amid after i a s l es d) xs keeps = tt
         kept_writes (moments.Halted s next d) xs keeps = keeps
     call_goes a b (fails_flush x w log after new move writes stops app called) is =
-        let begun : Begun t room count x = is.begun writes in
+        let begun : IsInStep t room count x = is.begun writes in
         let left = flush_left x w log new (appended_is x w log move app is begun) begun.settled called in
         let r : Run begin w = extended x.world w is.run move in (
           record {
@@ -280,8 +282,8 @@ module _ {D : Type 0} (t : Telling D) (sizes : (disk : D) → length (t.seen dis
           },
         )
     call_goes a b (fails_publish x w v carried log last facts stored bytes new move other writes twins same there saves called) is =
-        let begun : Begun t room count x = is.begun writes in
-        let fit : AllRowsFit (pages_now (store_of x.world)).db.schema (map written carried) = carried_fit v (pages_now (store_of x.world)) carried (disk_of x.world) (extended x.world v is.run other) there in
+        let begun : IsInStep t room count x = is.begun writes in
+        let fit : AreSpellable (pages_now (store_of x.world)).db.schema (map written carried) = carried_fit v (pages_now (store_of x.world)) carried (disk_of x.world) (extended x.world v is.run other) there in
         let left = publish_left x carried log facts stored bytes new begun saves fit called in
         let stops : Writes w → ⊥ = twin_stopped w v twins in
         let r : Run begin w = extended x.world w is.run move in
@@ -327,7 +329,7 @@ module _ {D : Type 0} (t : Telling D) (sizes : (disk : D) → length (t.seen dis
           ];
         }
 
-    first_stands : (first : Stage D) → first.world ≡ begin → Begun t room count first → Stands first
+    first_stands : (first : Stage D) → first.world ≡ begin → IsInStep t room count first → Stands first
     first_stands first is begun = stands_begun first (subst (Run begin) (sym is) (here begin)) begun
 
   pub standing : StandingLaw t
@@ -366,3 +368,37 @@ module _ {D : Type 0} (t : Telling D) (sizes : (disk : D) → length (t.seen dis
           opens = right.opens;
         },
       )
+
+  pub one_step : OneStepLaw t
+  one_step room count p was opening first is begun a b before since s d at near c left =
+      let reached = calls_go room count p was opening first a before (first_stands room count p was opening first is begun) in
+      let went = calls_go room count p was opening a b since reached.stands in
+      let i = went.since c left in
+      let w : World = i.0 in
+      let right : IsRight (store_of w) (left_by w i.1) (disk_of w).acknowledged = crash prints_again p was opening w i.2 i.1 in
+      let n : ℕ = (recovered right.reading).db.number in
+      let settled : (disk_of a.world).acknowledged ≡ (committed (store_of a.world)).number =
+      subst (λ (x : World). (disk_of x).acknowledged ≡ (committed (store_of x)).number) (sym at) (settled_run (opened_world opening p) (At s d) (subst (Run (opened_world opening p)) at reached.stands.run) refl) in
+      let had : (disk_of a.world).acknowledged ≤ (disk_of w).acknowledged = (
+      elim i.3 [
+        | inl x ↦ acknowledged_grows prints_again p was opening a.world w reached.stands.run x.0
+        | inr y ↦ (
+            let e = twin_acknowledged b.world w y in
+            let grown = acknowledged_grows prints_again p was opening a.world b.world reached.stands.run went.moved in
+            omega (arith, e, grown))
+      ]) in
+      let more : Grows (store_of w) (store_of b.world) = (
+      elim i.3 [
+        | inl x ↦ grows_run prints_again p was opening w b.world i.2 x.1
+        | inr y ↦ subst (λ (x : Store). Grows x (store_of b.world)) (sym (twin_store b.world w y)) (same_grows (store_of b.world))
+      ]) in
+      let grown : Grows (store_of a.world) (store_of b.world) = grows_run prints_again p was opening a.world b.world reached.stands.run went.moved in
+      let store_is : store_of a.world ≡ s.store = ap store_of at in
+      let low = right.has_all in
+      let high = right.not_more in
+      let grew = more.more in
+      let number = ap (λ (x : Store). (committed x).number) store_is in
+      let both : ((recovered right.reading).db ≡ committed (store_of a.world)) ⊎ ((recovered right.reading).db ≡ committed (store_of b.world)) =
+      one_of_two (store_of a.world) (store_of b.world) (recovered right.reading).db n (holds_at prints_again p was opening a.world reached.stands.run) (holds_at prints_again p was opening b.world went.stands.run)
+      grown (omega (arith, near, number)) (omega (arith, settled, had, low)) (omega (arith, high, grew)) (right.db ∙ sym (more.states n high)) in
+      (left_by w i.1, i.4, right.reading, right.is_read, right.fits, subst (λ (x : Store). ((recovered right.reading).db ≡ committed x) ⊎ ((recovered right.reading).db ≡ committed (store_of b.world))) store_is both)

@@ -15,9 +15,9 @@ use Rattle.txn_log.specs.Appended.{Numbered}
 use Rattle.txn_log.specs.Groups.{after_of}
 use Rattle.txn_log.specs.Moments.{Disk, image_of, flushed_all}
 use Rattle.txn_log.proofs.Groups.{one_group_more, none_left}
-use Rattle.log_disk.specs.Spelled.{RowsFit, AreSpelled, LeadTo, spelled}
-use Rattle.log_disk.specs.Bears.{HasPages, HasRecords, Bears}
-use Rattle.log_disk.specs.Calls.{IsOn, appended}
+use Rattle.log_disk.specs.Spelled.{IsSpellable, AreSpelled, LeadTo, spelled}
+use Rattle.log_disk.specs.Bears.{IsSavedAs, HasRecords, Bears}
+use Rattle.log_disk.specs.Calls.{IsOn, with_waiting}
 use Rattle.log_disk.proofs.Areas.{log_alone, ends_first}
 use Rattle.log_disk.proofs.Spelling.{one_spelled}
 
@@ -55,7 +55,7 @@ module _ (room count : ℕ) (d : Disk) (log : LogState) (s : List ℕ) (on : IsO
   means_with : (c : List ℕ) → IsOutside log.start log.size s c → image room count c ≡ Some (here_with c)
   means_with c out = log_alone room count s c on.size on.few (in_areas c out) on.here on.means
 
-  pages_with : (c : List ℕ) → HasPages room count (here_with c) d.pages
+  pages_with : (c : List ℕ) → IsSavedAs room count (here_with c) d.pages
   pages_with c = record { format = on.pages.format; pages = on.pages.pages; areas = on.pages.areas; area = on.pages.area; low = on.pages.low; commits = on.pages.commits; stored = on.pages.stored }
 
   records_with : (c : List ℕ) → HasRecords (here_with c) (image_of d []) on.first on.others
@@ -135,9 +135,9 @@ module _ (room count : ℕ) (d : Disk) (log : LogState) (s : List ℕ) (on : IsO
 
   -- one record more waits
   pub appended_on : (e : Disk) (after : LogState) (before : Schema) (r : Numbered) → e ≡ record d { waiting = r ∷ d.waiting } → LeadTo d.pages.db.schema (d.waiting ++ d.flushed) before
-      → RowsFit before r.of → IsSmall (spelled before r) → after ≡ appended log (spelled before r) → IsOn room count e after s
+      → IsSpellable before r.of → IsSmall (spelled before r) → after ≡ with_waiting log (spelled before r) → IsOn room count e after s
   appended_on e after before r disk leads fit small is =
-      subst (λ (l : LogState). IsOn room count e l s) (sym is) (subst (λ (x : Disk). IsOn room count x (appended log (spelled before r)) s) (sym disk) (record {
+      subst (λ (l : LogState). IsOn room count e l s) (sym is) (subst (λ (x : Disk). IsOn room count x (with_waiting log (spelled before r)) s) (sym disk) (record {
         size = on.size;
         few = on.few;
         here = on.here;

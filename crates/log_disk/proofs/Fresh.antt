@@ -19,9 +19,9 @@ use Rattle.iv_meaning.specs.Schema.{Schema}
 use Rattle.txn_log.specs.Replay.{Deed, Pages}
 use Rattle.txn_log.specs.Appended.{written}
 use Rattle.txn_log.specs.Moments.{Disk, published}
-use Rattle.log_disk.specs.Spelled.{spelled, AllRowsFit}
-use Rattle.log_disk.specs.Bears.{HasPages, HasRecords, Bears}
-use Rattle.log_disk.specs.Calls.{with_carried, first_of, first_block, IsOn, Saves}
+use Rattle.log_disk.specs.Spelled.{spelled, AreSpellable}
+use Rattle.log_disk.specs.Bears.{IsSavedAs, HasRecords, Bears}
+use Rattle.log_disk.specs.Calls.{with_carried, first_entries, first_block, IsOn, Saves}
 use Rattle.log_disk.proofs.Areas.{image_live, ends_first}
 
 -- ---- the log with its carried records
@@ -47,9 +47,9 @@ one_map objects [] = refl
 one_map objects (d ∷ ds) = ap (λ (es : List Entry). spelled objects (written d) ∷ es) (one_map objects ds)
 
 module _ (room count : ℕ) (p : Pages) (carried : List Deed) (old l : LogState) (facts : HeaderFacts) (stored : List Bool) (bytes : List ℕ) (saves : Saves room count p carried old l facts stored bytes)
-    (fit : AllRowsFit p.db.schema (map written carried)) where
+    (fit : AreSpellable p.db.schema (map written carried)) where
   abbrev first : List Entry
-  first = first_of p carried
+  first = first_entries p carried
 
   log_is : l ≡ record (restarted facts.area facts.next_entry old) { first = group first; gate = 5 + length (group first) }
   log_is = saves.log_is ∙ carried_is (restarted facts.area facts.next_entry old) first
@@ -87,7 +87,7 @@ module _ (room count : ℕ) (p : Pages) (carried : List Deed) (old l : LogState)
     pub means : image room count c ≡ Some here
     means = subst (λ n. image room n c ≡ Some here) saves.many new.means
 
-    pub pages : HasPages room count here p
+    pub pages : IsSavedAs room count here p
     pages = record {
       format = saves.format;
       pages = saves.many;

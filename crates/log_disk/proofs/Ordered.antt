@@ -16,7 +16,7 @@ use Rattle.txn_machine.proofs.Holding.{contains_here}
 use Rattle.txn_log.specs.Stored.{PageEntry}
 use Rattle.txn_log.specs.Damaged.{part_key}
 use Rattle.txn_log.proofs.Placing.{in_rest}
-use Rattle.log_disk.specs.Found.{AreInOrder}
+use Rattle.log_disk.specs.Found.{AreByKey}
 
 -- ---- one list in order
 
@@ -24,7 +24,7 @@ less_apart : {P : Type 0} (x y : Place) → place_cmp x y ≡ Less → place_cmp
 less_apart x y h k = absurd (let e : Less ≡ Greater = sym h ∙ (place_cmp_total.antisymm x y ∙ ap ordering_reverse k) in cc)
 
 -- two lists in order with the same elements are one
-pub order_once : (xs ys : List PageEntry) → AreInOrder xs → AreInOrder ys → ((e : PageEntry) → Contains xs e → Contains ys e) → ((e : PageEntry) → Contains ys e → Contains xs e) → xs ≡ ys
+pub order_once : (xs ys : List PageEntry) → AreByKey xs → AreByKey ys → ((e : PageEntry) → Contains xs e → Contains ys e) → ((e : PageEntry) → Contains ys e → Contains xs e) → xs ≡ ys
 order_once [] [] h k f g = refl
 order_once [] (y ∷ ys) h k f g = absurd (contains_none y (g y (contains_here y ys)))
 order_once (x ∷ xs) [] h k f g = absurd (contains_none x (f x (contains_here x xs)))
@@ -36,7 +36,7 @@ order_once (x ∷ xs) (y ∷ ys) h k f g =
     (λ e c. in_rest x e xs (g e (Contains-append_right (y ∷ []) ys e c)) (λ s. less_apart y.0 e.0 (k.0 e c) (subst (λ (z : PageEntry). place_cmp z.0 y.0 ≡ Less) (same ∙ s) (subst (λ (z : PageEntry). place_cmp y.0 z.0 ≡ Less) (sym (same ∙ s)) (k.0 e c)))) (λ d. d)) in
     λ t. sym same t ∷ rest t
 
-order_both : (xs ys : List PageEntry) → AreInOrder xs → AreInOrder ys → ((e f : PageEntry) → Contains xs e → Contains ys f → place_cmp e.0 f.0 ≡ Less) → AreInOrder (xs ++ ys)
+order_both : (xs ys : List PageEntry) → AreByKey xs → AreByKey ys → ((e f : PageEntry) → Contains xs e → Contains ys f → place_cmp e.0 f.0 ≡ Less) → AreByKey (xs ++ ys)
 order_both [] ys h k less = k
 order_both (x ∷ xs) ys h k less = (
   (λ f c. ⊎_elim (h.0 f) (less x f (contains_here x xs)) (Contains-append_cases xs ys f c)),
@@ -126,7 +126,7 @@ texts_in n (ps ∷ texts) (suc k) parts i part e f =
     (subst (λ m. Contains (texts_from (n + 1) texts) ((0, part_key m i), part)) (let z : n + 1 + k ≡ n + suc k = omega arith in z) (texts_in (n + 1) texts k parts i part e f))
 
 -- they are in order
-parts_order : (n j : ℕ) (parts : List (List ℕ)) → n < 2 ^ 32 → j + length parts ≤ 2 ^ 16 → AreInOrder (parts_from n j parts)
+parts_order : (n j : ℕ) (parts : List (List ℕ)) → n < 2 ^ 32 → j + length parts ≤ 2 ^ 16 → AreByKey (parts_from n j parts)
 parts_order n j [] fn fits = tt
 parts_order n j (part ∷ parts) fn fits = (
   (λ f c.
@@ -144,7 +144,7 @@ short_at [] k parts h e = absurd (none-some parts e)
 short_at (ps ∷ texts) zero parts h e = subst (λ (qs : List (List ℕ)). length qs ≤ 2 ^ 16) (some_same ps parts e) h.0
 short_at (ps ∷ texts) (suc k) parts h e = short_at texts k parts h.1 e
 
-pub texts_order : (n : ℕ) (texts : List (List (List ℕ))) → n + length texts ≤ 2 ^ 32 → Short texts → AreInOrder (texts_from n texts)
+pub texts_order : (n : ℕ) (texts : List (List (List ℕ))) → n + length texts ≤ 2 ^ 32 → Short texts → AreByKey (texts_from n texts)
 texts_order n [] few short = tt
 texts_order n (parts ∷ texts) few short =
     order_both (parts_from n 0 parts) (texts_from (n + 1) texts) (parts_order n 0 parts (omega (arith, few)) (omega (arith, short.0))) (texts_order (n + 1) texts (omega (arith, few)) short.1)

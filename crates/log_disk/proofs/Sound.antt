@@ -24,8 +24,8 @@ use Rattle.txn_log.specs.Damaged.{Header, Page, Found, Device, FirstBad, FitsDev
 use Rattle.txn_log.proofs.Placing.{in_rest}
 use Rattle.txn_log.proofs.Printed.{one_statement}
 use Rattle.txn_log.proofs.Standing.{creates_once, row_numbered, total_numbered, in_row}
-use Rattle.log_disk.specs.Bears.{all_entries, AreLeaves, AreApart, AreStoredAs, end_of_first, Bears}
-use Rattle.log_disk.specs.Found.{header_of, scan_fault, StandsFirst, AreStored, AreDefinitions, IsFoundBy, IsFoundIn, AreLimited, NotDamagedLaw}
+use Rattle.log_disk.specs.Bears.{all_entries, AreLeaves, StandOnce, AreStoredAs, end_of_first, Bears}
+use Rattle.log_disk.specs.Found.{header_of, scan_fault, StandsFirst, ArePagesOf, AreDefinitions, IsFoundBy, IsFoundIn, AreLimited, NotDamagedLaw}
 use Rattle.log_disk.proofs.Areas.{image_live}
 use Rattle.log_disk.proofs.Ordered.{texts_from, order_once, in_texts, texts_in, texts_order}
 use Rattle.log_disk.proofs.Defining.{never_first, texts_are, definitions_good}
@@ -50,10 +50,10 @@ one_page room p (suc j) c Others rest next (f ∷ found) h =
     map-append (λ (x : Found). x.entry) (found_in f.place f.entries) (all_found found)
     ∙ (λ t. (in_page f.place f.entries ∙ h.0.entries) t ++ next found h.1 t)
 
-all_pages : (room k : ℕ) (c : List ℕ) (ps : List ℕ) (found : List Page) → AreStored room k c ps found → map (λ f. f.entry) (all_found found) ≡ all_entries (map (λ p. named room p (map_byte k p c) c) ps)
+all_pages : (room k : ℕ) (c : List ℕ) (ps : List ℕ) (found : List Page) → ArePagesOf room k c ps found → map (λ f. f.entry) (all_found found) ≡ all_entries (map (λ p. named room p (map_byte k p c) c) ps)
 all_pages room k c [] found h = ap (λ (fs : List Page). map (λ f. f.entry) (all_found fs)) h
 all_pages room k c (p ∷ ps) found h =
-    one_page room p (map_byte k p c) c (AreStored room k c ps) (map (λ p. named room p (map_byte k p c) c) ps) (all_pages room k c ps) found h
+    one_page room p (map_byte k p c) c (ArePagesOf room k c ps) (map (λ p. named room p (map_byte k p c) c) ps) (all_pages room k c ps) found h
 
 abbrev FormedGood : List Page → List Page → Type 0
 FormedGood earlier [] = Unit {0}
@@ -65,10 +65,10 @@ one_formed room p zero c Others rest next earlier found h leaves = next earlier 
 one_formed room p (suc j) c Others rest next earlier [] h leaves = absurd h
 one_formed room p (suc j) c Others rest next earlier (f ∷ found) h leaves = (h.0.leaf.1 leaves.0, next (f ∷ earlier) found h.1 leaves.1)
 
-all_formed : (room k : ℕ) (c : List ℕ) (ps : List ℕ) (earlier found : List Page) → AreStored room k c ps found → AreLeaves (map (λ p. named room p (map_byte k p c) c) ps) → FormedGood earlier found
+all_formed : (room k : ℕ) (c : List ℕ) (ps : List ℕ) (earlier found : List Page) → ArePagesOf room k c ps found → AreLeaves (map (λ p. named room p (map_byte k p c) c) ps) → FormedGood earlier found
 all_formed room k c [] earlier found h leaves = subst (FormedGood earlier) (sym h) tt
 all_formed room k c (p ∷ ps) earlier found h leaves =
-    one_formed room p (map_byte k p c) c (AreStored room k c ps) (map (λ p. named room p (map_byte k p c) c) ps) (all_formed room k c ps) earlier found h leaves
+    one_formed room p (map_byte k p c) c (ArePagesOf room k c ps) (map (λ p. named room p (map_byte k p c) c) ps) (all_formed room k c ps) earlier found h leaves
 
 -- ---- the page map
 
@@ -83,7 +83,7 @@ low_bytes place earlier (b ∷ bs) h = (h 0 (omega arith), low_bytes (place + 1)
 -- ---- keys
 
 abbrev ApartGood : List Found → List Found → Type 0
-ApartGood earlier fs = ((g : Found) → Contains fs g → Contains (map (λ e. e.entry.0) earlier) g.entry.0 → ⊥) × AreApart (map (λ f. f.entry) fs)
+ApartGood earlier fs = ((g : Found) → Contains fs g → Contains (map (λ e. e.entry.0) earlier) g.entry.0 → ⊥) × StandOnce (map (λ f. f.entry) fs)
 
 apart_step : (earlier : List Found) (y : Found) (ys : List Found) → ApartGood earlier (y ∷ ys) → (Contains (map (λ e. e.entry.0) earlier) y.entry.0 → ⊥) × ApartGood (y ∷ earlier) ys
 apart_step earlier y ys h = (
@@ -180,7 +180,7 @@ module _ (stored : List (Option (List ℕ))) (p : Pages) (a : AreStoredAs stored
         (subst (λ o. FirstBad (λ earlier g. EntryStands o g.entry → ⊥) [] all f) (same_schema objects h) bad)
 
     -- no key stands twice
-    no_key : AreApart (map (λ f. f.entry) all) → (f : Found) → FirstBad (λ earlier g. Contains (map (λ e. e.entry.0) earlier) g.entry.0) [] all f → ⊥
+    no_key : StandOnce (map (λ f. f.entry) all) → (f : Found) → FirstBad (λ earlier g. Contains (map (λ e. e.entry.0) earlier) g.entry.0) [] all f → ⊥
     no_key apart f bad = never_first (λ earlier g. Contains (map (λ e. e.entry.0) earlier) g.entry.0) ApartGood apart_step [] all f ((λ g c d. contains_none g.entry.0 d), apart) bad
 
 -- ---- all rules
@@ -231,14 +231,14 @@ module _ (room count : ℕ) (c : List ℕ) (i : Image) (b : Bears room count c i
   unfolding image_at
   stored_is = ap (λ (x : page.Image). x.stored) is
 
-  found : AreStored room k c (range_with_len 0 count) d.stored
-  found = subst (λ n. AreStored n k c (range_with_len 0 count) d.stored) size_is (subst (λ n. AreStored (area_size_of k c) k c (range_with_len 0 n) d.stored) pages_is by.stored)
+  found : ArePagesOf room k c (range_with_len 0 count) d.stored
+  found = subst (λ n. ArePagesOf n k c (range_with_len 0 count) d.stored) size_is (subst (λ n. ArePagesOf (area_size_of k c) k c (range_with_len 0 n) d.stored) pages_is by.stored)
 
   entries_are : map (λ f. f.entry) (all_found d.stored) ≡ all_entries b.here.stored
   entries_are = all_pages room k c (range_with_len 0 count) d.stored found ∙ ap all_entries stored_is
 
-  apart : AreApart (map (λ f. f.entry) (all_found d.stored))
-  apart = subst AreApart (sym entries_are) b.pages.stored.apart
+  apart : StandOnce (map (λ f. f.entry) (all_found d.stored))
+  apart = subst StandOnce (sym entries_are) b.pages.stored.apart
 
   defs : AreDefinitions (all_found d.stored) d.definitions
   defs = by.definitions apart

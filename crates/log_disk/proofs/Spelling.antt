@@ -21,7 +21,7 @@ use Rattle.txn_log.proofs.Once.{created}
 use Rattle.txn_log.proofs.Printed.{one_statement}
 use Rattle.txn_log.proofs.Meaning.{meant}
 use Rattle.log_records.specs.Area.{Entry}
-use Rattle.log_disk.specs.Spelled.{AddsTo, LeadTo, RowsFit, AllRowsFit, AreSpelled, spelled}
+use Rattle.log_disk.specs.Spelled.{AddsTo, LeadTo, IsSpellable, AreSpellable, AreSpelled, spelled}
 
 adds_what : (objects : Schema) (transaction : ℕ) (w : What) → AddsTo objects (what_record transaction w) objects
 adds_what objects transaction (Wrote c) = refl
@@ -67,50 +67,50 @@ if_under : (t : TableDef) (key : List ℕ) (row : Option Row) → FitsUnder t ke
 if_under t key None h = tt
 if_under t key (Some row) h = h.1
 
-change_fits : (objects : Schema) (transaction : ℕ) (c : RowChange) → IsChange objects c → RowsFit objects (machine.Write transaction c)
+change_fits : (objects : Schema) (transaction : ℕ) (c : RowChange) → IsChange objects c → IsSpellable objects (machine.Write transaction c)
 change_fits objects transaction c h =
     subst (λ (o : Option Object). IfSome c.before (FitAll (kinds_of_table o)) × IfSome c.after (FitAll (kinds_of_table o))) (sym h.table_is)
     (if_under h.of c.key.1 c.before h.before, if_under h.of c.key.1 c.after h.after)
 
-what_fits : (objects : Schema) (transaction : ℕ) (w : What) → IsKnown objects w → RowsFit objects (what_record transaction w)
+what_fits : (objects : Schema) (transaction : ℕ) (w : What) → IsKnown objects w → IsSpellable objects (what_record transaction w)
 what_fits objects transaction (Wrote c) h = change_fits objects transaction c h
 what_fits objects transaction (Added d) h = tt
 
 -- a record that says what fits has rows that fit
-pub says_fits : (s : Stored) (objects : Schema) (es : List Event) (r : Numbered) (e : Event) → s.db.schema ≡ objects → Says objects r e → RecordFits s es e → RowsFit objects r.of
+pub says_fits : (s : Stored) (objects : Schema) (es : List Event) (r : Numbered) (e : Event) → s.db.schema ≡ objects → Says objects r e → RecordFits s es e → IsSpellable objects r.of
 says_fits s objects es r (Kept x) same h fit =
-    subst (λ (y : Numbered). RowsFit objects y.of) (sym h) (what_fits objects x.transaction x.what (subst (λ o. IsKnown o x.what) same fit.1))
-says_fits s objects es r (Ghost n p c) same h fit = subst (λ (y : Numbered). RowsFit objects y.of) (sym h.0) tt
-says_fits s objects es r (Clean n p) same h fit = subst (λ (y : Numbered). RowsFit objects y.of) (sym h) tt
-says_fits s objects es r (Undo n t m) same h fit = subst (λ (y : Numbered). RowsFit objects y.of) (sym h) tt
-says_fits s objects es r (Commit n t k) same h fit = subst (λ (y : Numbered). RowsFit objects y.of) (sym h.1) tt
-says_fits s objects es r (Abort n t) same h fit = subst (λ (y : Numbered). RowsFit objects y.of) (sym h) tt
-says_fits s objects es r (Defined n k o) same h fit = subst (λ (y : Numbered). RowsFit objects y.of) (sym h.2) tt
+    subst (λ (y : Numbered). IsSpellable objects y.of) (sym h) (what_fits objects x.transaction x.what (subst (λ o. IsKnown o x.what) same fit.1))
+says_fits s objects es r (Ghost n p c) same h fit = subst (λ (y : Numbered). IsSpellable objects y.of) (sym h.0) tt
+says_fits s objects es r (Clean n p) same h fit = subst (λ (y : Numbered). IsSpellable objects y.of) (sym h) tt
+says_fits s objects es r (Undo n t m) same h fit = subst (λ (y : Numbered). IsSpellable objects y.of) (sym h) tt
+says_fits s objects es r (Commit n t k) same h fit = subst (λ (y : Numbered). IsSpellable objects y.of) (sym h.1) tt
+says_fits s objects es r (Abort n t) same h fit = subst (λ (y : Numbered). IsSpellable objects y.of) (sym h) tt
+says_fits s objects es r (Defined n k o) same h fit = subst (λ (y : Numbered). IsSpellable objects y.of) (sym h.2) tt
 
-pub carried_fits : (objects : Schema) (ds : List Deed) → AllDeeds (IsKnown objects) ds → AllRowsFit objects (map written ds)
+pub carried_fits : (objects : Schema) (ds : List Deed) → AllDeeds (IsKnown objects) ds → AreSpellable objects (map written ds)
 carried_fits objects [] h = tt
 carried_fits objects (d ∷ ds) h = (what_fits objects d.transaction d.what h.0, carried_fits objects ds h.1)
 
 -- in an image that is right the carried records fit, and the last of the others
-pub right_carried : (s : Store) (i : Image) (n : ℕ) → IsRight s i n → AllRowsFit i.pages.db.schema i.carried
+pub right_carried : (s : Store) (i : Image) (n : ℕ) → IsRight s i n → AreSpellable i.pages.db.schema i.carried
 right_carried s i n right =
-    subst (AllRowsFit i.pages.db.schema) (sym right.is_read.carried)
+    subst (AreSpellable i.pages.db.schema) (sym right.is_read.carried)
     (carried_fits i.pages.db.schema right.reading.carried (subst (λ (p : Pages). AllDeeds (IsKnown p.db.schema) right.reading.carried) right.is_read.pages right.fits.known))
 
 last_fits : (p : Pages) (carried : List Deed) (r : Numbered) (rs : List Numbered) (es : List Event) → AllSay p.db.schema (r ∷ rs) es → AllFit (on_pages p carried) es
-    → (before : Schema) → LeadTo p.db.schema rs before → RowsFit before r.of
+    → (before : Schema) → LeadTo p.db.schema rs before → IsSpellable before r.of
 last_fits p carried r rs [] say fit before leads = absurd say
 last_fits p carried r rs (e ∷ es) say fit before leads =
     let same : definitions p.db.schema es ≡ before = leads_once p.db.schema rs (definitions p.db.schema es) before (said_leads p.db.schema rs es say.1) leads in
-    subst (λ o. RowsFit o r.of) same (says_fits (replay (on_pages p carried) es) (definitions p.db.schema es) es r e (meant p carried es fit.2).schema say.0 fit.0)
+    subst (λ o. IsSpellable o r.of) same (says_fits (replay (on_pages p carried) es) (definitions p.db.schema es) es r e (meant p carried es fit.2).schema say.0 fit.0)
 
 pub right_last : (s : Store) (p : Pages) (carried : List Numbered) (r : Numbered) (rs : List Numbered) (n : ℕ) → IsRight s (record { pages = p; carried = carried; after = r ∷ rs }) n
-    → (before : Schema) → LeadTo p.db.schema rs before → RowsFit before r.of
+    → (before : Schema) → LeadTo p.db.schema rs before → IsSpellable before r.of
 right_last s p carried r rs n right before leads =
     last_fits p right.reading.carried r rs right.reading.after right.is_read.after (subst (λ (q : Pages). AllFit (on_pages q right.reading.carried) right.reading.after) right.is_read.pages right.fits.records) before leads
 
 -- one record more
-pub one_spelled : (objects before : Schema) (r : Numbered) (rs : List Numbered) (waits others : List Entry) → LeadTo objects rs before → RowsFit before r.of → AreSpelled objects rs (reverse waits ++ others)
+pub one_spelled : (objects before : Schema) (r : Numbered) (rs : List Numbered) (waits others : List Entry) → LeadTo objects rs before → IsSpellable before r.of → AreSpelled objects rs (reverse waits ++ others)
     → AreSpelled objects (r ∷ rs) (reverse (waits ++ spelled before r ∷ []) ++ others)
 one_spelled objects before r rs waits others leads fit h =
     subst (λ (es : List Entry). AreSpelled objects (r ∷ rs) (es ++ others)) (sym (reverse-append waits (spelled before r ∷ []))) (h, (before, leads, fit, refl))

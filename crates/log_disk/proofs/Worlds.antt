@@ -2,7 +2,7 @@
 use Rattle.std.specs.Prelude.{◌≡◌, List}
 use mathlib.Core.Path.{refl}
 use Rattle.txn_log.specs.Replay.{Deed}
-use Rattle.txn_log.specs.Moments.{World, At, Amid, Halted, Keeps, Writes, disk_of, Moves, begins, acts, ends, flushes, acknowledges, publishes, fails_commit, fails_define, fails_before, fails_after, told, told_halted, Run, here, then_move}
+use Rattle.txn_log.specs.Moments.{World, At, Amid, Halted, Keeps, Writes, store_of, disk_of, Moves, begins, acts, ends, flushes, acknowledges, publishes, fails_commit, fails_define, fails_before, fails_after, told, told_halted, Run, here, then_move}
 use Rattle.log_disk.specs.Calls.{AreTwins}
 
 -- it goes on, or a fault of the disk stopped it
@@ -56,3 +56,10 @@ twin_acknowledged (Amid after i a s l es d) w twins = absurd twins
 twin_acknowledged (Halted s next d) (At t e) twins = absurd twins
 twin_acknowledged (Halted s next d) (Amid after i a t l es e) twins = absurd twins
 twin_acknowledged (Halted s next d) (Halted t other e) twins = twins.1
+
+pub twin_store : (v w : World) → AreTwins v w → store_of w ≡ store_of v
+twin_store (At s d) w twins = absurd twins
+twin_store (Amid after i a s l es d) w twins = absurd twins
+twin_store (Halted s next d) (At t e) twins = absurd twins
+twin_store (Halted s next d) (Amid after i a t l es e) twins = absurd twins
+twin_store (Halted s next d) (Halted t other e) twins = twins.0

@@ -13,7 +13,7 @@ use Rattle.txn_log.specs.Replay.{Pages}
 use Rattle.txn_log.specs.Appended.{Image}
 use Rattle.txn_log.specs.Groups.{after_of}
 use Rattle.txn_log.specs.Stored.{PageEntry, StandFor, Define, AreProper}
-use Rattle.log_disk.specs.Spelled.{spelled, AllRowsFit, AreSpelled}
+use Rattle.log_disk.specs.Spelled.{spelled, AreSpellable, AreSpelled}
 
 -- ---- stored pages
 
@@ -33,16 +33,16 @@ AreLeaves (None ∷ pages) = AreLeaves pages
 AreLeaves (Some page ∷ pages) = IsLeaf page × AreLeaves pages
 
 -- no two are of one index and key
-abbrev pub AreApart : List PageEntry → Type 0
-AreApart [] = Unit {0}
-AreApart (e ∷ es) = (Contains (map (λ f. f.0) es) e.0 → ⊥) × AreApart es
+abbrev pub StandOnce : List PageEntry → Type 0
+StandOnce [] = Unit {0}
+StandOnce (e ∷ es) = (Contains (map (λ f. f.0) es) e.0 → ⊥) × StandOnce es
 
 -- Stored pages hold the rows, the totals and the definitions of these, in entries that stand once. Object numbers fit four bytes, and
 -- parts of a definition two.
 pub record AreStoredAs (stored : List (Option (List ℕ))) (p : Pages) : Type 0 where
   pub proper : AreProper p
   pub leaves : AreLeaves stored
-  pub apart : AreApart (all_entries stored)
+  pub apart : StandOnce (all_entries stored)
   pub texts : List (List (List ℕ))
   pub few : length texts < 2 ^ 32 - 1
   pub short : AllByRecursion (λ parts. length parts ≤ 2 ^ 16) texts
@@ -52,7 +52,7 @@ pub record AreStoredAs (stored : List (Option (List ℕ))) (p : Pages) : Type 0 
 -- ---- the image
 
 -- a live header and its pages are those of a checkpoint, on a disk with areas of this size and this many pages
-pub record HasPages (room count : ℕ) (here : page.Image) (p : Pages) : Type 0 where
+pub record IsSavedAs (room count : ℕ) (here : page.Image) (p : Pages) : Type 0 where
   pub format : here.format ≡ 1
   pub pages : here.pages ≡ count
   pub areas : here.area_size ≡ room
@@ -64,7 +64,7 @@ pub record HasPages (room count : ℕ) (here : page.Image) (p : Pages) : Type 0 
 -- the first block has the carried records, and ends at the redo place; the other blocks have the further ones
 pub record HasRecords (here : page.Image) (i : Image) (first : List Entry) (others : List (List Entry)) : Type 0 where
   pub carried : reverse first ≡ map (spelled i.pages.db.schema) i.carried
-  pub fit : AllRowsFit i.pages.db.schema i.carried
+  pub fit : AreSpellable i.pages.db.schema i.carried
   pub redo : here.redo ≡ length (block (group first))
   pub after : AreSpelled i.pages.db.schema i.after (after_of others)
 
@@ -76,7 +76,7 @@ end_of_first area = if get_or area 0 0 == 165 then Some (frame_size area) else N
 pub record Bears (room count : ℕ) (c : List ℕ) (i : Image) : Type 0 where
   pub here : page.Image
   pub means : image room count c ≡ Some here
-  pub pages : HasPages room count here i.pages
+  pub pages : IsSavedAs room count here i.pages
   pub first : List Entry
   pub others : List (List Entry)
   pub first_end : end_of_first here.log ≡ Some here.redo

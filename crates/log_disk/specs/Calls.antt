@@ -20,10 +20,10 @@ use Rattle.txn_log.specs.Appended.{written}
 use Rattle.txn_log.specs.Groups.{after_of}
 use Rattle.txn_log.specs.Moments.{Disk, World, Halted, Moves, Keeps, Writes, store_of, disk_of, with_disk, image_of, with_record, flushed_all, pages_now, published}
 use Rattle.log_disk.specs.Spelled.{spelled, AreSpelled}
-use Rattle.log_disk.specs.Bears.{AreStoredAs, HasPages, HasRecords}
+use Rattle.log_disk.specs.Bears.{AreStoredAs, IsSavedAs, HasRecords}
 
 -- what disks of a type tell, by the members of their trait
-pub record Telling (D : Type 0) : Type 1 where
+pub record DiskTells (D : Type 0) : Type 1 where
   pub size_of : D → ℕ
   pub seen : D → List ℕ
   pub may_leave : D → List ℕ → Type 0
@@ -33,8 +33,8 @@ pub record Telling (D : Type 0) : Type 1 where
 -- ---- the log in memory
 
 -- a record waits
-abbrev pub appended : LogState → Entry → LogState
-appended log e = record log { waiting = log.waiting ++ spelling e.number e.entry; next = log.next + 1; reserved = log.reserved - length (spelling e.number e.entry) }
+abbrev pub with_waiting : LogState → Entry → LogState
+with_waiting log e = record log { waiting = log.waiting ++ spelling e.number e.entry; next = log.next + 1; reserved = log.reserved - length (spelling e.number e.entry) }
 
 -- the first block has these records more
 abbrev pub with_carried : LogState → List Entry → LogState
@@ -42,8 +42,8 @@ with_carried log [] = log
 with_carried log (e ∷ es) = with_carried (record log { first = log.first ++ spelling e.number e.entry; gate = log.gate + length (spelling e.number e.entry) }) es
 
 -- carried records as the first block has them
-abbrev pub first_of : Pages → List Deed → List Entry
-first_of p carried = reverse (map (λ d. spelled p.db.schema (written d)) carried)
+abbrev pub first_entries : Pages → List Deed → List Entry
+first_entries p carried = reverse (map (λ d. spelled p.db.schema (written d)) carried)
 
 -- the first block, and the closed gate behind it
 abbrev pub first_block : LogState → List ℕ
@@ -51,13 +51,13 @@ first_block log = block log.first ++ 0 ∷ []
 
 -- ---- between two calls
 
--- the bytes of a disk, and a log in memory, have the pages and the records of the machine's disk; no header or slot lies in an area
+-- the bytes of a disk, and a log in memory, have the pages and the records of the machine's disk
 pub record IsOn (room count : ℕ) (d : Disk) (log : LogState) (s : List ℕ) : Type 0 where
   pub size : length s ≡ 278528 + 2 * room + 16384 * count
   pub few : count ≤ 131072
   pub here : page.Image
   pub means : image room count s ≡ Some here
-  pub pages : HasPages room count here d.pages
+  pub pages : IsSavedAs room count here d.pages
   pub first : List Entry
   pub others : List (List Entry)
   pub records : HasRecords here (image_of d []) first others
@@ -72,7 +72,7 @@ pub record IsOn (room count : ℕ) (d : Disk) (log : LogState) (s : List ℕ) : 
 
 -- ---- what calls say
 
-module _ {D : Type 0} (t : Telling D) where
+module _ {D : Type 0} (t : DiskTells D) where
   -- a call that writes nothing
   pub record Read (old new : D) : Type 0 where
     pub seen : t.seen new ≡ t.seen old
@@ -129,8 +129,8 @@ pub record Saves (room count : ℕ) (p : Pages) (carried : List Deed) (old log :
   pub commits : facts.commits ≡ p.db.number
   pub many : length stored ≡ count
   pub pages : AreStoredAs (stored_pages stored bytes) p
-  pub log_is : log ≡ with_carried (restarted facts.area facts.next_entry old) (first_of p carried)
-  pub small : AllByRecursion IsSmall (first_of p carried)
+  pub log_is : log ≡ with_carried (restarted facts.area facts.next_entry old) (first_entries p carried)
+  pub small : AllByRecursion IsSmall (first_entries p carried)
   pub short : length log.first < 2 ^ 28
   pub block_fits : length (first_block log) ≤ room
 
@@ -140,14 +140,14 @@ pub record Appends (v w : World) (log after : LogState) : Type 0 where
   pub number : ℕ
   pub disk : disk_of w ≡ with_record (Some of) number (disk_of v)
   pub small : IsSmall (spelled (schema_of (store_of v)) (record { number = number; of = of }))
-  pub log_is : after ≡ appended log (spelled (schema_of (store_of v)) (record { number = number; of = of }))
+  pub log_is : after ≡ with_waiting log (spelled (schema_of (store_of v)) (record { number = number; of = of }))
 
 -- stopped on the same store, whatever the disk has
 abbrev pub AreTwins : World → World → Type 0
 AreTwins (Halted s next d) (Halted u other e) = (other ≡ next) × (e.acknowledged ≡ d.acknowledged)
 AreTwins _ _ = ⊥
 
-module _ {D : Type 0} (t : Telling D) (room count : ℕ) where
+module _ {D : Type 0} (t : DiskTells D) (room count : ℕ) where
   pub data Call : Stage D → Stage D → Type 0 where
     -- the machine goes on, and nothing is appended
     goes_on : (a : Stage D) (w : World) → Moves a.world w → SameRecords (disk_of a.world) (disk_of w) → Call a (record a { world = w })
@@ -173,6 +173,6 @@ module _ {D : Type 0} (t : Telling D) (room count : ℕ) where
     then_call : (b c : Stage D) → Calls a b → Call b c → Calls a c
 
   -- the disk has what the machine's disk has, and no write waits
-  pub record Begun (a : Stage D) : Type 0 where
+  pub record IsInStep (a : Stage D) : Type 0 where
     pub is_on : IsOn room count (disk_of a.world) a.log (t.seen a.disk)
     pub settled : Only (t.seen a.disk) (t.may_leave a.disk)

@@ -15,7 +15,7 @@ use Rattle.table_laws.specs.Place.{place_cmp}
 use Rattle.txn_log.specs.Appended.{Image}
 use Rattle.txn_log.specs.Stored.{PageEntry}
 use Rattle.txn_log.specs.Damaged.{Header, Page, Found, Device, Rule, all_found, IsDamaged}
-use Rattle.log_disk.specs.Bears.{page_entries, AreApart, end_of_first, Bears}
+use Rattle.log_disk.specs.Bears.{page_entries, StandOnce, end_of_first, Bears}
 
 -- the header that begins there
 abbrev pub header_of : ℕ → List ℕ → Header
@@ -37,7 +37,7 @@ scan_fault at (Ok records) = None
 scan_fault at (Err e) = Some (e.rule, at + e.place)
 
 -- a page with these bytes, at this place
-pub record IsPage (place : ℕ) (bytes : List ℕ) (p : Page) : Type 0 where
+pub record IsPageOf (place : ℕ) (bytes : List ℕ) (p : Page) : Type 0 where
   pub at : p.place ≡ place
   pub leaf : (p.formed ≡ true) ↔ IsLeaf bytes
   pub entries : p.entries ≡ page_entries bytes
@@ -46,22 +46,22 @@ pub record IsPage (place : ℕ) (bytes : List ℕ) (p : Page) : Type 0 where
 abbrev pub StandsFirst : ℕ → ℕ → ℕ → List ℕ → (List Page → Type 0) → List Page → Type 0
 StandsFirst room p zero c Others found = Others found
 StandsFirst room p (suc j) c Others [] = ⊥
-StandsFirst room p (suc j) c Others (f ∷ found) = IsPage (slot_at room p j) (part (slot_at room p j) 8192 c) f × Others found
+StandsFirst room p (suc j) c Others (f ∷ found) = IsPageOf (slot_at room p j) (part (slot_at room p j) 8192 c) f × Others found
 
 -- the stored pages of these numbers, in order
-abbrev pub AreStored : ℕ → ℕ → List ℕ → List ℕ → List Page → Type 0
-AreStored room k c [] found = found ≡ []
-AreStored room k c (p ∷ ps) found = StandsFirst room p (map_byte k p c) c (AreStored room k c ps) found
+abbrev pub ArePagesOf : ℕ → ℕ → List ℕ → List ℕ → List Page → Type 0
+ArePagesOf room k c [] found = found ≡ []
+ArePagesOf room k c (p ∷ ps) found = StandsFirst room p (map_byte k p c) c (ArePagesOf room k c ps) found
 
 -- in the order of their keys, each key once
-abbrev pub AreInOrder : List PageEntry → Type 0
-AreInOrder [] = Unit {0}
-AreInOrder (e ∷ es) = ((f : PageEntry) → Contains es f → place_cmp e.0 f.0 ≡ Less) × AreInOrder es
+abbrev pub AreByKey : List PageEntry → Type 0
+AreByKey [] = Unit {0}
+AreByKey (e ∷ es) = ((f : PageEntry) → Contains es f → place_cmp e.0 f.0 ≡ Less) × AreByKey es
 
 -- the entries of index 0 among these, in the order of their keys
 pub record AreDefinitions (all ds : List Found) : Type 0 where
   pub among : (f : Found) → Contains ds f ↔ (Contains all f × (f.entry.0.0 ≡ 0))
-  pub in_order : AreInOrder (map_of (λ f. f.entry) ds)
+  pub in_order : AreByKey (map_of (λ f. f.entry) ds)
 
 -- by the live header k
 pub record IsFoundBy (k : ℕ) (c : List ℕ) (d : Device) : Type 0 where
@@ -69,9 +69,9 @@ pub record IsFoundBy (k : ℕ) (c : List ℕ) (d : Device) : Type 0 where
   pub first_end : d.first_end ≡ end_of_first (part (area_at (area_size_of k c) (area_of k c)) (area_size_of k c) c)
   pub scan : d.scan ≡ scan_fault (area_at (area_size_of k c) (area_of k c)) (scanned (part (area_at (area_size_of k c) (area_of k c)) (area_size_of k c) c))
   pub map : d.map ≡ part (header_at k + 64) (pages_of k c) c
-  pub stored : AreStored (area_size_of k c) k c (range_with_len 0 (pages_of k c)) d.stored
+  pub stored : ArePagesOf (area_size_of k c) k c (range_with_len 0 (pages_of k c)) d.stored
   -- where no key stands twice
-  pub definitions : AreApart (map_of (λ f. f.entry) (all_found d.stored)) → AreDefinitions (all_found d.stored) d.definitions
+  pub definitions : StandOnce (map_of (λ f. f.entry) (all_found d.stored)) → AreDefinitions (all_found d.stored) d.definitions
 
 abbrev pub IsFoundIn : Option ℕ → List ℕ → Device → Type 0
 IsFoundIn None c d = d.header ≡ None

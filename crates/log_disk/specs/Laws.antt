@@ -8,12 +8,15 @@ use Rattle.page_store.specs.Image as page
 use Rattle.page_store.specs.Image.{image}
 use Rattle.wal_log.specs.Log.{LogState, IsOutside}
 use Rattle.txn_machine.specs.Log.{Opening}
+use Rattle.txn_machine.specs.State.{State}
+use Rattle.txn_machine.specs.Store.{committed}
 use Rattle.txn_machine.specs.Laws.{IsOpened}
-use Rattle.txn_log.specs.Replay.{Pages}
-use Rattle.txn_log.specs.Appended.{Image}
-use Rattle.txn_log.specs.Moments.{World, Writes, disk_of, store_of, left_by, Run, opened_world, IsRight}
+use Rattle.txn_log.specs.Replay.{Pages, Reading, recovered}
+use Rattle.txn_log.specs.Fitting.{IsFit}
+use Rattle.txn_log.specs.Appended.{Image, IsRead}
+use Rattle.txn_log.specs.Moments.{Disk, World, At, Writes, disk_of, store_of, left_by, Run, opened_world, IsRight}
 use Rattle.log_disk.specs.Bears.{Bears}
-use Rattle.log_disk.specs.Calls.{Telling, Stage, Saves, PublishCalled, Published, first_block, Calls, Begun, AreTwins}
+use Rattle.log_disk.specs.Calls.{DiskTells, Stage, Saves, PublishCalled, Published, first_block, Calls, IsInStep, AreTwins}
 
 -- bytes written in the log areas change the log alone: header, page map and stored pages mean what they did
 abbrev pub AreasLaw : Type 0
@@ -21,10 +24,10 @@ AreasLaw = (room count : ℕ) (s c : List ℕ) (here : page.Image) → length s 
     → IsOutside 278528 (2 * room) s c → image room count c ≡ Some (record here { log = part (page.area_at room here.area) room c })
 
 -- a world on the way from one to another, or what a fault of the disk may have left in place of that other
-abbrev pub Between : World → World → World → Type 0
-Between u v w = (Run u w × Run w v) ⊎ AreTwins v w
+abbrev pub OnTheWay : World → World → World → Type 0
+OnTheWay u v w = (Run u w × Run w v) ⊎ AreTwins v w
 
-module _ {D : Type 0} (t : Telling D) where
+module _ {D : Type 0} (t : DiskTells D) where
   -- while an opening publishes what it recovered, a crash leaves the image that it found or the one that it publishes
   abbrev pub OpeningLaw : Type 0
   OpeningLaw = (room count : ℕ) (i : Image) (p : Pages) (former log : LogState) (facts : HeaderFacts) (stored : List Bool) (bytes : List ℕ) (old new : D)
@@ -37,22 +40,29 @@ module _ {D : Type 0} (t : Telling D) where
   OpenedLaw = (room count : ℕ) (p : Pages) (opening : Opening) (former log : LogState) (facts : HeaderFacts) (stored : List Bool) (bytes : List ℕ) (old new : D)
       → t.size_of new ≡ 278528 + 2 * room + 16384 * count → count ≤ 131072 → former.size ≡ room
       → Saves room count p [] former log facts stored bytes → Published t room facts (first_block log) stored bytes old new
-      → Begun t room count (record { world = opened_world opening p; log = log; disk = new })
+      → IsInStep t room count (record { world = opened_world opening p; log = log; disk = new })
 
   -- after any calls a machine that no fault of the disk stopped has on the disk what its moments say
   abbrev pub StandingLaw : Type 0
-  StandingLaw = (room count : ℕ) (p : Pages) → IsOpened p.db p.view → (opening : Opening) (first : Stage D) → first.world ≡ opened_world opening p → Begun t room count first
-      → (a : Stage D) → Calls t room count first a → Run (opened_world opening p) a.world × (Writes a.world → Begun t room count a)
+  StandingLaw = (room count : ℕ) (p : Pages) → IsOpened p.db p.view → (opening : Opening) (first : Stage D) → first.world ≡ opened_world opening p → IsInStep t room count first
+      → (a : Stage D) → Calls t room count first a → Run (opened_world opening p) a.world × (Writes a.world → IsInStep t room count a)
 
   -- whatever a crash may leave at any moment since one of the calls bears what a crash of the machine leaves, without some of its waiting
   -- records, in a world that the calls since then pass
   abbrev pub CallsLaw : Type 0
-  CallsLaw = (room count : ℕ) (p : Pages) → IsOpened p.db p.view → (opening : Opening) (first : Stage D) → first.world ≡ opened_world opening p → Begun t room count first
+  CallsLaw = (room count : ℕ) (p : Pages) → IsOpened p.db p.view → (opening : Opening) (first : Stage D) → first.world ≡ opened_world opening p → IsInStep t room count first
       → (a b : Stage D) → Calls t room count first a → Calls t room count a b → (c : List ℕ) → t.left_since b.disk (t.moment a.disk) c
-      → (w : World) × (k : ℕ) × Run (opened_world opening p) w × Between a.world b.world w × Bears room count c (left_by w k)
+      → (w : World) × (k : ℕ) × Run (opened_world opening p) w × OnTheWay a.world b.world w × Bears room count c (left_by w k)
 
   -- so it is right, and it has every commit that was acknowledged before that call
   abbrev pub PrefixLaw : Type 0
-  PrefixLaw = (room count : ℕ) (p : Pages) → IsOpened p.db p.view → (opening : Opening) (first : Stage D) → first.world ≡ opened_world opening p → Begun t room count first
+  PrefixLaw = (room count : ℕ) (p : Pages) → IsOpened p.db p.view → (opening : Opening) (first : Stage D) → first.world ≡ opened_world opening p → IsInStep t room count first
       → (a b : Stage D) → Calls t room count first a → Calls t room count a b → (c : List ℕ) → t.left_since b.disk (t.moment a.disk) c
-      → (w : World) × (k : ℕ) × Between a.world b.world w × Bears room count c (left_by w k) × IsRight (store_of w) (left_by w k) (disk_of a.world).acknowledged
+      → (w : World) × (k : ℕ) × OnTheWay a.world b.world w × Bears room count c (left_by w k) × IsRight (store_of w) (left_by w k) (disk_of a.world).acknowledged
+
+  -- and where one step, or none, was committed since, it recovers to what was committed before it or to what is committed after it
+  abbrev pub OneStepLaw : Type 0
+  OneStepLaw = (room count : ℕ) (p : Pages) → IsOpened p.db p.view → (opening : Opening) (first : Stage D) → first.world ≡ opened_world opening p → IsInStep t room count first
+      → (a b : Stage D) → Calls t room count first a → Calls t room count a b → (s : State) (d : Disk) → a.world ≡ At s d
+      → (committed (store_of b.world)).number ≤ (committed s.store).number + 1 → (c : List ℕ) → t.left_since b.disk (t.moment a.disk) c
+      → (i : Image) × Bears room count c i × (r : Reading) × IsRead i r × IsFit r × (((recovered r).db ≡ committed s.store) ⊎ ((recovered r).db ≡ committed (store_of b.world)))

@@ -33,14 +33,14 @@ abbrev pub spelled : Schema → Numbered → Entry
 spelled objects r = record { number = r.number; entry = in_bytes objects r.of }
 
 -- a record's rows fit the table that it names
-abbrev pub RowsFit : Schema → Record → Type 0
-RowsFit objects (machine.Write transaction c) =
+abbrev pub IsSpellable : Schema → Record → Type 0
+IsSpellable objects (machine.Write transaction c) =
     IfSome c.before (FitAll (kinds_of_table (numbered objects c.key.0))) × IfSome c.after (FitAll (kinds_of_table (numbered objects c.key.0)))
-RowsFit objects _ = Unit {0}
+IsSpellable objects _ = Unit {0}
 
-abbrev pub AllRowsFit : Schema → List Numbered → Type 0
-AllRowsFit objects [] = Unit {0}
-AllRowsFit objects (r ∷ rs) = RowsFit objects r.of × AllRowsFit objects rs
+abbrev pub AreSpellable : Schema → List Numbered → Type 0
+AreSpellable objects [] = Unit {0}
+AreSpellable objects (r ∷ rs) = IsSpellable objects r.of × AreSpellable objects rs
 
 -- the definitions after a record, where these stood before it
 abbrev pub AddsTo : Schema → Record → Schema → Type 0
@@ -55,5 +55,5 @@ LeadTo objects (r ∷ rs) all = (before : Schema) × LeadTo objects rs before ×
 -- each beside the definitions that stand where it was appended
 abbrev pub AreSpelled : Schema → List Numbered → List Entry → Type 0
 AreSpelled objects [] [] = Unit {0}
-AreSpelled objects (r ∷ rs) (e ∷ es) = AreSpelled objects rs es × ((before : Schema) × LeadTo objects rs before × RowsFit before r.of × (e ≡ spelled before r))
+AreSpelled objects (r ∷ rs) (e ∷ es) = AreSpelled objects rs es × ((before : Schema) × LeadTo objects rs before × IsSpellable before r.of × (e ≡ spelled before r))
 AreSpelled objects _ _ = ⊥

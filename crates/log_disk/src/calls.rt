@@ -1,6 +1,6 @@
 //! Laws of calls on a disk. Each function is there for its contract.
-ghost use Rattle.log_disk.specs.Calls.{Telling};
-ghost use Rattle.log_disk.specs.Laws.{AreasLaw, OpeningLaw, OpenedLaw, StandingLaw, CallsLaw, PrefixLaw};
+ghost use Rattle.log_disk.specs.Calls.{DiskTells};
+ghost use Rattle.log_disk.specs.Laws.{AreasLaw, OpeningLaw, OpenedLaw, StandingLaw, CallsLaw, PrefixLaw, OneStepLaw};
 
 use disk_io::Disk;
 
@@ -33,4 +33,9 @@ pub fn calls_law<D: Disk>()
 /// So it recovers to the database at a commit number, with every commit acknowledged before the call.
 pub fn prefix_law<D: Disk>()
     ensures { D.is_told → PrefixLaw (record { size_of = D.size_of; seen = D.seen; may_leave = D.may_leave; moment = D.moment; left_since = D.left_since }) }
+{}
+
+/// Where one step, or none, was committed since, it recovers to what was committed before or to what is committed after.
+pub fn one_step_law<D: Disk>()
+    ensures { D.is_told → OneStepLaw (record { size_of = D.size_of; seen = D.seen; may_leave = D.may_leave; moment = D.moment; left_since = D.left_since }) }
 {}

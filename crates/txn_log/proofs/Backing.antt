@@ -193,11 +193,11 @@ hi_inc p column (Wrote c) ds = omega (arith, ints)
 hi_inc p column (Added d) ds = elim (is_for p d) as (λ b. hi ds ≤ℤ hi (cond b (worth column d ∷ ds) ds)) [ true ↦ hi_more (worth column d) ds | false ↦ omega (arith, ints) ]
 
 -- the bounds of one transaction hold of what is left of it
-abbrev pub IsWithin : (ℕ → ℕ) → List Deed → List Deed → Type 0
-IsWithin ids live xs = (p : Place) (column i : ℕ)
+abbrev pub IsOfStep : (ℕ → ℕ) → List Deed → List Deed → Type 0
+IsOfStep ids live xs = (p : Place) (column i : ℕ)
     → (lo (incs p column (own (ids i) live)) ≤ℤ lo (incs p column (own (ids i) xs))) × (hi (incs p column (own (ids i) xs)) ≤ℤ hi (incs p column (own (ids i) live)))
 
-within_rest : (ids : ℕ → ℕ) (live : List Deed) (x : Deed) (xs : List Deed) → IsWithin ids live (x ∷ xs) → IsWithin ids live xs
+within_rest : (ids : ℕ → ℕ) (live : List Deed) (x : Deed) (xs : List Deed) → IsOfStep ids live (x ∷ xs) → IsOfStep ids live xs
 within_rest ids live x xs h p column i =
     let was = h p column i in
     by_number x.transaction (ids i)
@@ -227,10 +227,10 @@ owned_rest ids x xs h = record {
 pub ranged : (ids : ℕ → ℕ) (live : List Deed) (value : Place → ℕ → ℤ)
     → ((p : Place) (column : ℕ) → IsHuge (value p column +ℤ over_sessions (λ i. lo (incs p column (own (ids i) live)))))
     → ((p : Place) (column : ℕ) → IsHuge (value p column +ℤ over_sessions (λ i. hi (incs p column (own (ids i) live)))))
-    → (xs : List Deed) → IsWithin ids live xs → AreOwned ids xs → AllRanged value xs
+    → (xs : List Deed) → IsOfStep ids live xs → AreOwned ids xs → AllRanged value xs
 ranged ids live value low high [] within owned = tt
 ranged ids live value low high (x ∷ xs) within owned =
-    let rest : IsWithin ids live xs = within_rest ids live x xs within in
+    let rest : IsOfStep ids live xs = within_rest ids live x xs within in
     let mine : AreOwned ids xs = owned_rest ids x xs owned in (
       λ p column.
           let sums : over_sessions (λ i. amounts p column (own (ids i) xs)) ≡ amounts p column xs = sums_of_own ids p column xs mine.one mine.none in

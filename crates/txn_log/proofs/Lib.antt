@@ -30,3 +30,4 @@ pub mod Standing
 pub mod Damaging
 pub mod Groups
 pub mod Passing
+pub mod Rooming

@@ -30,7 +30,7 @@ use Rattle.txn_log.specs.Laws.{ReadingLaw}
 use Rattle.txn_log.specs.Within.{StepCrashLaw, FaultCrashLaw}
 use Rattle.txn_log.proofs.Following.{PrintsAgain}
 use Rattle.txn_log.proofs.Lifting.{run_both}
-use Rattle.txn_log.proofs.Happening.{crash, good_run, good_opened, followed_world}
+use Rattle.txn_log.proofs.Happening.{IsGoodWorld, crash, good_run, good_opened, followed_world}
 use Rattle.txn_log.proofs.Running.{Grows, grows}
 use Rattle.txn_log.proofs.Living.{origin_all, fold_both}
 use Rattle.txn_log.proofs.Settling.{settled_run}
@@ -50,28 +50,28 @@ at_most : (m n : ℕ) → n ≡ m → m ≤ n
 at_most m n e = omega (arith, e)
 
 module _ (printed : PrintsAgain) (p : Pages) (was : IsOpened p.db p.view) (opening : Opening) where
-  grows_move : (v w : World) → Run (opened_world opening p) v → Moves v w → (disk_of v).acknowledged ≤ (disk_of w).acknowledged
-  grows_move v w r (begins s disk i a said after may d f) = omega arith
-  grows_move v w r (acts after i a s l e es disk) = at_most disk.acknowledged (with_record _ l.next disk).acknowledged (same_acknowledged _ l.next disk)
-  grows_move v w r (ends after i a s l disk done) = omega arith
-  grows_move v w r (flushes u writes) = at_most (disk_of u).acknowledged _ (ap (λ (d : Disk). d.acknowledged) (disk_with u _))
-  grows_move v w r (acknowledges u none writes) =
+  had_move : (v w : World) → Run (opened_world opening p) v → Moves v w → (disk_of v).acknowledged ≤ (disk_of w).acknowledged
+  had_move v w r (begins s disk i a said after may d f) = omega arith
+  had_move v w r (acts after i a s l e es disk) = at_most disk.acknowledged (with_record _ l.next disk).acknowledged (same_acknowledged _ l.next disk)
+  had_move v w r (ends after i a s l disk done) = omega arith
+  had_move v w r (flushes u writes) = at_most (disk_of u).acknowledged _ (ap (λ (d : Disk). d.acknowledged) (disk_with u _))
+  had_move v w r (acknowledges u none writes) =
       let right : IsRight (store_of u) (left_by u 0) (disk_of u).acknowledged = crash printed p was opening u r 0 in
       let e = ap (λ (d : Disk). d.acknowledged) (disk_with u (record (disk_of u) { acknowledged = (committed (store_of u)).number })) in
       omega (arith, right.has_all, right.not_more, e)
-  grows_move v w r (publishes u xs keeps fall) = at_most (disk_of u).acknowledged _ (ap (λ (d : Disk). d.acknowledged) (disk_with u _))
-  grows_move v w r (fails_commit s disk i stopped may d) = omega arith
-  grows_move v w r (fails_define s disk i statement stopped may d e same) = at_most disk.acknowledged (with_record _ s.log.next disk).acknowledged (same_acknowledged _ s.log.next disk)
-  grows_move v w r (fails_before s disk i stopped may d) = omega arith
-  grows_move v w r (fails_after s disk i stopped may d xs are fall) = omega arith
-  grows_move v w r (told s disk i said after t) = omega arith
-  grows_move v w r (told_halted s next disk i said after t) = omega arith
+  had_move v w r (publishes u xs keeps fall) = at_most (disk_of u).acknowledged _ (ap (λ (d : Disk). d.acknowledged) (disk_with u _))
+  had_move v w r (fails_commit s disk i stopped may d) = omega arith
+  had_move v w r (fails_define s disk i statement stopped may d e same) = at_most disk.acknowledged (with_record _ s.log.next disk).acknowledged (same_acknowledged _ s.log.next disk)
+  had_move v w r (fails_before s disk i stopped may d) = omega arith
+  had_move v w r (fails_after s disk i stopped may d xs are fall) = omega arith
+  had_move v w r (told s disk i said after t) = omega arith
+  had_move v w r (told_halted s next disk i said after t) = omega arith
 
   pub acknowledged_grows : (v w : World) → Run (opened_world opening p) v → Run v w → (disk_of v).acknowledged ≤ (disk_of w).acknowledged
   acknowledged_grows v w r (here x) = omega arith
   acknowledged_grows v w r (then_move a b c s move) =
       let so_far = acknowledged_grows a b r s in
-      let next = grows_move b c (run_both (opened_world opening p) a b r s) move in
+      let next = had_move b c (run_both (opened_world opening p) a b r s) move in
       omega (arith, so_far, next)
 
 -- ---- one entry more, or none
@@ -90,8 +90,39 @@ run_split : (s : Store) (i : ℕ) (es fs : List Effect) → run the_views s i (e
 run_split s i [] fs = refl
 run_split s i (e ∷ es) fs = run_split (does the_views s i e) i es fs
 
+store_with : (w : World) (d : Disk) → store_of (with_disk w d) ≡ store_of w
+store_with (At s e) d = refl
+store_with (Amid after i a s l es e) d = refl
+store_with (Halted s next e) d = refl
+
+pub same_grows : (s : Store) → Grows s s
+same_grows s = record { states = λ n le. refl; more = omega arith }
+
+disk_grows : (w : World) (d : Disk) → Grows (store_of w) (store_of (with_disk w d))
+disk_grows w d = subst (Grows (store_of w)) (sym (store_with w d)) (same_grows (store_of w))
+
+grows_move : (v w : World) → IsGoodWorld v → Moves v w → Grows (store_of v) (store_of w)
+grows_move v w is (begins s disk i a said after may d f) = same_grows s.store
+grows_move v w is (acts after i a s l e es disk) = grows s i e
+grows_move v w is (ends after i a s l disk done) = subst (Grows s) (sym is.3) (same_grows s)
+grows_move v w is (flushes u writes) = disk_grows u _
+grows_move v w is (acknowledges u none writes) = disk_grows u _
+grows_move v w is (publishes u xs keeps fall) = disk_grows u _
+grows_move v w is (fails_commit s disk i stopped may d) = grows s.store i Commits
+grows_move v w is (fails_define s disk i statement stopped may d e same) = grows s.store i e
+grows_move v w is (fails_before s disk i stopped may d) = same_grows s.store
+grows_move v w is (fails_after s disk i stopped may d xs are fall) = same_grows s.store
+grows_move v w is (told s disk i said after t) = subst (λ (x : State). Grows s.store x.store) (sym t.left) (same_grows s.store)
+grows_move v w is (told_halted s next disk i said after t) = same_grows next
+
+pub grows_run : PrintsAgain → (p : Pages) → IsOpened p.db p.view → (opening : Opening) (v w : World) → Run (opened_world opening p) v → Run v w → Grows (store_of v) (store_of w)
+grows_run printed p was opening v w r (here x) = same_grows (store_of x)
+grows_run printed p was opening v w r (then_move a b c s move) =
+    grows_then (store_of a) (store_of b) (store_of c) (grows_run printed p was opening a b r s)
+    (grows_move b c (good_run printed (opened_world opening p) b (run_both (opened_world opening p) a b r s) (good_opened printed opening p was)) move)
+
 -- a number that is at least that of one, and at most that of the other, where these are at most one apart
-one_of_two : (s t : Store) (db : Database) (n : ℕ) → Holds' s → Holds' t → Grows s t → (committed t).number ≤ (committed s).number + 1 → (committed s).number ≤ n → n ≤ (committed t).number
+pub one_of_two : (s t : Store) (db : Database) (n : ℕ) → Holds' s → Holds' t → Grows s t → (committed t).number ≤ (committed s).number + 1 → (committed s).number ≤ n → n ≤ (committed t).number
     → db ≡ state_at t.origin t.history n → (db ≡ committed s) ⊎ (db ≡ committed t)
 one_of_two s t db n g h grown near low high is = elim (leb_tells n (committed s).number) [
   | inl old ↦
@@ -134,9 +165,6 @@ acts_all after i a s l (e ∷ es) d =
           (then_move (Amid after i a s l (e ∷ es) d) (Amid after i a s l (e ∷ es) d) (Amid after i a t m es f) (here (Amid after i a s l (e ∷ es) d)) (acts after i a s l e es d)) more.2,
     )
 
-same_grows : (s : Store) → Grows s s
-same_grows s = record { states = λ n le. refl; more = omega arith }
-
 -- where a move stops the machine, its store has one entry more at most
 abbrev Near : World → World → Type 0
 Near (At s d) (Halted stopped next e) = Grows s.store next × ((committed next).number ≤ (committed s.store).number + 1)
@@ -170,10 +198,10 @@ near_move v w (fails_after s disk i stopped may d xs are fall) = (same_grows s.s
 near_move v w (told s disk i said after t) = tt
 near_move v w (told_halted s next disk i said after t) = tt
 
-module _ (printed : PrintsAgain) (once : ReadingLaw) where
-  holds_at : (p : Pages) → IsOpened p.db p.view → (opening : Opening) (w : World) → Run (opened_world opening p) w → Holds' (store_of w)
-  holds_at p was opening w r = (followed_world w (good_run printed (opened_world opening p) w r (good_opened printed opening p was))).1.sound.good
+pub holds_at : PrintsAgain → (p : Pages) → IsOpened p.db p.view → (opening : Opening) (w : World) → Run (opened_world opening p) w → Holds' (store_of w)
+holds_at printed p was opening w r = (followed_world w (good_run printed (opened_world opening p) w r (good_opened printed opening p was))).1.sound.good
 
+module _ (printed : PrintsAgain) (once : ReadingLaw) where
   -- what is recovered of an image of a world is between what was acknowledged before it and what is committed
   recovers_one : (p : Pages) (was : IsOpened p.db p.view) (opening : Opening) (s : State) (d : Disk) (w : World) (t : Store) → Run (opened_world opening p) (At s d) → Run (At s d) w → Holds' t
       → Grows s.store t → Grows (store_of w) t → (committed t).number ≤ (committed s.store).number + 1
@@ -189,7 +217,7 @@ module _ (printed : PrintsAgain) (once : ReadingLaw) where
       let grew = more.more in
       let db : (recovered right.reading).db ≡ state_at t.origin t.history n = right.db ∙ sym (more.states n high) in
       subst (λ (x : Reading). ((recovered x).db ≡ committed s.store) ⊎ ((recovered x).db ≡ committed t)) same
-      (one_of_two s.store t (recovered right.reading).db n (holds_at p was opening (At s d) before) holds grown near (omega (arith, settled, had, low)) (omega (arith, high, grew)) db)
+      (one_of_two s.store t (recovered right.reading).db n (holds_at printed p was opening (At s d) before) holds grown near (omega (arith, settled, had, low)) (omega (arith, high, grew)) db)
 
   pub step_crash : StepCrashLaw
   step_crash p was opening s d r i a said after may does fine w since within k reading read =
@@ -202,7 +230,7 @@ module _ (printed : PrintsAgain) (once : ReadingLaw) where
       let split : run the_views (run the_views s.store i within.done) i within.others ≡ t = sym (ap (run the_views s.store i) within.split ∙ run_split s.store i within.done within.others) in
       let more : Grows (store_of w) t = subst (λ (x : Store). Grows x t) (sym now_is) (subst (Grows (run the_views s.store i within.done)) split (grows_all (run the_views s.store i within.done) i within.others)) in
       recovers_one p was opening s d w t r (run_both (At s d) first w begun since)
-      (holds_at p was opening last (run_both (opened_world opening p) (At s d) last r (run_both (At s d) first last begun all.2)))
+      (holds_at printed p was opening last (run_both (opened_world opening p) (At s d) last r (run_both (At s d) first last begun all.2)))
       (grows_all s.store i does.effects) more (near_after s i a said after may does) k reading read
 
   pub fault_crash : FaultCrashLaw
@@ -210,4 +238,4 @@ module _ (printed : PrintsAgain) (once : ReadingLaw) where
       let w : World = Halted stopped next e in
       let since : Run (At s d) w = then_move (At s d) (At s d) w (here (At s d)) move in
       let near : Near (At s d) w = near_move (At s d) w move in
-      recovers_one p was opening s d w next r since (holds_at p was opening w (run_both (opened_world opening p) (At s d) w r since)) near.0 (same_grows next) near.1 k reading read
+      recovers_one p was opening s d w next r since (holds_at printed p was opening w (run_both (opened_world opening p) (At s d) w r since)) near.0 (same_grows next) near.1 k reading read

@@ -17,7 +17,7 @@ use Rattle.txn_log.specs.Fitting.{AllBack, AllFit, CarriedBelow, AreBelow, numbe
 use Rattle.txn_log.specs.Meaning.{definitions}
 use Rattle.txn_log.specs.Appended.{Numbered, written}
 use Rattle.txn_log.specs.Refused.{Placed, PlacedImage, place_by, has_number, CarriedAs, SaidAs, PassesAs, BackBreaks}
-use Rattle.txn_log.specs.Reversals.{StandsAt, BreaksBack, FirstBreaks, ReversalLaw, UndoLaw}
+use Rattle.txn_log.specs.Reversals.{IsRecordAt, BreaksBack, FirstBreaks, ReversalLaw, UndoLaw}
 use Rattle.txn_log.proofs.Finding.{keep_true, keep_false}
 use Rattle.txn_log.proofs.Meaning.{meant}
 use Rattle.txn_log.proofs.Refusing.{same_entry, says_number}
@@ -142,13 +142,13 @@ module _ (p : Pages) (first : List Placed) (ds : List Deed) (rs : List Placed) (
   live = (replay (on_pages p ds) es).live
 
   -- what a transaction keeps stands where its number says
-  live_stands : (x : Deed) → Contains live x → StandsAt (rs ++ first) x (place_by x.number (rs ++ first))
+  live_stands : (x : Deed) → Contains live x → IsRecordAt (rs ++ first) x (place_by x.number (rs ++ first))
   live_stands x c =
       let in_deeds : Contains (deeds ds es) x = kept_in (survives es) (deeds ds es) x (subst (λ (ys : List Deed). Contains ys x) (meant p ds es (said_fit p first ds carried rs es said)).live c) in
       let y = deed_among p first ds carried rs es said x in_deeds in
       record { at = y.0; among = y.1; says = y.2; place_is = place_found (rs ++ first) (said_fall p first ds carried rs es said) y.0 y.1 (written x) y.2 }
 
-  same_place : (x : Deed) (place : ℕ) → StandsAt (rs ++ first) x place → place ≡ place_by x.number (rs ++ first)
+  same_place : (x : Deed) (place : ℕ) → IsRecordAt (rs ++ first) x place → place ≡ place_by x.number (rs ++ first)
   same_place x place s = s.place_is ∙ sym (place_found (rs ++ first) (said_fall p first ds carried rs es said) s.at s.among (written x) s.says)
 
 -- ---- the first that fails
@@ -177,7 +177,7 @@ module _ (i : PlacedImage) (r : Reading) (passes : PassesAs i r) (rule place : �
   Broken = BackBreaks (λ n. place_by n records) s.live s.db.rows s.view rule place
 
   abbrev First : Type 0
-  First = (x : Deed) × FirstBreaks s.live s.db.rows s.view rule x × StandsAt records x place
+  First = (x : Deed) × FirstBreaks s.live s.db.rows s.view rule x × IsRecordAt records x place
 
   same_live : s.live ≡ live i.pages i.carried r.carried i.after r.after passes.carried passes.after
   same_live = ap (λ (q : Pages). (replay (on_pages q r.carried) r.after).live) passes.pages

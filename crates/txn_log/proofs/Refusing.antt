@@ -363,8 +363,8 @@ records_fit p first ds (r ∷ rs) (n ∷ ns) (x ∷ es) e say fit small = (
   records_fit p first ds rs ns es (cc) say.1 fit.2 small.1,
 )
 
-pub right_fine : (s : Store) (left : Image) (acknowledged : ℕ) → IsRight s left acknowledged → (i : PlacedImage) → IsPlaced i left → i.data_limit ≡ None → AreSmall left.carried → AreSmall left.after → IsFine i
-right_fine s left acknowledged right i same free few many =
+pub right_fine : (s : Store) (left : Image) (acknowledged : ℕ) (right : IsRight s left acknowledged) (i : PlacedImage) → IsPlaced i left → Within i.data_limit (data_left i (recovered right.reading)) → AreSmall left.carried → AreSmall left.after → IsFine i
+right_fine s left acknowledged right i same within few many =
     let r : Reading = right.reading in
     let read : IsRead left r = right.is_read in
     let pages : r.pages ≡ i.pages = read.pages ∙ sym same.pages in
@@ -382,7 +382,7 @@ right_fine s left acknowledged right i same free few many =
           back = right.fits.back;
         };
         in_range = right.opens.in_range;
-        within = subst (λ o. Within o (data_left i (recovered r))) (sym free) tt;
+        within = within;
       };
       fresh_at = λ place column. right.opens.rows place column;
     }

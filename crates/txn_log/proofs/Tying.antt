@@ -288,7 +288,7 @@ back_stored objects (x ∷ xs) view h stored = back_stored objects xs (view_with
     one (Wrote c) k = stored
     one (Added d) k = add_stored objects view (negated d) stored (negated_is objects d k)
 
-shaped_live : (s : Store) (l : Memory) → Holds' s → Tied s l → AllDeeds (IsShaped (schema_of s)) (replay_of l).live
+pub shaped_live : (s : Store) (l : Memory) → Holds' s → Tied s l → AllDeeds (IsShaped (schema_of s)) (replay_of l).live
 shaped_live s l g t = of_each (IsShaped (schema_of s)) (replay_of l).live (λ j. by_txn s l g t j
     (λ i is e. subst (λ a. AllWhats (IsShaped (schema_of s)) (whats_of (own a (replay_of l).live))) e
     (subst (AllWhats (IsShaped (schema_of s))) (sym (t.whats i is) ∙ ap whats_of (sym (t.carried.each i is)))

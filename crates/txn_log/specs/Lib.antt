@@ -12,3 +12,4 @@ pub mod Stored
 pub mod Damaged
 pub mod Laws
 pub mod Within
+pub mod Room

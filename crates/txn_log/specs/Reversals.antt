@@ -11,7 +11,7 @@ use Rattle.txn_log.specs.Appended.{written}
 use Rattle.txn_log.specs.Refused.{Placed, PlacedImage, Anyhow, BackAnyhow, Untried, place_by, fails_at, CarriedAs, SaidAs, Passes, PassesAs, BackBreaks}
 
 -- this record is among these, at this place
-pub record StandsAt (rs : List Placed) (x : Deed) (place : ℕ) : Type 0 where
+pub record IsRecordAt (rs : List Placed) (x : Deed) (place : ℕ) : Type 0 where
   pub at : Placed
   pub among : Contains rs at
   pub says : at.entry ≡ Some (written x)
@@ -35,10 +35,10 @@ pub record FirstBreaks (live : List Deed) (rows : Rows) (stored : ViewRows) (rul
 abbrev pub ReversalLaw : Type 0
 ReversalLaw = (i : PlacedImage) (r : Reading) → PassesAs i r → (rule place : ℕ)
     → BackBreaks (λ n. place_by n (i.after ++ i.carried)) (replayed r).live (replayed r).db.rows (replayed r).view rule place
-    ↔ ((x : Deed) × FirstBreaks (replayed r).live (replayed r).db.rows (replayed r).view rule x × StandsAt (i.after ++ i.carried) x place)
+    ↔ ((x : Deed) × FirstBreaks (replayed r).live (replayed r).db.rows (replayed r).view rule x × IsRecordAt (i.after ++ i.carried) x place)
 
 -- and an Undo that can't reverse is told where the record stands that it names, which is the latest that its transaction keeps
 abbrev pub UndoLaw : Type 0
 UndoLaw = (p : Pages) (first : List Placed) (ds : List Deed) (rs : List Placed) (es : List Event) → CarriedAs p.db.schema first ds → SaidAs p first ds rs es
     → (r : Placed) (n t m : ℕ) → Passes p first ds Anyhow Untried es r (Undo n t m)
-    → (x : Deed) × (earlier : List Deed) × (own t (replay (on_pages p ds) es).live ≡ x ∷ earlier) × (x.number ≡ m) × StandsAt (rs ++ first) x (fails_at (rs ++ first) r (Undo n t m))
+    → (x : Deed) × (earlier : List Deed) × (own t (replay (on_pages p ds) es).live ≡ x ∷ earlier) × (x.number ≡ m) × IsRecordAt (rs ++ first) x (fails_at (rs ++ first) r (Undo n t m))

@@ -16,7 +16,7 @@ use Rattle.txn_log.specs.Appended.{IsRead}
 use Rattle.txn_log.specs.Moments.{Disk, World, At, Amid, Halted, Moves, Run, opened_world, left_by}
 
 -- a world of a step from this store, after some of its effects
-pub record IsWithin (s : Store) (session : ℕ) (a : Act) (after : State) (es : List Effect) (w : World) : Type 0 where
+pub record IsOfStep (s : Store) (session : ℕ) (a : Act) (after : State) (es : List Effect) (w : World) : Type 0 where
   pub done : List Effect
   pub others : List Effect
   pub split : es ≡ done ++ others
@@ -28,7 +28,7 @@ pub record IsWithin (s : Store) (session : ℕ) (a : Act) (after : State) (es : 
 abbrev pub StepCrashLaw : Type 0
 StepCrashLaw = (p : Pages) → IsOpened p.db p.view → (opening : Opening) (s : State) (d : Disk) → Run (opened_world opening p) (At s d)
     → (session : ℕ) (a : Act) (said : Answer) (after : State) → May s session a → (does : Does s session a said after) → is_fault said ≡ false
-    → (w : World) → Run (Amid after session a s.store s.log does.effects d) w → IsWithin s.store session a after does.effects w
+    → (w : World) → Run (Amid after session a s.store s.log does.effects d) w → IsOfStep s.store session a after does.effects w
     → (k : ℕ) (r : Reading) → IsRead (left_by w k) r
     → ((recovered r).db ≡ committed s.store) ⊎ ((recovered r).db ≡ committed (run the_views s.store session does.effects))
 

@@ -1,5 +1,6 @@
 //! Laws of the entries of stored pages. Each function is there for its contract.
 ghost use Rattle.txn_log.specs.Damaged.{OneDamageLaw};
+ghost use Rattle.txn_log.specs.Room.{DataRoomLaw};
 ghost use Rattle.txn_log.specs.Stored.{OneStoredLaw, ProperLaw};
 
 /// Entries, with the texts of their definitions, stand for one database and its view rows.
@@ -15,4 +16,9 @@ pub fn proper_law()
 /// Before its records are replayed an image is refused by one rule at most, at one place.
 pub fn one_damage_law()
     ensures { OneDamageLaw }
+{}
+
+/// What all records leave takes no more bytes of data than the machine counts as used.
+pub fn data_room_law()
+    ensures { DataRoomLaw }
 {}

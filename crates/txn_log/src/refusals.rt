@@ -1,4 +1,5 @@
 //! Laws of the images that are refused. Each function is there for its contract.
+ghost use Rattle.txn_log.specs.Room.{WithinLaw};
 ghost use Rattle.txn_log.specs.Reversals.{ReversalLaw, UndoLaw};
 ghost use Rattle.txn_log.specs.Refused.{EitherLaw, NeverBothLaw, NotRefusedLaw, OneRefusalLaw, WrongViewLaw};
 
@@ -35,4 +36,9 @@ pub fn reversal_law()
 /// An Undo that can't reverse is told where the record stands that it names.
 pub fn undo_law()
     ensures { UndoLaw }
+{}
+
+/// Where the machine's count of data lies within the limit, an image of all records between two steps is not refused.
+pub fn within_law()
+    ensures { WithinLaw }
 {}
