@@ -12,15 +12,15 @@ use Rattle.txn_book.specs.declared.step.Step.{Step}
 use Rattle.txn_book.specs.declared.step.Answer.{Answer as BookAnswer}
 use Rattle.txn_book.specs.Acts.{act_of, answer_of}
 
--- What a step of an engine that is not stopped may leave committed: what it was told, or, where the disk fails a Commit or a
--- CREATE, its entry all the same.
+-- What a step of an engine that is not stopped may leave committed: what was committed before it, what it was told, or, where
+-- the disk fails a Commit or a CREATE, its entry all the same.
 pub record MayCommit (s : State) (step : Step) (told : BookAnswer) (db : Database) : Type 0 where
   pub runs : s.stop ≡ None
   pub said : Answer
   pub of_answer : is_fault (answer_of told) ≡ false → said ≡ answer_of told
   pub effects : List Effect
   pub says : Says s step.session (act_of step.act) said effects
-  pub is : db ≡ committed (run the_views s.store step.session effects)
+  pub is : db ≡ committed s.store ⊎ db ≡ committed (run the_views s.store step.session effects)
 
 -- Time goes on: a crash since t might have recovered what it might have recovered before, or a database of which this holds.
 pub record Elapses (May : Database → Type 0) (before now : ℕ) (past since : ℕ → Database → Type 0) : Type 0 where

@@ -1,5 +1,5 @@
 -- Moves of one session that pass their tests are steps.
-use Rattle.std.specs.Prelude.{◌≡◌, ◌≢◌, ◌⊎◌, ℕ, ◌+◌, ◌≤◌, ◌==◌, nat_le, Bool, true, not, ◌&&◌, T, List, [], ◌∷◌, ◌++◌, map, reverse, length, ℤ, pos, negsuc, Option, Some, None, is_some}
+use Rattle.std.specs.Prelude.{◌≡◌, ◌≢◌, ◌⊎◌, ℕ, zero, suc, ◌+◌, ◌≤◌, ◌==◌, nat_le, Bool, true, not, ◌&&◌, T, List, [], ◌∷◌, ◌++◌, map, reverse, length, ℤ, pos, negsuc, Option, Some, None, is_some}
 use Rattle.std.specs.List.{AllZip}
 use Rattle.std.specs.Option.{unwrap_or}
 use mathlib.Core.Path.{refl, sym, ap, subst, ◌∙◌}
@@ -50,11 +50,11 @@ use Rattle.txn_machine.specs.Store.{Store, committed, with_txn, entry_changes, c
 use Rattle.txn_machine.specs.Ghosts.{the_views, account_of, Holds}
 use Rattle.txn_machine.specs.Counts.{fetch_size, put_size, transaction_size, most_of_transaction, entry_size, kept_change_size, history_size, most_of_history, definition_sizes}
 use Rattle.txn_machine.specs.State.{State, counted}
-use Rattle.txn_machine.specs.May.{IsOpenIn, IsReady, Owes, FitsUnder, MayLock, MayAct, MayAsk}
+use Rattle.txn_machine.specs.May.{IsOpenIn, IsReady, Owes, FitsUnder, MayLock, MayPut, MayAct, MayAsk}
 use Rattle.txn_machine.specs.Steps.{Step, Says, MayBegin, FindsIn, IsFree, CommitsAs, group_want, put_wants, first_want, waits_after, FitsLog, FitsData, used_data, definitions_after, log_after}
 use Rattle.txn_machine.specs.Example.{sale, by_shop}
 use Rattle.txn_machine.proofs.Basics.{one_same}
-use Rattle.txn_machine.proofs.Playing.{shop_schema, table_of, entry_of, Plain, state_of, base, number_of, txn, found_in, shown_in, int_fits, fit, fit_all, are_shown, owed_in, is_session, is_serial, is_nil, is_free, goes_on, is_ready, fits_txn, fits_history, fits_under, differ, account_in, inf_in, sup_in, allows, all_below, row_want, view_want, seen, change_in, put_wants_in, number_left, said_of, owes, lacks_first, pays_first, holds_in, makes_first, rest, is_increment, test, after_makes, locked, paid_txn, after_pays, after_undoes, after, is_in_order, begins, fetches, views, puts, lacks, undoes, ends, commits, leaves}
+use Rattle.txn_machine.proofs.Playing.{shop_schema, table_of, entry_of, Plain, state_of, base, number_of, txn, found_in, shown_in, int_fits, fit, fit_all, are_shown, owed_in, is_session, is_serial, is_nil, is_free, goes_on, is_ready, fits_txn, fits_history, fits_under, differ, account_in, inf_in, sup_in, allows, all_below, read_want, view_want, seen, change_in, put_wants_in, number_left, said_of, owes, lacks_first, pays_first, holds_in, makes_first, rest, is_increment, may_read, may_put, test, after_makes, locked, paid_txn, after_pays, after_undoes, after, is_in_order, begins, learns, scans, views, puts, lacks, undoes, ends, commits, leaves}
 use Rattle.txn_machine.proofs.Tabled.{InOrder, entries_are, get_is, write_is, add_is, plain_db, base_sorted, committed_is, read_is, owed_is, fresh_is}
 use Rattle.txn_machine.proofs.Testing.{is_true, left_one, right_one, at_most, equal, there_is, none_is_there, serial_is, nil_is, not_nil, false_is, session_is, below_so, some_is, huge_is, free_is, lies_is}
 use Rattle.txn_machine.specs.Log.{Within, end_bytes, reserved}
@@ -254,19 +254,39 @@ module _ (p : Plain) (i : ℕ) (sorted : Sorted p) (session : i ≤ 64) where
       (record { room = begin_room mode h; number_is = number_is; defs_are = of_db (λ db. 2 ≡ length db.schema) refl; effects = refl })
       (ap (λ n. counted here i (act.Begin mode) (answer.Begun (number_of p) 2) (with_txn here.store i (Some (begun mode n))) [] here.definitions (log_after here i (act.Begin mode) (answer.Begun (number_of p) 2) (Opens mode ∷ []))) number_is)
 
+  -- ---- Defs
+
+  pub learns_so : T (test p i learns) → Step here i act.Defs (answer.Defs shop_schema) (state_of (after p i learns))
+  learns_so h = step act.Defs (answer.Defs shop_schema) [] (state_of (after p i learns)) (session_is i h) (of_db (λ db. shop_schema ≡ db.schema) refl, refl) refl
+
   -- ---- Fetch
 
-  pub fetches_so : (key : List ℕ) → T (test p i (fetches key)) → Step here i (act.Fetch 1 (point key) Exclusive) (said_of p i (fetches key)) (state_of (after p i (fetches key)))
-  fetches_so key h =
-      let rows : List Row = found_in p.rows (point key) in
-      let fits : Bool = fits_txn p i (fetch_size shop_schema 1 (point key) rows) in
-      let more = right_one (is_ready p i) (is_free p i (row_want key) && fits) h in
-      step (act.Fetch 1 (point key) Exclusive) (said_of p i (fetches key)) (_ ∷ _ ∷ []) (state_of (after p i (fetches key)))
-      (ready (left_one (is_ready p i) (is_free p i (row_want key) && fits) h), of_db (λ db. MayLock Exclusive (numbered db.schema 1)) tt)
+  lock_so : (index : ℕ) (lock : LockMode) → T (may_read index lock) → MayLock lock (numbered shop_schema index)
+  lock_so zero lock h = absurd h
+  lock_so (suc zero) Share h = refl
+  lock_so (suc zero) Exclusive h = tt
+  lock_so (suc zero) Increment h = absurd h
+  lock_so (suc (suc zero)) Share h = refl
+  lock_so (suc (suc zero)) Exclusive h = absurd h
+  lock_so (suc (suc zero)) Increment h = absurd h
+  lock_so (suc (suc (suc n))) lock h = absurd h
+
+  pub may_read_so : (index : ℕ) (lock : LockMode) → T (may_read index lock) → MayLock lock (numbered (committed here.store).schema index)
+  may_read_so index lock h = of_db (λ db. MayLock lock (numbered db.schema index)) (lock_so index lock h)
+
+  pub scans_so : (interval : Interval) (lock : LockMode) → T (test p i (scans interval lock)) → Step here i (act.Fetch 1 interval lock) (said_of p i (scans interval lock)) (state_of (after p i (scans interval lock)))
+  scans_so interval lock h =
+      let rows : List Row = found_in p.rows interval in
+      let fits : Bool = fits_txn p i (fetch_size shop_schema 1 interval rows) in
+      let nobody : Bool = is_free p i (read_want 1 interval lock) in
+      let h1 = right_one (is_ready p i) (may_read 1 lock && (nobody && fits)) h in
+      let h2 = right_one (may_read 1 lock) (nobody && fits) h1 in
+      step (act.Fetch 1 interval lock) (said_of p i (scans interval lock)) (_ ∷ _ ∷ []) (state_of (after p i (scans interval lock)))
+      (ready (left_one (is_ready p i) (may_read 1 lock && (nobody && fits)) h), may_read_so 1 lock (left_one (may_read 1 lock) (nobody && fits) h1))
       (record {
-        free = free (row_want key) (left_one (is_free p i (row_want key)) fits more);
-        found = of_db (λ db. FindsIn (record db { rows = table_of p.rows }) (table_of p.view) (numbered db.schema 1) 1 (point key) rows) (read_is (number_of p) p.rows (point key) sorted.rows);
-        room = room (λ db. fetch_size db.schema 1 (point key) rows) (right_one (is_free p i (row_want key)) fits more);
+        free = free (read_want 1 interval lock) (left_one nobody fits h2);
+        found = of_db (λ db. FindsIn (record db { rows = table_of p.rows }) (table_of p.view) (numbered db.schema 1) 1 interval rows) (read_is (number_of p) p.rows interval sorted.rows);
+        room = room (λ db. fetch_size db.schema 1 interval rows) (right_one nobody fits h2);
         effects = refl;
       })
       refl
@@ -307,7 +327,7 @@ module _ (p : Plain) (i : ℕ) (sorted : Sorted p) (session : i ≤ 64) where
     abbrev wants_here : List Want
     wants_here = put_wants (committed here.store).schema (numbered (committed here.store).schema 1) change_here
 
-    wants_are : wants_here ≡ put_wants_in p key new
+    pub wants_are : wants_here ≡ put_wants_in p key new
     wants_are = ap (λ (db : Database). put_wants db.schema (numbered db.schema 1) change_here) (committed_is p) ∙ ap (put_wants shop_schema (Some (table sale))) change_is
 
     abbrev owed_here : List GroupDelta
@@ -328,28 +348,30 @@ module _ (p : Plain) (i : ℕ) (sorted : Sorted p) (session : i ≤ 64) where
     put_size_is : put_size shop_schema change_here (owed shop_schema (table_of p.rows) change_here) ≡ put_size shop_schema (change_in p key new) (owed_in p.rows place new)
     put_size_is = λ j. put_size shop_schema (change_is j) (owes_shop j)
 
+    pub may_put_so : T (may_put p key new) → MayPut here.store 1 key new
+    may_put_so h =
+        let fits : Bool = fits_under key new in
+        let differs : Bool = differ (find place_cmp place p.rows) new in
+        record {
+          of = sale;
+          table_is = of_db (λ db. numbered db.schema 1 ≡ Some (table sale)) refl;
+          fits = under_is key new (left_one fits differs h);
+          changes = λ e. differ_is (find place_cmp place p.rows) new (right_one fits differs h) (sym (get_is p.rows place sorted.rows) ∙ e);
+        }
+
     pub puts_so : T (test p i (puts key new)) → Step here i put (said_of p i (puts key new)) (state_of (after p i (puts key new)))
     puts_so h =
         let is_free_here : Bool = is_free p i (put_wants_in p key new) in
-        let fits : Bool = fits_under key new in
-        let differs : Bool = differ (find place_cmp place p.rows) new in
+        let may : Bool = may_put p key new in
         let has_room : Bool = fits_txn p i (put_size shop_schema (change_in p key new) (owed_in p.rows place new)) in
         let has_history : Bool = fits_history p (kept_change_size shop_schema (change_in p key new)) in
-        let h1 = right_one (is_ready p i) (is_free_here && (fits && (differs && (has_room && has_history)))) h in
-        let h2 = right_one is_free_here (fits && (differs && (has_room && has_history))) h1 in
-        let h3 = right_one fits (differs && (has_room && has_history)) h2 in
-        let h4 = right_one differs (has_room && has_history) h3 in
-        step put (said_of p i (puts key new)) (Takes wants_here ∷ Writes place new ∷ []) (state_of (after p i (puts key new))) (
-          ready (left_one (is_ready p i) (is_free_here && (fits && (differs && (has_room && has_history)))) h),
-          record {
-            of = sale;
-            table_is = of_db (λ db. numbered db.schema 1 ≡ Some (table sale)) refl;
-            fits = under_is key new (left_one fits (differs && (has_room && has_history)) h2);
-            changes = λ e. differ_is (find place_cmp place p.rows) new (left_one differs (has_room && has_history) h3) (sym (get_is p.rows place sorted.rows) ∙ e);
-          },
-        )
+        let h1 = right_one (is_ready p i) (is_free_here && (may && (has_room && has_history))) h in
+        let h2 = right_one is_free_here (may && (has_room && has_history)) h1 in
+        let h4 = right_one may (has_room && has_history) h2 in
+        step put (said_of p i (puts key new)) (Takes wants_here ∷ Writes place new ∷ []) (state_of (after p i (puts key new)))
+        (ready (left_one (is_ready p i) (is_free_here && (may && (has_room && has_history))) h), may_put_so (left_one may (has_room && has_history) h2))
         (record {
-          free = subst (IsFree here.store i) (sym wants_are) (free (put_wants_in p key new) (left_one is_free_here (fits && (differs && (has_room && has_history))) h1));
+          free = subst (IsFree here.store i) (sym wants_are) (free (put_wants_in p key new) (left_one is_free_here (may && (has_room && has_history)) h1));
           room = room (λ db. put_size db.schema change_here (owed db.schema (table_of p.rows) change_here)) (subst (λ n. T (fits_txn p i n)) (sym put_size_is) (left_one has_room has_history h4));
           log_room = log_room _;
           data_room = data_room _;

@@ -36,8 +36,8 @@ use Rattle.txn_machine.specs.May.{MayPeek}
 use Rattle.txn_machine.specs.Steps.{Step, log_after}
 use Rattle.txn_machine.specs.Example.{by_shop, shop_database}
 use Rattle.txn_machine.proofs.Holding.{contains_here, contains_next}
-use Rattle.txn_machine.proofs.Playing.{shop_schema, set_in, Sold, entry_of, Plain, state_of, redo_in, base, number_after, txn, sales_in, fresh_in, each_to, each_of, is_serial, is_nil, is_zero, is_increment, goes_on, holds_in, view_of, peeked, sold_by, changes_deltas, deltas_in, is_cleanable, said_of, test, after, peeks, cleans_none, cleans, prunes}
-use Rattle.txn_machine.proofs.Tabled.{key_cmp, InOrder, entries_are, get_is, write_is, set_sorted, redo_sorted, sold_sorted, with_sales, keeps_is, fold_is, origin_is, base_sorted, committed_is, listed_is, owed_is, fresh_is}
+use Rattle.txn_machine.proofs.Playing.{shop_schema, set_in, Sold, entry_of, Plain, state_of, redo_in, base, number_after, txn, sales_in, fresh_in, each_to, each_of, is_serial, is_nil, is_zero, is_increment, goes_on, holds_in, view_of, peeked, sold_by, changes_deltas, deltas_in, is_cleanable, said_of, test, after, peeks, peeks_sales, cleans_none, cleans, prunes}
+use Rattle.txn_machine.proofs.Tabled.{key_cmp, InOrder, entries_are, get_is, write_is, set_sorted, redo_sorted, sold_sorted, with_sales, keeps_is, fold_is, origin_is, base_sorted, committed_is, listed_is, read_is, owed_is, fresh_is}
 use Rattle.txn_machine.proofs.Testing.{is_true, holds, left_one, right_one, both, either, not_so, not_that, equal, nil_is, each_so, each_in, some_in, lies_so}
 use Rattle.txn_machine.proofs.MovesAlone.{Sorted, step, of_db, number_is, log_room, going, holds_so}
 
@@ -134,6 +134,19 @@ module _ (p : Plain) (i : ℕ) (sorted : Sorted p) (session : i ≤ 64) where
       ) (
         ap (λ (db : Database). read db 2 interval) (at_is p n)
             ∙ peeked_is (number_after (kept_by p n) 2) (sold_by p n) interval (sold_sorted (kept_by p n) [] tt),
+        refl,
+      )
+      refl
+
+  pub peeks_sales_so : (interval : Interval) → T (test p i (peeks_sales interval)) → Step (state_of p) i (act.Peek 1 interval) (said_of p i (peeks_sales interval)) (state_of (after p i (peeks_sales interval)))
+  peeks_sales_so interval h =
+      let n : ℕ = (txn p i).number in
+      step p i sorted session (act.Peek 1 interval) (said_of p i (peeks_sales interval)) [] (state_of (after p i (peeks_sales interval))) (
+        going p i sorted session Snapshot (left_one (goes_on p i) (not (is_serial (txn p i).mode)) h) (snapshot_is (txn p i).mode (right_one (goes_on p i) (not (is_serial (txn p i).mode)) h)),
+        of_db p i sorted session (λ db. MayPeek (numbered db.schema 1)) tt,
+      ) (
+        ap (λ (db : Database). read db 1 interval) (at_is p n)
+            ∙ read_is (number_after (kept_by p n) 2) (sold_by p n) interval (sold_sorted (kept_by p n) [] tt),
         refl,
       )
       refl

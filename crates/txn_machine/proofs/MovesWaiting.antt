@@ -1,11 +1,14 @@
 -- Pays that other sessions are in the way of: one that a column does not allow, one that waits, and one that closes a ring.
-use Rattle.std.specs.Prelude.{◌≡◌, ◌≢◌, ℕ, ◌≤◌, ◌<◌, ◌-◌, ◌^◌, ◌==◌, nat_le, nat_lt, Bool, true, not, ◌&&◌, ◌||◌, T, List, [], ◌∷◌, length, ℤ, pos, negsuc, is_some}
+use Rattle.std.specs.Prelude.{◌≡◌, ◌≢◌, ℕ, ◌≤◌, ◌<◌, ◌-◌, ◌^◌, ◌==◌, nat_le, nat_lt, Bool, true, not, ◌&&◌, ◌||◌, T, List, [], ◌∷◌, length, ℤ, pos, negsuc, Option, is_some}
 use Rattle.std.specs.List.{Contains}
 use mathlib.Core.Path.{refl, sym, ap, subst, ◌∙◌}
 use mathlib.Core.Logic.{inl, inr}
 use Rattle.std.proofs.Common.{arith, le-leb, ltb-true}
 use Rattle.iv_types.specs.declared.lock.GroupDelta.{GroupDelta}
+use Rattle.iv_types.specs.declared.lock.LockMode.{LockMode}
 use Rattle.iv_types.specs.declared.lock.Want.{Want}
+use Rattle.iv_types.specs.declared.value.Interval.{Interval}
+use Rattle.iv_meaning.specs.Database.{Row}
 use Rattle.iv_types.specs.declared.session.Sessions.{Sessions}
 use Rattle.iv_types.specs.declared.refusal.EngineRefusal.TheVariants as refusal
 use Rattle.iv_types.specs.Encoding.{IsHuge}
@@ -21,13 +24,14 @@ use Rattle.txn_machine.specs.Locks.{Locks, AreInTheWay, IsInTheWay, with_one}
 use Rattle.txn_machine.specs.Waiting.{WaitsOn, Leads}
 use Rattle.txn_machine.specs.Deltas.{columns_of, worth, place_of}
 use Rattle.txn_machine.specs.Store.{locks_of, Takes, Loses}
-use Rattle.txn_machine.specs.Steps.{Step, IsFree, group_want, first_want}
+use Rattle.txn_machine.specs.State.{counted}
+use Rattle.txn_machine.specs.Steps.{Step, IsFree, IsBlocked, group_want, first_want, log_after}
 use Rattle.txn_machine.proofs.Basics.{one_same, one_other}
 use Rattle.txn_machine.proofs.Holding.{by_contains, contains_none}
-use Rattle.txn_machine.proofs.Playing.{Plain, state_of, txn, is_session, each_to, each_of, some_of, is_nil, in_way, is_free, owes, account_in, inf_in, sup_in, allows, all_below, bounds_in, ring_of, refuses_first, are_exact, waits_with, waits_of, are_rung, test, left_by, after, blocks, deadlocks}
+use Rattle.txn_machine.proofs.Playing.{Plain, state_of, txn, is_session, each_to, each_of, some_of, is_nil, in_way, is_free, owes, account_in, inf_in, sup_in, allows, all_below, bounds_in, ring_of, refuses_first, are_exact, waits_for, waits_with, waits_of, are_rung, may_read, may_put, put_wants_in, read_want, is_ready, test, left_by, after, blocks, reads_later, puts_later, cancels, deadlocks}
 use Rattle.txn_machine.proofs.Tabled.{get_is}
 use Rattle.txn_machine.proofs.Testing.{is_true, holds, left_one, right_one, both, either, not_so, equal, not_equal, nil_is, not_nil, session_is, each_so, below_so, each_in, some_is, in_way_is, in_way_so}
-use Rattle.txn_machine.proofs.MovesAlone.{Sorted, step, free, owes_so, account_is, allows_so, view_at}
+use Rattle.txn_machine.proofs.MovesAlone.{Sorted, step, ready, free, may_read_so, wants_are, may_put_so, owes_so, account_is, allows_so, view_at}
 
 -- ---- a column that does not allow a delta
 
@@ -113,55 +117,83 @@ module _ (p : Plain) (i : ℕ) (sorted : Sorted p) (session : i ≤ 64) where
       })
       refl
 
-  -- ---- a pay that waits
+  -- ---- a step that waits
 
   -- what is held
   abbrev locks : Locks
   locks = locks_of (state_of p).store
 
+  module _ (wants : List Want) where
+    -- nobody is in the way of a session that waits for nothing
+    waits_not : (t other : ℕ) → t ≢ i → p.of.waiting t ≡ [] → WaitsOn locks (with_one p.of.waiting i wants) t other → ⊥
+    waits_not t other n e w =
+        let m = subst (λ (l : List Want). IsInTheWay locks t l other) (one_other p.of.waiting i wants t n ∙ e) w in
+        contains_none m.meet.want m.meet.wanted
+
+    -- those that it waits for wait for nothing, so that no ring goes through it
+    no_ring : (sessions : Sessions) → AreInTheWay locks i wants sessions → T (each_of (λ j. is_nil (p.of.waiting j)) (members sessions))
+        → (others : List ℕ) → Leads (WaitsOn locks (with_one p.of.waiting i wants)) (i ∷ others) i → ⊥
+    no_ring sessions are h [] l = l.not_itself refl
+    no_ring sessions are h (t ∷ []) l =
+        let w = subst (λ (x : List Want). IsInTheWay locks i x t) (one_same p.of.waiting i wants i refl) l.0 in
+        waits_not t i w.not_itself (nil_is (p.of.waiting t) (each_in (λ j. is_nil (p.of.waiting j)) (members sessions) t h ((are t).1 w))) l.1
+    no_ring sessions are h (t ∷ u ∷ us) l =
+        let w = subst (λ (x : List Want). IsInTheWay locks i x t) (one_same p.of.waiting i wants i refl) l.0 in
+        waits_not t u w.not_itself (nil_is (p.of.waiting t) (each_in (λ j. is_nil (p.of.waiting j)) (members sessions) t h ((are t).1 w))) l.1.0
+
+    pub blocked_so : (sessions : Sessions) → T (waits_for p i wants sessions) → IsBlocked (state_of p) i wants sessions
+    blocked_so sessions h =
+        let exact : Bool = are_exact locks i wants sessions in
+        let any : Bool = not (is_nil (members sessions)) in
+        let none_waits : Bool = each_of (λ j. is_nil (p.of.waiting j)) (members sessions) in
+        let more = right_one exact (any && none_waits) h in
+        let are = exact_is locks i wants sessions (left_one exact (any && none_waits) h) in
+        record {
+          in_the_way = are;
+          not_empty = not_nil (members sessions) (left_one any none_waits more);
+          no_cycle = λ others r. no_ring sessions are (right_one any none_waits more) others r.leads;
+        }
+
   -- what the session's pay asks for
   abbrev wants : List Want
   wants = first_want (txn p i).owed
 
-  -- nobody is in the way of a session that waits for nothing
-  waits_not : (t other : ℕ) → t ≢ i → p.of.waiting t ≡ [] → WaitsOn locks (with_one p.of.waiting i wants) t other → ⊥
-  waits_not t other n e w =
-      let m = subst (λ (l : List Want). IsInTheWay locks t l other) (one_other p.of.waiting i wants t n ∙ e) w in
-      contains_none m.meet.want m.meet.wanted
-
-  -- those that it waits for wait for nothing, so that no ring goes through it
-  no_ring : (sessions : Sessions) → AreInTheWay locks i wants sessions → T (each_of (λ j. is_nil (p.of.waiting j)) (members sessions))
-      → (others : List ℕ) → Leads (WaitsOn locks (with_one p.of.waiting i wants)) (i ∷ others) i → ⊥
-  no_ring sessions are h [] l = l.not_itself refl
-  no_ring sessions are h (t ∷ []) l =
-      let w = subst (λ (x : List Want). IsInTheWay locks i x t) (one_same p.of.waiting i wants i refl) l.0 in
-      waits_not t i w.not_itself (nil_is (p.of.waiting t) (each_in (λ j. is_nil (p.of.waiting j)) (members sessions) t h ((are t).1 w))) l.1
-  no_ring sessions are h (t ∷ u ∷ us) l =
-      let w = subst (λ (x : List Want). IsInTheWay locks i x t) (one_same p.of.waiting i wants i refl) l.0 in
-      waits_not t u w.not_itself (nil_is (p.of.waiting t) (each_in (λ j. is_nil (p.of.waiting j)) (members sessions) t h ((are t).1 w))) l.1.0
-
   pub blocks_so : (sessions : Sessions) → T (test p i (blocks sessions)) → Step (state_of p) i act.Pay (answer.Blocked sessions) (state_of (after p i (blocks sessions)))
   blocks_so sessions h =
       let some : Bool = not (is_nil (txn p i).owed) in
-      let exact : Bool = are_exact locks i wants sessions in
-      let any : Bool = not (is_nil (members sessions)) in
-      let none_waits : Bool = each_of (λ j. is_nil (p.of.waiting j)) (members sessions) in
-      let h1 = right_one (owes p i) (some && (exact && (any && none_waits))) h in
-      let h2 = right_one some (exact && (any && none_waits)) h1 in
-      let h3 = right_one exact (any && none_waits) h2 in
-      let o = owed_some (txn p i).owed (left_one some (exact && (any && none_waits)) h1) in
-      let are = exact_is locks i wants sessions (left_one exact (any && none_waits) h2) in
+      let waits : Bool = waits_for p i wants sessions in
+      let more = right_one (owes p i) (some && waits) h in
+      let o = owed_some (txn p i).owed (left_one some waits more) in
       step p i sorted session act.Pay (answer.Blocked sessions) [] (state_of (after p i (blocks sessions)))
-      (owes_so p i sorted session (left_one (owes p i) (some && (exact && (any && none_waits))) h) o.first o.others o.is) (
-        tt,
-        record {
-          in_the_way = are;
-          not_empty = not_nil (members sessions) (left_one any none_waits h3);
-          no_cycle = λ others r. no_ring sessions are (right_one any none_waits h3) others r.leads;
-        },
-        refl,
-      )
+      (owes_so p i sorted session (left_one (owes p i) (some && waits) h) o.first o.others o.is)
+      (tt, blocked_so wants sessions (right_one some waits more), refl)
       refl
+
+  pub reads_later_so : (index : ℕ) (interval : Interval) (lock : LockMode) (sessions : Sessions) → T (test p i (reads_later index interval lock sessions))
+      → Step (state_of p) i (act.Fetch index interval lock) (answer.Blocked sessions) (state_of (after p i (reads_later index interval lock sessions)))
+  reads_later_so index interval lock sessions h =
+      let may : Bool = may_read index lock in
+      let waits : Bool = waits_for p i (read_want index interval lock) sessions in
+      let more = right_one (is_ready p i) (may && waits) h in
+      step p i sorted session (act.Fetch index interval lock) (answer.Blocked sessions) [] (state_of (after p i (reads_later index interval lock sessions)))
+      (ready p i sorted session (left_one (is_ready p i) (may && waits) h), may_read_so p i sorted session index lock (left_one may waits more))
+      (tt, blocked_so (read_want index interval lock) sessions (right_one may waits more), refl)
+      refl
+
+  pub puts_later_so : (key : List ℕ) (new : Option Row) (sessions : Sessions) → T (test p i (puts_later key new sessions))
+      → Step (state_of p) i (act.Put 1 key new) (answer.Blocked sessions) (state_of (after p i (puts_later key new sessions)))
+  puts_later_so key new sessions h =
+      let may : Bool = may_put p key new in
+      let waits : Bool = waits_for p i (put_wants_in p key new) sessions in
+      let more = right_one (is_ready p i) (may && waits) h in
+      let same = wants_are p i sorted session key new in
+      step p i sorted session (act.Put 1 key new) (answer.Blocked sessions) [] (state_of (after p i (puts_later key new sessions)))
+      (ready p i sorted session (left_one (is_ready p i) (may && waits) h), may_put_so p i sorted session key new (left_one may waits more))
+      (tt, subst (λ (w : List Want). IsBlocked (state_of p) i w sessions) (sym same) (blocked_so (put_wants_in p key new) sessions (right_one may waits more)), refl)
+      (ap (λ (w : List Want). counted (state_of p) i (act.Put 1 key new) (answer.Blocked sessions) (state_of p).store w (state_of p).definitions (log_after (state_of p) i (act.Put 1 key new) (answer.Blocked sessions) [])) (sym same))
+
+  pub cancels_so : T (test p i cancels) → Step (state_of p) i act.Cancel answer.Cancelled (state_of (after p i cancels))
+  cancels_so h = step p i sorted session act.Cancel answer.Cancelled [] (state_of (after p i cancels)) (session_is i h) refl refl
 
   -- ---- a pay that would wait in a ring
 

@@ -7,17 +7,18 @@ use Rattle.txn_machine.specs.Log.{unlimited}
 use Rattle.txn_machine.specs.State.{State, opened_state}
 use Rattle.txn_machine.specs.Steps.{Step, Run}
 use Rattle.txn_machine.specs.Example.{shop_database}
-use Rattle.txn_machine.proofs.Playing.{put_in, Plain, state_of, start, txn, owes, lacks_first, makes_first, pays_first, refuses_first, Move, act_of, said_of, test, after, is_in_order, Turn, fine, told, played, begins, fetches, views, puts, lacks, makes, pays, undoes, ends, commits, leaves, refuses, blocks, deadlocks, peeks, cleans_none, cleans, prunes}
+use Rattle.txn_machine.proofs.Playing.{put_in, Plain, state_of, start, txn, owes, lacks_first, makes_first, pays_first, refuses_first, Move, act_of, said_of, test, after, is_in_order, Turn, fine, told, played, begins, learns, scans, views, puts, lacks, makes, pays, undoes, ends, commits, leaves, refuses, blocks, reads_later, puts_later, cancels, deadlocks, peeks, peeks_sales, cleans_none, cleans, prunes}
 use Rattle.txn_machine.proofs.Tabled.{none_is}
 use Rattle.txn_machine.proofs.Testing.{left_one, right_one, at_most}
-use Rattle.txn_machine.proofs.MovesAlone.{Sorted, in_order, begins_so, fetches_so, views_so, puts_so, lacks_by, makes_by, pays_by, undoes_so, ends_so, commits_so, leaves_so}
-use Rattle.txn_machine.proofs.MovesWaiting.{refuses_by, blocks_so, deadlocks_so}
-use Rattle.txn_machine.proofs.MovesCleaning.{peeks_so, cleans_none_so, cleans_so, prunes_so}
+use Rattle.txn_machine.proofs.MovesAlone.{Sorted, in_order, begins_so, learns_so, scans_so, views_so, puts_so, lacks_by, makes_by, pays_by, undoes_so, ends_so, commits_so, leaves_so}
+use Rattle.txn_machine.proofs.MovesWaiting.{refuses_by, blocks_so, reads_later_so, puts_later_so, cancels_so, deadlocks_so}
+use Rattle.txn_machine.proofs.MovesCleaning.{peeks_so, peeks_sales_so, cleans_none_so, cleans_so, prunes_so}
 
 module _ (p : Plain) (i : ℕ) (sorted : Sorted p) (session : i ≤ 64) where
   pub sound : (m : Move) → T (test p i m) → Step (state_of p) i (act_of m) (said_of p i m) (state_of (after p i m))
   sound (begins mode) h = begins_so p i sorted session mode h
-  sound (fetches key) h = fetches_so p i sorted session key h
+  sound learns h = learns_so p i sorted session h
+  sound (scans interval lock) h = scans_so p i sorted session interval lock h
   sound (views interval shops) h = views_so p i sorted session interval shops h
   sound (puts key new) h = puts_so p i sorted session key new h
   sound lacks h = lacks_by p i sorted session (left_one (owes p i) (lacks_first p i (txn p i).owed) h) (txn p i).owed refl (right_one (owes p i) (lacks_first p i (txn p i).owed) h)
@@ -30,7 +31,11 @@ module _ (p : Plain) (i : ℕ) (sorted : Sorted p) (session : i ≤ 64) where
   sound (refuses column) h = refuses_by p i sorted session column (left_one (owes p i) (refuses_first p i (txn p i).owed column) h) (txn p i).owed refl (right_one (owes p i) (refuses_first p i (txn p i).owed column) h)
   sound (blocks sessions) h = blocks_so p i sorted session sessions h
   sound (deadlocks other mine theirs) h = deadlocks_so p i sorted session other mine theirs h
+  sound (reads_later index interval lock sessions) h = reads_later_so p i sorted session index interval lock sessions h
+  sound (puts_later key new sessions) h = puts_later_so p i sorted session key new sessions h
+  sound cancels h = cancels_so p i sorted session h
   sound (peeks interval) h = peeks_so p i sorted session interval h
+  sound (peeks_sales interval) h = peeks_sales_so p i sorted session interval h
   sound cleans_none h = cleans_none_so p i sorted session h
   sound (cleans place) h = cleans_so p i sorted session place h
   sound prunes h = prunes_so p i sorted session h

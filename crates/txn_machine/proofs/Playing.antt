@@ -308,8 +308,10 @@ all_below (suc n) f = f n && all_below n f
 -- what a session does, and how it is answered
 pub data Move : Type 0 where
   begins : Mode → Move
-  -- reads a sale to change it
-  fetches : List ℕ → Move
+  -- gets a copy of the definitions
+  learns : Move
+  -- reads an interval of the table
+  scans : Interval → LockMode → Move
   -- reads the view, in which there are these shops
   views : Interval → List ℤ → Move
   puts : List ℕ → Option Row → Move
@@ -329,16 +331,27 @@ pub data Move : Type 0 where
   blocks : Sessions → Move
   -- its wait, for the first of these, would close a cycle with this session, which waits for the second
   deadlocks : ℕ → Sessions → Sessions → Move
-  -- reads the view as of its number
+  -- a read of an index waits for these, or a change does
+  reads_later : ℕ → Interval → LockMode → Sessions → Move
+  puts_later : List ℕ → Option Row → Sessions → Move
+  -- forgets what it waits for
+  cancels : Move
+  -- reads the view as of its number, or the table
   peeks : Interval → Move
+  peeks_sales : Interval → Move
   -- there is nothing to clean
   cleans_none : Move
   cleans : Place → Move
   prunes : Move
 
+-- reads a sale to change it
+abbrev pub fetches : List ℕ → Move
+fetches key = scans (point key) Exclusive
+
 abbrev pub act_of : Move → Act
 act_of (begins mode) = act.Begin mode
-act_of (fetches key) = act.Fetch 1 (point key) Exclusive
+act_of learns = act.Defs
+act_of (scans interval lock) = act.Fetch 1 interval lock
 act_of (views interval shops) = act.Fetch 2 interval Share
 act_of (puts key new) = act.Put 1 key new
 act_of lacks = act.Pay
@@ -351,18 +364,22 @@ act_of leaves = act.Commit
 act_of (refuses column) = act.Pay
 act_of (blocks sessions) = act.Pay
 act_of (deadlocks other mine theirs) = act.Pay
+act_of (reads_later index interval lock sessions) = act.Fetch index interval lock
+act_of (puts_later key new sessions) = act.Put 1 key new
+act_of cancels = act.Cancel
 act_of (peeks interval) = act.Peek 2 interval
+act_of (peeks_sales interval) = act.Peek 1 interval
 act_of cleans_none = act.Clean
 act_of (cleans place) = act.Clean
 act_of prunes = act.Prune
 
 -- ---- how moves are answered
 
-abbrev pub row_want : List ℕ → List Want
-row_want key = record { index = 1; interval = point key; mode = Exclusive } ∷ []
+abbrev pub read_want : ℕ → Interval → LockMode → List Want
+read_want index interval lock = record { index = index; interval = interval; mode = lock } ∷ []
 
 abbrev pub view_want : Interval → List Want
-view_want interval = record { index = 2; interval = interval; mode = Share } ∷ []
+view_want interval = read_want 2 interval Share
 
 -- the stored groups that are read
 abbrev pub seen : Plain → Interval → List (Place × List ℤ)
@@ -404,7 +421,8 @@ sold_by p n = sold_in (filter (λ e. nat_le e.number n) p.sold) []
 
 abbrev pub said_of : Plain → ℕ → Move → Answer
 said_of p i (begins mode) = answer.Begun (number_of p) 2
-said_of p i (fetches key) = answer.Rows (found_in p.rows (point key))
+said_of p i learns = answer.Defs shop_schema
+said_of p i (scans interval lock) = answer.Rows (found_in p.rows interval)
 said_of p i (views interval shops) = answer.Rows (shown_in (seen p interval) shops)
 said_of p i (puts key new) = answer.Changed (find place_cmp (1, key) p.rows) (owed_in p.rows (1, key) new)
 said_of p i lacks = answer.NeedsGhost
@@ -417,7 +435,11 @@ said_of p i leaves = answer.Committed (number_left p i)
 said_of p i (refuses column) = bounds_in p (txn p i).owed column
 said_of p i (blocks sessions) = answer.Blocked sessions
 said_of p i (deadlocks other mine theirs) = answer.Refused (refusal.Deadlock (ring_of i other))
+said_of p i (reads_later index interval lock sessions) = answer.Blocked sessions
+said_of p i (puts_later key new sessions) = answer.Blocked sessions
+said_of p i cancels = answer.Cancelled
 said_of p i (peeks interval) = answer.Rows (peeked (sold_by p (txn p i).number) interval)
+said_of p i (peeks_sales interval) = answer.Rows (found_in (sold_by p (txn p i).number) interval)
 said_of p i cleans_none = answer.Cleaned 0
 said_of p i (cleans place) = answer.Cleaned 1
 said_of p i prunes = answer.Pruned
@@ -454,6 +476,11 @@ abbrev pub are_exact : (ℕ → List Want) → ℕ → List Want → Sessions �
 are_exact locks i wants sessions =
     each_of (λ j. is_session j && in_way locks i wants j) (members sessions) && each_to 64 (λ j. not (in_way locks i wants j) || some_of (λ m. m == j) (members sessions))
 
+-- exactly these are in the way, and none of them waits
+abbrev pub waits_for : Plain → ℕ → List Want → Sessions → Bool
+waits_for p i wants sessions =
+    are_exact (locks_of p.of.store) i wants sessions && (not (is_nil (members sessions)) && each_of (λ j. is_nil (p.of.waiting j)) (members sessions))
+
 -- what each session would wait for
 abbrev pub waits_with : Plain → ℕ → List Want → ℕ → List Want
 waits_with p i wants = with_one p.of.waiting i wants
@@ -485,15 +512,27 @@ is_cleanable p place =
     is_zero (fresh_in (base p) place 0) && (each_to 64 (λ j. is_nil (increments place 0 (txn p j).kept))
     && (each_of (λ d. not (is_for place d)) (deltas_in p.of.store.mark [] p.sold) && each_to 64 (λ j. not (holds_in (txn p j).locks place))))
 
+-- the table may be read by either lock, and the view in Share
+abbrev pub may_read : ℕ → LockMode → Bool
+may_read (suc zero) Share = true
+may_read (suc zero) Exclusive = true
+may_read (suc (suc zero)) Share = true
+may_read _ _ = false
+
+abbrev pub may_put : Plain → List ℕ → Option Row → Bool
+may_put p key new = fits_under key new && differ (find place_cmp (1, key) p.rows) new
+
 abbrev pub test : Plain → ℕ → Move → Bool
 test p i (begins Serial) = is_session i && (not (is_some (p.of.store.open_of i)) && fits_history p entry_size)
 test p i (begins Snapshot) = is_session i && not (is_some (p.of.store.open_of i))
-test p i (fetches key) = is_ready p i && (is_free p i (row_want key) && fits_txn p i (fetch_size shop_schema 1 (point key) (found_in p.rows (point key))))
+test p i learns = is_session i
+test p i (scans interval lock) =
+    is_ready p i && (may_read 1 lock && (is_free p i (read_want 1 interval lock) && fits_txn p i (fetch_size shop_schema 1 interval (found_in p.rows interval))))
 test p i (views interval shops) =
     is_ready p i && (is_free p i (view_want interval) && (are_shown (seen p interval) shops && fits_txn p i (fetch_size shop_schema 2 interval (shown_in (seen p interval) shops))))
 test p i (puts key new) =
-    is_ready p i && (is_free p i (put_wants_in p key new) && (fits_under key new && (differ (find place_cmp (1, key) p.rows) new
-    && (fits_txn p i (put_size shop_schema (change_in p key new) (owed_in p.rows (1, key) new)) && fits_history p (kept_change_size shop_schema (change_in p key new))))))
+    is_ready p i && (is_free p i (put_wants_in p key new) && (may_put p key new
+    && (fits_txn p i (put_size shop_schema (change_in p key new) (owed_in p.rows (1, key) new)) && fits_history p (kept_change_size shop_schema (change_in p key new)))))
 test p i lacks = owes p i && lacks_first p i (txn p i).owed
 test p i makes = owes p i && makes_first p i (txn p i).owed
 test p i pays = owes p i && pays_first p i (txn p i).owed
@@ -502,11 +541,13 @@ test p i ends = is_session i && (is_some (p.of.store.open_of i) && is_nil (txn p
 test p i commits = is_ready p i && not (is_nil (changes_of (txn p i).kept))
 test p i leaves = goes_on p i && (is_nil (txn p i).owed && is_nil (changes_of (txn p i).kept))
 test p i (refuses column) = owes p i && refuses_first p i (txn p i).owed column
-test p i (blocks sessions) =
-    owes p i && (not (is_nil (txn p i).owed) && (are_exact (locks_of p.of.store) i (first_want (txn p i).owed) sessions
-    && (not (is_nil (members sessions)) && each_of (λ j. is_nil (p.of.waiting j)) (members sessions))))
+test p i (blocks sessions) = owes p i && (not (is_nil (txn p i).owed) && waits_for p i (first_want (txn p i).owed) sessions)
+test p i (reads_later index interval lock sessions) = is_ready p i && (may_read index lock && waits_for p i (read_want index interval lock) sessions)
+test p i (puts_later key new sessions) = is_ready p i && (may_put p key new && waits_for p i (put_wants_in p key new) sessions)
+test p i cancels = is_session i
 test p i (deadlocks other mine theirs) = owes p i && (not (is_nil (txn p i).owed) && are_rung p i (first_want (txn p i).owed) other mine theirs)
 test p i (peeks interval) = goes_on p i && not (is_serial (txn p i).mode)
+test p i (peeks_sales interval) = goes_on p i && not (is_serial (txn p i).mode)
 test p i cleans_none = (i == 0) && each_of (λ e. not (is_cleanable p e.0)) p.view
 test p i (cleans place) =
     (i == 0) && (is_some (find place_cmp place p.view) && (is_cleanable p place && each_of (λ e. not (is_cleanable p e.0) || eq_by_cmp place_cmp place e.0) p.view))
@@ -520,6 +561,10 @@ left_as p i a said store waits es = counted p.of i a said store waits p.of.defin
 -- effects that leave the tables
 abbrev pub left_by : Plain → ℕ → Act → Answer → List Effect → Plain
 left_by p i a said es = record p { of = left_as p i a said (run the_views p.of.store i es) [] es }
+
+-- it waits
+abbrev pub left_waiting : Plain → ℕ → Act → Sessions → List Want → Plain
+left_waiting p i a sessions wants = record p { of = left_as p i a (answer.Blocked sessions) p.of.store wants [] }
 
 abbrev pub after_lacks : Plain → ℕ → List GroupDelta → Plain
 after_lacks p i owed = left_by p i act.Pay answer.NeedsGhost (Takes (first_want owed) ∷ [])
@@ -566,9 +611,10 @@ after_undoes p i (Pay d ∷ ks) = record p {
 
 abbrev pub after : Plain → ℕ → Move → Plain
 after p i (begins mode) = record p { of = left_as p i (act.Begin mode) (answer.Begun (number_of p) 2) (with_txn p.of.store i (Some (begun mode (number_of p)))) [] (Opens mode ∷ []) }
-after p i (fetches key) =
-    let rows : List Row = found_in p.rows (point key) in
-    left_by p i (act.Fetch 1 (point key) Exclusive) (answer.Rows rows) (Takes (row_want key) ∷ Notes (record { index = 1; interval = point key; rows = rows; kept = length (txn p i).kept }) ∷ [])
+after p i learns = left_by p i act.Defs (answer.Defs shop_schema) []
+after p i (scans interval lock) =
+    let rows : List Row = found_in p.rows interval in
+    left_by p i (act.Fetch 1 interval lock) (answer.Rows rows) (Takes (read_want 1 interval lock) ∷ Notes (record { index = 1; interval = interval; rows = rows; kept = length (txn p i).kept }) ∷ [])
 after p i (views interval shops) =
     let rows : List Row = shown_in (seen p interval) shops in
     left_by p i (act.Fetch 2 interval Share) (answer.Rows rows) (Takes (view_want interval) ∷ Notes (record { index = 2; interval = interval; rows = rows; kept = length (txn p i).kept }) ∷ [])
@@ -584,9 +630,13 @@ after p i commits = record p {
 }
 after p i leaves = left_by p i act.Commit (answer.Committed (number_left p i)) (Ends ∷ [])
 after p i (refuses column) = left_by p i act.Pay (bounds_in p (txn p i).owed column) (Takes (first_want (txn p i).owed) ∷ [])
-after p i (blocks sessions) = record p { of = left_as p i act.Pay (answer.Blocked sessions) p.of.store (first_want (txn p i).owed) [] }
+after p i (blocks sessions) = left_waiting p i act.Pay sessions (first_want (txn p i).owed)
+after p i (reads_later index interval lock sessions) = left_waiting p i (act.Fetch index interval lock) sessions (read_want index interval lock)
+after p i (puts_later key new sessions) = left_waiting p i (act.Put 1 key new) sessions (put_wants_in p key new)
+after p i cancels = left_by p i act.Cancel answer.Cancelled []
 after p i (deadlocks other mine theirs) = left_by p i act.Pay (answer.Refused (refusal.Deadlock (ring_of i other))) (Loses ∷ [])
 after p i (peeks interval) = left_by p i (act.Peek 2 interval) (said_of p i (peeks interval)) []
+after p i (peeks_sales interval) = left_by p i (act.Peek 1 interval) (said_of p i (peeks_sales interval)) []
 after p i cleans_none = left_by p i act.Clean (answer.Cleaned 0) []
 after p i (cleans place) = record p { view = set_in place None p.view; of = left_as p i act.Clean (answer.Cleaned 1) p.of.store [] (Cleans place ∷ []) }
 after p i prunes = record p { of = left_as p i act.Prune answer.Pruned (record p.of.store { mark = least_snapshot p.of.store.open_of 64 (number_of p) }) [] (Prunes ∷ []) }

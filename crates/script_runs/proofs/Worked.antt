@@ -1,0 +1,80 @@
+-- The scripts, played.
+use Rattle.std.specs.Fmt.{digits}
+use Rattle.script_runs.specs.Increments.{both_commit as both_commit_script, BothCommit, one_rolls_back as one_rolls_back_script, OneRollsBack, ghost_is_cleaned as ghost_is_cleaned_script, GhostIsCleaned, deleted_comes_back as deleted_comes_back_script, DeletedComesBack}
+use Rattle.script_runs.specs.Bounds.{sum_is_refused as sum_is_refused_script, SumIsRefused, undo_is_covered as undo_is_covered_script, UndoIsCovered, room_is_freed as room_is_freed_script, RoomIsFreed, FreedRoomIsSerial}
+use Rattle.script_runs.specs.Waiting.{reader_waits as reader_waits_script, ReaderWaits, ring_is_refused as ring_is_refused_script, RingIsRefused, insert_waits as insert_waits_script, InsertWaits, both_are_tried as both_are_tried_script, BothAreTried}
+use Rattle.script_runs.specs.Snapshots.{snapshot_is_kept as snapshot_is_kept_script, SnapshotIsKept, snapshot_by_steps as snapshot_by_steps_script, SnapshotBySteps}
+use Rattle.script_runs.specs.Inside.{refused_insert as refused_insert_script, RefusedInsert, savepoint_returns as savepoint_returns_script, SavepointReturns, insert_by_steps as insert_by_steps_script, InsertBySteps, statements_are_refused as statements_are_refused_script, StatementsAreRefused}
+use Rattle.script_runs.proofs.Scripts.{printed, serial}
+
+pub both_commit : BothCommit
+unfolding digits
+both_commit = printed both_commit_script tt
+
+pub one_rolls_back : OneRollsBack
+unfolding digits
+one_rolls_back = printed one_rolls_back_script tt
+
+pub ghost_is_cleaned : GhostIsCleaned
+unfolding digits
+ghost_is_cleaned = printed ghost_is_cleaned_script tt
+
+pub deleted_comes_back : DeletedComesBack
+unfolding digits
+deleted_comes_back = printed deleted_comes_back_script tt
+
+pub sum_is_refused : SumIsRefused
+unfolding digits
+sum_is_refused = printed sum_is_refused_script tt
+
+pub undo_is_covered : UndoIsCovered
+unfolding digits
+undo_is_covered = printed undo_is_covered_script tt
+
+pub room_is_freed : RoomIsFreed
+unfolding digits
+room_is_freed = printed room_is_freed_script tt
+
+pub reader_waits : ReaderWaits
+unfolding digits
+reader_waits = printed reader_waits_script tt
+
+pub ring_is_refused : RingIsRefused
+unfolding digits
+ring_is_refused = printed ring_is_refused_script tt
+
+pub insert_waits : InsertWaits
+unfolding digits
+insert_waits = printed insert_waits_script tt
+
+pub both_are_tried : BothAreTried
+unfolding digits
+both_are_tried = printed both_are_tried_script tt
+
+pub snapshot_is_kept : SnapshotIsKept
+unfolding digits
+snapshot_is_kept = printed snapshot_is_kept_script tt
+
+pub snapshot_by_steps : SnapshotBySteps
+unfolding digits
+snapshot_by_steps = printed snapshot_by_steps_script tt
+
+pub refused_insert : RefusedInsert
+unfolding digits
+refused_insert = printed refused_insert_script tt
+
+pub savepoint_returns : SavepointReturns
+unfolding digits
+savepoint_returns = printed savepoint_returns_script tt
+
+pub insert_by_steps : InsertBySteps
+unfolding digits
+insert_by_steps = printed insert_by_steps_script tt
+
+pub statements_are_refused : StatementsAreRefused
+unfolding digits
+statements_are_refused = printed statements_are_refused_script tt
+
+pub freed_room_is_serial : FreedRoomIsSerial
+unfolding digits
+freed_room_is_serial = serial room_is_freed_script tt

@@ -1,0 +1,6 @@
+pub mod Scripts
+pub mod Increments
+pub mod Bounds
+pub mod Waiting
+pub mod Snapshots
+pub mod Inside

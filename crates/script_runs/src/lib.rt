@@ -1,0 +1,99 @@
+//! Scripts on a shop's sales as runs over the machine: what they print, and what no run of them prints. Each function is there
+//! for its contract.
+#![tactic(auto)]
+
+ghost use Rattle.script_runs.specs.Increments.{BothCommit, DeletedComesBack, GhostIsCleaned, OneRollsBack};
+ghost use Rattle.script_runs.specs.Bounds.{FreedRoomIsSerial, RoomIsFreed, SumIsRefused, UndoIsCovered};
+ghost use Rattle.script_runs.specs.Waiting.{BothAreTried, InsertWaits, ReaderWaits, RingIsRefused};
+ghost use Rattle.script_runs.specs.Snapshots.{SnapshotBySteps, SnapshotIsKept};
+ghost use Rattle.script_runs.specs.Inside.{InsertBySteps, RefusedInsert, SavepointReturns, StatementsAreRefused};
+
+/// Two open inserts into one group: both commit, and the view has both.
+pub fn both_commit()
+    ensures { BothCommit }
+{}
+
+/// One of them commits and the other is taken back: the view has what was committed.
+pub fn one_rolls_back()
+    ensures { OneRollsBack }
+{}
+
+/// A group that is made and taken back is cleaned once.
+pub fn ghost_is_cleaned()
+    ensures { GhostIsCleaned }
+{}
+
+/// The only sale of a shop is deleted and comes back: its group is not cleaned meanwhile.
+pub fn deleted_comes_back()
+    ensures { DeletedComesBack }
+{}
+
+/// An insert that a sum leaves no room for beside an open one is refused with the bounds of the sum.
+pub fn sum_is_refused()
+    ensures { SumIsRefused }
+{}
+
+/// The bounds cover what taking back passes through.
+pub fn undo_is_covered()
+    ensures { UndoIsCovered }
+{}
+
+/// A transaction reads one group between an insert into another and its taking back, whose room a later commit takes.
+pub fn room_is_freed()
+    ensures { RoomIsFreed }
+{}
+
+/// What is printed there is serial: alone, the transaction comes to the same behind that commit.
+pub fn freed_room_is_serial()
+    ensures { FreedRoomIsSerial }
+{}
+
+/// A reader waits for an insert into its group, and reads what was committed.
+pub fn reader_waits()
+    ensures { ReaderWaits }
+{}
+
+/// Two readers insert for each other: one waits, and the other is refused.
+pub fn ring_is_refused()
+    ensures { RingIsRefused }
+{}
+
+/// An insert waits for a reader of a range in which there was no row.
+pub fn insert_waits()
+    ensures { InsertWaits }
+{}
+
+/// Two sessions that wait for one go on in the order of their numbers.
+pub fn both_are_tried()
+    ensures { BothAreTried }
+{}
+
+/// A snapshot reads what was committed as it began, and what it needs is kept until it ends.
+pub fn snapshot_is_kept()
+    ensures { SnapshotIsKept }
+{}
+
+/// A snapshot that is begun step by step does not see what was committed between its steps.
+pub fn snapshot_by_steps()
+    ensures { SnapshotBySteps }
+{}
+
+/// An insert whose second row is refused leaves no trace in its transaction.
+pub fn refused_insert()
+    ensures { RefusedInsert }
+{}
+
+/// What is done behind a savepoint is taken back, and the rest is committed.
+pub fn savepoint_returns()
+    ensures { SavepointReturns }
+{}
+
+/// An insert goes on step by step, around that of another session.
+pub fn insert_by_steps()
+    ensures { InsertBySteps }
+{}
+
+/// Refusals of statements.
+pub fn statements_are_refused()
+    ensures { StatementsAreRefused }
+{}
