@@ -28,7 +28,6 @@ use Rattle.iv_types.proofs.Orders.{row_cmp_total}
 use Rattle.std.specs.declared.cmp.Ordering.{Ordering}
 use Rattle.std.specs.declared.cmp.Ordering.TheVariants.{Less, Equal, Greater}
 use Rattle.std.specs.Ordering.{ordering_reverse, is_eq}
-use Rattle.iv_types.specs.Intervals.{point}
 use Rattle.table_laws.specs.Place.{Place, place_cmp}
 use Rattle.table_laws.specs.Table.{rows_where}
 use Rattle.iv_meaning.specs.Schema.{table, numbered}
