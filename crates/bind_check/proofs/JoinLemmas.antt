@@ -1,19 +1,16 @@
 -- Lemmas on the terms by which two relations are joined.
-use Rattle.std.proofs.Common.{◌≡◌, arith, ℕ, zero, suc, ◌+◌, ◌==◌, drop, is_some, add-one, Bool, true, false, ◌&&◌, ◌||◌, List, [], ◌∷◌, ◌++◌, map, length, slice_get, Option, Some, None, Result, Ok, Err, if◌then◌else◌}
-use mathlib.Core.Path.{refl, sym, ap, ◌∙◌}
-use Rattle.std.specs.List.{list_all, list_any}
-use Rattle.std.specs.Option.{option_map_or}
+use Rattle.std.proofs.Common.{◌≡◌, ℕ, ◌+◌, ◌==◌, Bool, true, false, ◌&&◌, List, [], ◌∷◌, ◌++◌, map, Some, None, if◌then◌else◌}
+use mathlib.Core.Path.{refl, ap, ◌∙◌}
+use Rattle.std.specs.List.{list_all}
 use Rattle.std.proofs.lemmas.List.{map-append}
 use Rattle.std.proofs.lemmas.List.Folds.{list_all-map}
 use Rattle.iv_types.specs.declared.expression.Op.{Op}
 use Rattle.iv_types.specs.declared.expression.Op.TheVariants as op
-use Rattle.iv_types.specs.declared.expression.Ref.{Ref}
 use Rattle.iv_types.specs.declared.expression.ColumnAt.{ColumnAt}
 use Rattle.iv_types.specs.declared.catalog.TableDef.{TableDef}
-use Rattle.iv_types.specs.Syntax.{Tree, JoinTree, number, word, named, at, not, minus, pair}
+use Rattle.iv_types.specs.Syntax.{Tree, number, word, named, at, not, minus, pair}
 use Rattle.iv_meaning.specs.Names.{how_many}
-use Rattle.iv_meaning.specs.Query.{BoundItem, count, sum, plain}
-use Rattle.iv_meaning.specs.Shape.{NamedItem, same_place, terms, joins_by, joins_key, joins_whole_key, joins_tables, table_of, is_many_to_one, is_grouped, has_arithmetic, are_sums, is_count_and_sums, is_view_list}
+use Rattle.iv_meaning.specs.Shape.{terms, joins_by, joins_key, joins_whole_key}
 use Rattle.bind_check.specs.Joining.{place_in}
 use Rattle.bind_check.specs.Joining.{is_and, is_equal, perhaps_joined, pairs_of, is_key, is_of_column}
 

@@ -2,3 +2,4 @@ pub mod JoinLemmas
 pub mod ShapeLemmas
 pub mod SeenLemmas
 pub mod TestLemmas
+pub mod ViewLemmas

@@ -1,18 +1,12 @@
 -- Lemmas on the items of a view, and on arithmetic.
-use Rattle.std.proofs.Common.{◌≡◌, arith, ℕ, zero, suc, ◌+◌, ◌==◌, drop, is_some, add-one, Bool, true, false, ◌&&◌, ◌||◌, List, [], ◌∷◌, ◌++◌, map, length, slice_get, Option, Some, None, Result, Ok, Err, if◌then◌else◌}
+use Rattle.std.proofs.Common.{◌≡◌, ℕ, zero, suc, ◌+◌, drop, is_some, add-one, Bool, false, ◌&&◌, ◌||◌, List, [], ◌∷◌, slice_get, Option, Some, None}
 use mathlib.Core.Path.{refl, sym, ap, ◌∙◌}
-use Rattle.std.specs.List.{list_all, list_any}
-use Rattle.std.specs.Option.{option_map_or}
-use Rattle.std.proofs.lemmas.List.{map-append}
-use Rattle.std.proofs.lemmas.List.Folds.{list_all-map}
 use Rattle.iv_types.specs.declared.expression.Op.{Op}
 use Rattle.iv_types.specs.declared.expression.Op.TheVariants as op
-use Rattle.iv_types.specs.declared.expression.Ref.{Ref}
 use Rattle.iv_types.specs.declared.expression.ColumnAt.{ColumnAt}
-use Rattle.iv_types.specs.declared.catalog.TableDef.{TableDef}
-use Rattle.iv_types.specs.Syntax.{Tree, JoinTree, number, word, named, at, not, minus, pair}
+use Rattle.iv_types.specs.Syntax.{Tree, pair}
 use Rattle.iv_meaning.specs.Query.{BoundItem, count, sum, plain}
-use Rattle.iv_meaning.specs.Shape.{NamedItem, same_place, terms, joins_by, joins_key, joins_whole_key, joins_tables, table_of, is_many_to_one, is_grouped, has_arithmetic, are_sums, is_count_and_sums, is_view_list}
+use Rattle.iv_meaning.specs.Shape.{NamedItem, has_arithmetic, are_sums, is_count_and_sums, is_view_list}
 use Rattle.bind_check.specs.Shapes.{is_arithmetic, is_group_item, is_named_count, is_named_sum}
 
 -- ---- arithmetic

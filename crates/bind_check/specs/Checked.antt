@@ -1,17 +1,17 @@
 -- No clause of `run` rests on this module: it serves contracts between crates.
 --
 -- Tests of resolved statements as they are made, part by part.
-use Rattle.std.specs.Prelude.{ℕ, ◌==◌, ◌&&◌, ◌||◌, not, is_some, length, Bool, List, [], ◌∷◌, Option, Some, None}
+use Rattle.std.specs.Prelude.{◌==◌, ◌&&◌, ◌||◌, not, is_some, length, Bool, List, [], ◌∷◌, Option, Some, None}
 use Rattle.std.specs.List.{list_all, list_any}
 use Rattle.iv_types.specs.declared.value.Kind.{Kind}
 use Rattle.iv_types.specs.declared.bound.BoundSet.{BoundSet}
 use Rattle.iv_types.specs.declared.expression.Expr.{Expr}
 use Rattle.iv_types.specs.declared.refusal.Refusal.TheVariants.{WrongType}
 use Rattle.iv_types.specs.Syntax.{Tree}
-use Rattle.iv_types.specs.Trees.{perhaps_tree, tree, trees}
-use Rattle.iv_meaning.specs.Schema.{Object, as_index, as_view, object_columns}
+use Rattle.iv_types.specs.Trees.{perhaps_tree, trees}
+use Rattle.iv_meaning.specs.Schema.{Object, as_index, object_columns}
 use Rattle.iv_meaning.specs.Bound.{set_tree}
-use Rattle.iv_meaning.specs.Shape.{has_arithmetic, is_aggregate, is_empty, is_grouped, is_view_list, repeats, same_place}
+use Rattle.iv_meaning.specs.Shape.{is_aggregate, is_empty, is_grouped, repeats, same_place}
 use Rattle.iv_meaning.specs.Types.{family, is_of, is_truth, is_value}
 use Rattle.iv_meaning.specs.Typing.{condition_typed, item_typed, set_typed, sources_of, tuple_typed}
 use Rattle.iv_meaning.specs.Tests.{Test, is_many_to_one, is_table, primary_of, rule}

@@ -3,7 +3,7 @@
 -- The terms by which two tables are joined, and the index that a join needs.
 use Rattle.std.specs.Prelude.{ℕ, Bool, true, false, ◌&&◌, ◌==◌, List, [], ◌∷◌, map, slice_get, Option, Some, None, if◌then◌else◌}
 use Rattle.std.specs.List.{list_any}
-use Rattle.std.specs.Option.{option_map_or}
+use Rattle.std.specs.Option.{option_map, option_map_or}
 use Rattle.iv_types.specs.declared.expression.Op.{Op}
 use Rattle.iv_types.specs.declared.expression.Op.TheVariants as op
 use Rattle.iv_types.specs.declared.expression.ColumnAt.{ColumnAt}
@@ -11,9 +11,11 @@ use Rattle.iv_types.specs.declared.catalog.TableDef.{TableDef}
 use Rattle.iv_types.specs.Encoding.{kinds_of}
 use Rattle.iv_types.specs.Syntax as s
 use Rattle.iv_types.specs.Syntax.{Tree}
-use Rattle.iv_meaning.specs.Schema.{Object, table, index, view}
+use Rattle.iv_meaning.specs.Schema.{as_table}
 use Rattle.iv_meaning.specs.Shape.{terms, joins_by, both_kinds}
-use Rattle.iv_meaning.specs.Binding.{begins_with}
+use Rattle.iv_meaning.specs.Binding.{join_columns}
+use Rattle.iv_meaning.specs.Resolving.{Joined}
+use denote.Ref.{Bor}
 
 abbrev pub is_and : Op → Bool
 is_and op.And = true
@@ -53,7 +55,7 @@ abbrev pub place_in : Tree → Option ColumnAt
 place_in (s.at place) = Some place
 place_in e = None
 
--- ---- the index
+-- ---- the columns of the first table
 
 -- the first that is found
 abbrev pub or_else : {Y : Type 0} → Option Y → Option Y → Option Y
@@ -69,12 +71,12 @@ abbrev pub left_of : ℕ → Option (ℕ × ℕ) → Option ℕ
 left_of place None = None
 left_of place (Some p) = if p.1 == place then Some p.0 else None
 
--- an index of a table that begins with these columns
-abbrev pub serves : ℕ → List ℕ → Object → Option ℕ
-serves number columns (index i) = if i.table == number then (if begins_with columns i.columns then Some i.number else None) else None
-serves number columns (table t) = None
-serves number columns (view v) = None
-
 abbrev pub is_at : ℕ → Option ℕ → Bool
 is_at place None = false
 is_at place (Some other) = place == other
+
+abbrev pub second_seen : Bor TableDef × List ℕ → TableDef × List ℕ
+second_seen p = (p.0.now, p.1)
+
+abbrev pub joined_second : Joined → Option (TableDef × List ℕ)
+joined_second j = option_map (λ second. (second, join_columns (terms j.on) second)) (as_table j.object)

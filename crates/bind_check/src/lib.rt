@@ -11,6 +11,7 @@ mod queries;
 mod refusing;
 mod shape;
 mod typing;
+mod view_joins;
 mod view_lists;
 
 pub use changing::{check_delete, check_insert, check_update};
@@ -18,3 +19,4 @@ pub use kinds::{kinds_of_one, kinds_seen};
 pub use objects::number_of;
 pub use queries::{check_query, check_view_query};
 pub use typing::query_typed;
+pub use view_joins::{begins_with, second_of};

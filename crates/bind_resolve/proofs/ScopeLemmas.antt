@@ -1,5 +1,5 @@
 -- Lemmas on what a query sees.
-use Rattle.std.proofs.Common.{◌≡◌, ℕ, ◌+◌, List, ◌∷◌, map}
+use Rattle.std.proofs.Common.{◌≡◌, ℕ, List, ◌∷◌, map}
 use mathlib.Core.Path.{ap, ◌∙◌}
 use Rattle.iv_types.specs.declared.statement.Join.{Join}
 use Rattle.iv_types.specs.declared.statement.Relation.{Relation}

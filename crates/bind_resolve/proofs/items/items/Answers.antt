@@ -1,4 +1,4 @@
-use Rattle.std.proofs.Common.{◌++◌, ◌∷◌, map, refl, ap, sym, ◌∙◌, drop, ◌+◌}
+use Rattle.std.proofs.Common.{◌++◌, map, ap, ◌∙◌, drop, ◌+◌}
 use Rattle.std.proofs.lemmas.List.{map-append}
 use Rattle.iv_types.specs.Trees.{item_tree}
 use Rattle.iv_meaning.specs.Resolving.{items_resolved}

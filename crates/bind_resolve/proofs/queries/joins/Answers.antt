@@ -1,4 +1,4 @@
-use Rattle.std.proofs.Common.{◌+◌, ◌++◌, [], ◌∷◌, map, ap, ◌∙◌, drop}
+use Rattle.std.proofs.Common.{◌+◌, map, ap, ◌∙◌, drop}
 use Rattle.std.proofs.lemmas.List.{map_push}
 use Rattle.iv_types.specs.Trees.{join_tree}
 use Rattle.iv_meaning.specs.Objects.{schema_of}

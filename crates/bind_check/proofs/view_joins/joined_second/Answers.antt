@@ -1,0 +1,11 @@
+use Rattle.std.proofs.Common.{◌∙◌}
+use Rattle.iv_types.specs.Trees.{tree}
+use Rattle.iv_meaning.specs.Schema.{as_table}
+use Rattle.iv_meaning.specs.Objects.{object_of}
+use Rattle.bind_check.proofs.ViewLemmas.{second_found}
+use Rattle.bind_check.proofs.view_joins.joined_second.Goals as goal
+
+pub returns : goal.returns
+returns c =
+    second_found (as_table (object_of c.args.join.now.object.now)) c.in-Some.second.now (tree c.args.join.now.on) _ _ c.in_ok-columns.columns
+    c.in-Some.ensures (c.deref.ensures.value ∙ c.in_ok-pairs.ensures) c.as_slice.ensures c.in_ok-columns.ensures
