@@ -25,7 +25,7 @@ alone_more mode (y ∷ ys) x r =
     let h = alone_more mode ys x (inside mode y r).after in
     (ap (λ l. (inside mode y r).replies ∷ l) h.0, h.1)
 
-map_more : {A B : Type 0} (f : A → B) (xs : List A) (x : A) → map f (xs ++ x ∷ []) ≡ map f xs ++ f x ∷ []
+pub map_more : {A B : Type 0} (f : A → B) (xs : List A) (x : A) → map f (xs ++ x ∷ []) ≡ map f xs ++ f x ∷ []
 map_more f [] x = refl
 map_more f (y ∷ ys) x = ap (λ l. f y ∷ l) (map_more f ys x)
 

@@ -12,3 +12,4 @@ pub mod Fitting
 pub mod Asked
 pub mod Refused
 pub mod Retrying
+pub mod OneSession

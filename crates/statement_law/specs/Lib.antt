@@ -7,3 +7,4 @@ pub mod Fitting
 pub mod Laws
 pub mod Retrying
 pub mod Deadlocks
+pub mod OneSession

@@ -5,6 +5,7 @@
 ghost use Rattle.statement_law.specs.Deadlocks.{DeadlocksLaw};
 ghost use Rattle.statement_law.specs.Retrying.{StepsEndLaw, RetriesEndLaw};
 ghost use Rattle.statement_law.specs.Laws.{AskedLaw, EscrowLaw, FitsLaw, KeyLaw, StatementsLaw, WorksLaw};
+ghost use Rattle.statement_law.specs.OneSession.{OneOutputLaw, OneSerialLaw};
 
 /// Values that fit are read from their key.
 pub fn key_law()
@@ -49,4 +50,14 @@ pub fn retries_end_law()
 /// Once a step of a statement met a deadlock, the statement only takes back and ends.
 pub fn deadlocks_law()
     ensures { DeadlocksLaw }
+{}
+
+/// There is one serial output at most for the lines of one session, where nobody is told to wait or refused by the engine.
+pub fn one_serial_law()
+    ensures { OneSerialLaw }
+{}
+
+/// So a script of one session prints one output only.
+pub fn one_output_law()
+    ensures { OneOutputLaw }
 {}
