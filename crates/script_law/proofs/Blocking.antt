@@ -38,7 +38,7 @@ waits_said _ _ sessions e = absurd (cc)
 
 -- ---- a step that was blocked
 
-record WasBlocked (s : Story) (n : ℕ) (mid : Story) : Type 0 where
+pub record WasBlocked (s : Story) (n : ℕ) (mid : Story) : Type 0 where
   pub store : mid.state.store ≡ s.state.store
   pub others : (m : ℕ) → m ≢ n → mid.state.waiting m ≡ s.state.waiting m
   pub hindered : IsHindered mid n
@@ -47,7 +47,7 @@ first_of : (sessions : List ℕ) → sessions ≢ [] → (other : ℕ) × Contai
 first_of [] n = absurd (n refl)
 first_of (x ∷ xs) n = (x, contains_here x xs)
 
-blocked_so : (s mid : Story) (n : ℕ) (a : Act) (sessions : Sessions) → DoesOf s n a (answer.Blocked sessions) mid → WasBlocked s n mid
+pub blocked_so : (s mid : Story) (n : ℕ) (a : Act) (sessions : Sessions) → DoesOf s n a (answer.Blocked sessions) mid → WasBlocked s n mid
 blocked_so s mid n a sessions h = elim h.1.does [
   | inl x ↦
       let blocked : IsBlocked s.state n (asked s.state.store n a) sessions = x.says.1 in

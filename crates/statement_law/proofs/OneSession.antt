@@ -1,9 +1,11 @@
 -- The output of one session is one only.
 use Rattle.std.specs.Prelude.{◌≡◌, ◌≢◌, ℕ, ◌==◌, Bool, true, false, List, [], ◌∷◌, ◌++◌, map, codes, decimal, Option, Some, None, Result, Ok, Err, if◌then◌else◌}
-use Rattle.std.specs.List.{AllByRecursion}
+use Rattle.std.specs.List.{AllByRecursion, Contains}
+use Rattle.std.specs.Option.{unwrap_or}
 use mathlib.Core.Path.{refl, sym, ap, subst, ◌∙◌}
 use mathlib.Core.Logic.{inl, inr}
 use Rattle.std.proofs.Common.{append-nil, append_assoc}
+use Rattle.iv_types.specs.declared.lock.Want.{Want}
 use Rattle.iv_types.specs.declared.refusal.Refusal.{Refusal}
 use Rattle.iv_types.specs.declared.refusal.Refusal.TheVariants as refusal
 use Rattle.iv_types.specs.declared.reply.Reply.{Reply}
@@ -17,11 +19,20 @@ use Rattle.iv_meaning.specs.Transaction.{alone, committed, outside, inside, begi
 use Rattle.iv_meaning.specs.History.{fold, state_at}
 use Rattle.iv_meaning.specs.Said.{Said, nothing, too_long, bad, runs, loads, unread, steps, cleans, checkpoints}
 use Rattle.iv_meaning.specs.Serial.{World, Unended, Unfinished, none, latest, base_of, set_open, set_unfinished, commits, ran, WasAlone, refused_by_mode, EndsOutside, EndsInside, EndsBy, Ends, IsRefused, Takes, Runs, OwnPiece, LaterPieces, Answers, IsTranscript, opened_with}
+use Rattle.txn_machine.specs.Acts.{Act}
+use Rattle.txn_machine.specs.Answers.{Answer}
+use Rattle.txn_machine.specs.Keeping.{idle}
+use Rattle.txn_machine.specs.Store.{Store, locks_of}
+use Rattle.txn_machine.specs.Alone.{Story}
+use Rattle.txn_machine.proofs.Basics.{contains_none}
+use Rattle.txn_machine.proofs.Parting.{part_law}
+use Rattle.script_law.specs.Machine.{DoesOf, IsHindered}
+use Rattle.script_law.proofs.Blocking.{blocked_so}
 use Rattle.script_law.specs.Seen.{entries}
 use Rattle.script_law.specs.Programs.{with_told}
 use Rattle.script_law.proofs.Basics.{if_same, commits_origin, commits_running, commits_unfinished, commits_history}
 use Rattle.script_law.proofs.Refusing.{alone_more, map_more}
-use Rattle.statement_law.specs.OneSession.{IsOfOne, IsHindrance, IsUnhindered, OneSerialLaw, OneOutputLaw}
+use Rattle.statement_law.specs.OneSession.{IsOfOne, IsHindrance, IsUnhindered, IsLone, NeverBlockedLaw, OneSerialLaw, OneOutputLaw}
 use Rattle.statement_law.proofs.Works.{statements_law}
 
 -- ---- lists
@@ -347,3 +358,23 @@ one_output_law db stored opening opened_so session lines are out other after las
     one_serial_law db session lines are out other free free'
     (statements_law db stored opening opened_so lines out after first).0
     (statements_law db stored opening opened_so lines other last second).0
+
+-- ---- steps
+
+stays_lone : (session : ℕ) (story after : Story) (a : Act) (said : Answer) → IsLone session story → DoesOf story session a said after → IsLone session after
+stays_lone session story after a said lone does other is n =
+    ap (λ (z : Story). z.state.store.open_of other) does.2 ∙ ((part_law story.state (record { session = session; act = a; said = said }) does.0 does.1).0 other n).open_is ∙ lone other is n
+
+-- a session without a transaction holds no lock
+no_locks : (s : Store) (other : ℕ) → s.open_of other ≡ None → locks_of s other ≡ []
+no_locks s other e = ap (λ o. (unwrap_or o idle).locks) e
+
+never_hindered : (session : ℕ) (story : Story) → IsLone session story → IsHindered story session → ⊥
+never_hindered session story lone h =
+    let meet = h.1.meet in
+    contains_none meet.lock (subst (λ (l : List Want). Contains l meet.lock) (no_locks story.state.store h.0 (lone h.0 h.1.of_session h.1.not_itself)) meet.held)
+
+pub never_blocked_law : NeverBlockedLaw
+never_blocked_law session story after a said lone does =
+    let still = stays_lone session story after a said lone does in
+    (still, λ sessions e. never_hindered session after still (blocked_so story after session a sessions (subst (λ x. DoesOf story session a x after) e does)).hindered)

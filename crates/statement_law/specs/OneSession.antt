@@ -3,12 +3,17 @@
 -- That one output only is printed for the lines of one session.
 use Rattle.std.specs.Prelude.{◌≡◌, ◌≢◌, ℕ, IsTrue, List, [], ◌∷◌, ◌++◌, None}
 use Rattle.std.specs.List.{AllByRecursion}
+use Rattle.iv_types.specs.declared.session.Sessions.{Sessions}
 use Rattle.iv_types.specs.declared.reply.Reply.{Reply}
 use Rattle.iv_types.specs.declared.reply.Reply.TheVariants as reply
 use Rattle.iv_meaning.specs.Reply.{reply_lines}
 use Rattle.iv_meaning.specs.Database.{Database}
+use Rattle.iv_meaning.specs.Escrow.{IsSession}
 use Rattle.iv_meaning.specs.Said.{Said, nothing, too_long, bad, runs, checkpoints}
 use Rattle.iv_meaning.specs.Serial.{opened_with, is_engines, IsSerialFrom}
+use Rattle.txn_machine.specs.Acts.{Act}
+use Rattle.txn_machine.specs.Answers as answer
+use Rattle.txn_machine.specs.Answers.{Answer}
 use Rattle.txn_machine.specs.Store.{opened}
 use Rattle.txn_machine.specs.Stored.{ViewRows}
 use Rattle.txn_machine.specs.Log.{Opening}
@@ -40,7 +45,16 @@ IsHindrance r = ⊥
 abbrev pub IsUnhindered : List ℕ → Type 0
 IsUnhindered out = (before after : List ℕ) (session : ℕ) (r : Reply) → IsHindrance r → out ≢ before ++ (reply_lines session (r ∷ []) ++ after)
 
+-- no other session has a transaction open
+abbrev pub IsLone : ℕ → Story → Type 0
+IsLone session story = (other : ℕ) → IsSession other → other ≢ session → story.state.store.open_of other ≡ None
+
 -- ---- laws
+
+-- no step of a session that is alone is blocked, and it stays alone
+abbrev pub NeverBlockedLaw : Type 0
+NeverBlockedLaw = (session : ℕ) (story after : Story) (a : Act) (said : Answer) → IsLone session story → DoesOf story session a said after
+    → IsLone session after × ((sessions : Sessions) → said ≢ answer.Blocked sessions)
 
 -- of serial outputs for the lines of one session there is one at most in which this stands nowhere
 abbrev pub OneSerialLaw : Type 0

@@ -5,7 +5,7 @@
 ghost use Rattle.statement_law.specs.Deadlocks.{DeadlocksLaw};
 ghost use Rattle.statement_law.specs.Retrying.{StepsEndLaw, RetriesEndLaw};
 ghost use Rattle.statement_law.specs.Laws.{AskedLaw, EscrowLaw, FitsLaw, KeyLaw, StatementsLaw, WorksLaw};
-ghost use Rattle.statement_law.specs.OneSession.{OneOutputLaw, OneSerialLaw};
+ghost use Rattle.statement_law.specs.OneSession.{NeverBlockedLaw, OneOutputLaw, OneSerialLaw};
 
 /// Values that fit are read from their key.
 pub fn key_law()
@@ -50,6 +50,11 @@ pub fn retries_end_law()
 /// Once a step of a statement met a deadlock, the statement only takes back and ends.
 pub fn deadlocks_law()
     ensures { DeadlocksLaw }
+{}
+
+/// No step of a session is blocked while no other session has a transaction open.
+pub fn never_blocked_law()
+    ensures { NeverBlockedLaw }
 {}
 
 /// There is one serial output at most for the lines of one session, where nobody is told to wait or refused by the engine.
