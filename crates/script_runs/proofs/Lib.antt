@@ -5,3 +5,7 @@ pub mod Lines
 pub mod Ends
 pub mod Scripts
 pub mod Worked
+pub mod Inverting
+pub mod Missed
+pub mod MissedCleaning
+pub mod MissedWaiting

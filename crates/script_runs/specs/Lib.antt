@@ -4,3 +4,4 @@ pub mod Bounds
 pub mod Waiting
 pub mod Snapshots
 pub mod Inside
+pub mod Misses

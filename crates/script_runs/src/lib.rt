@@ -7,6 +7,7 @@ ghost use Rattle.script_runs.specs.Bounds.{FreedRoomIsSerial, RoomIsFreed, SumIs
 ghost use Rattle.script_runs.specs.Waiting.{BothAreTried, InsertWaits, ReaderWaits, RingIsRefused};
 ghost use Rattle.script_runs.specs.Snapshots.{SnapshotBySteps, SnapshotIsKept};
 ghost use Rattle.script_runs.specs.Inside.{InsertBySteps, RefusedInsert, SavepointReturns, StatementsAreRefused};
+ghost use Rattle.script_runs.specs.Misses.{CleanedOfNone, CleanedTwice, DeadlockOfBegin, RefusedByNone, StepOfNone, TwoStepsAtOnce, WaitsForNobody};
 
 /// Two open inserts into one group: both commit, and the view has both.
 pub fn both_commit()
@@ -96,4 +97,39 @@ pub fn insert_by_steps()
 /// Refusals of statements.
 pub fn statements_are_refused()
     ensures { StatementsAreRefused }
+{}
+
+/// No step is told of where no statement is left.
+pub fn step_of_none()
+    ensures { StepOfNone }
+{}
+
+/// No deadlock meets a BEGIN.
+pub fn deadlock_of_begin()
+    ensures { DeadlockOfBegin }
+{}
+
+/// A log without limits refuses nothing.
+pub fn refused_by_none()
+    ensures { RefusedByNone }
+{}
+
+/// A step line does one step.
+pub fn two_steps_at_once()
+    ensures { TwoStepsAtOnce }
+{}
+
+/// No ghosts are counted where none is stored.
+pub fn cleaned_of_none()
+    ensures { CleanedOfNone }
+{}
+
+/// One ghost is counted once.
+pub fn cleaned_twice()
+    ensures { CleanedTwice }
+{}
+
+/// Nobody waits whom nobody hinders.
+pub fn waits_for_nobody()
+    ensures { WaitsForNobody }
 {}
