@@ -9,3 +9,6 @@ pub mod Inverting
 pub mod Missed
 pub mod MissedCleaning
 pub mod MissedWaiting
+pub mod Speaking
+pub mod MissedTelling
+pub mod Reaching

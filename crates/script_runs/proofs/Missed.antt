@@ -11,7 +11,7 @@ use Rattle.iv_types.specs.declared.refusal.EngineRefusal.{EngineRefusal}
 use Rattle.iv_types.specs.declared.refusal.EngineRefusal.TheVariants as engine
 use Rattle.iv_types.specs.declared.reply.Reply.TheVariants as reply
 use Rattle.iv_types.specs.Syntax.{begin}
-use Rattle.iv_meaning.specs.Said.{runs, loads, steps}
+use Rattle.iv_meaning.specs.Said.{runs, steps}
 use Rattle.txn_machine.specs.Acts as act
 use Rattle.txn_machine.specs.Acts.{Act}
 use Rattle.txn_machine.specs.Answers as answer
@@ -28,8 +28,8 @@ use Rattle.script_law.specs.Machine.{DoesOf}
 use Rattle.script_law.specs.Sessions.{end_next, stays_out}
 use Rattle.statement_law.specs.Telling.{tell}
 use Rattle.statement_law.specs.Statements.{the_works}
-use Rattle.script_runs.specs.Scripts.{opened_shop, Script}
-use Rattle.script_runs.specs.Misses.{StepOfNone, DeadlockOfBegin, RefusedByNone, TwoStepsAtOnce}
+use Rattle.script_runs.specs.Scripts.{opened_shop}
+use Rattle.script_runs.specs.Misses.{loaded, StepOfNone, DeadlockOfBegin, RefusedByNone, TwoStepsAtOnce}
 use Rattle.script_runs.proofs.Plays.{programs, Went, whole_lines}
 use Rattle.script_runs.proofs.Steps.{story}
 use Rattle.script_runs.proofs.Scripts.{behind}
@@ -155,9 +155,6 @@ refused_by_none after r =
     begin_misses (codes "1 ERR 22 LogFull 0 0 40\n") refl (λ e. omega (arith, e)) (lines_begin all_sessions (runs 1 (Ok (begin Serial))) [] new_table opened_shop (codes "1 ERR 22 LogFull 0 0 40\n") r.table r.last r.of_lines)
 
 -- ---- two steps at once
-
-abbrev loaded : Script
-loaded = record { lines = loads 1 (Ok (begin Serial)) ∷ []; out = codes "1 STEP\n" }
 
 once_begun : (said : Answer) (memory : Bool) (es : List Effect) → Says (state_of start) 1 (act.Begin Serial) said es → (rest : List ℕ)
     → codes "1 OK 0\n" ≡ printed 1 (outcome_of (event (act.Begin Serial) said) beginning (next_of beginning said memory)) ++ rest → ⊥

@@ -1,15 +1,13 @@
 -- Counts that no `clean` prints.
-use Rattle.std.specs.Prelude.{◌≡◌, ◌≢◌, ℕ, ◌+◌, Bool, true, false, cond, not, T, List, [], ◌∷◌, ◌++◌, codes, ℤ, Some, None, Ok, is_some, IsSome}
+use Rattle.std.specs.Prelude.{◌≡◌, ◌≢◌, ℕ, ◌+◌, Bool, true, false, cond, not, T, List, [], ◌∷◌, ◌++◌, codes, ℤ, Some, None, is_some, IsSome}
 use Rattle.std.specs.Fmt.{digits}
 use mathlib.Core.Path.{refl, sym, ap, subst, ◌∙◌}
 use Rattle.std.proofs.Common.{arith}
 use Rattle.std.specs.FinMap.{empty, get, find}
 use Rattle.std.specs.Ordering.{eq_by_cmp}
-use Rattle.iv_types.specs.declared.statement.Mode.TheVariants.{Serial}
-use Rattle.iv_types.specs.Syntax.{begin, rollback}
 use Rattle.table_laws.specs.Place.{Place, place_cmp}
 use Rattle.table_laws.specs.Table.{write}
-use Rattle.iv_meaning.specs.Said.{runs, cleans}
+use Rattle.iv_meaning.specs.Said.{cleans}
 use Rattle.txn_machine.specs.Acts as act
 use Rattle.txn_machine.specs.Acts.{Act}
 use Rattle.txn_machine.specs.Answers as answer
@@ -24,8 +22,8 @@ use Rattle.txn_machine.proofs.Tabled.{get_is, write_is, none_is}
 use Rattle.script_law.specs.RunLines.{new_table, all_sessions, Cleaned, cleaned_text, counted_line, Cleans, cleaned_all, cleaned_one, clean_fails, CleansLine, pruned, prune_fails}
 use Rattle.script_law.specs.Machine.{DoesOf}
 use Rattle.statement_law.specs.Telling.{tell}
-use Rattle.script_runs.specs.Scripts.{opened_shop, Script, sold_to}
-use Rattle.script_runs.specs.Misses.{CleanedOfNone, CleanedTwice}
+use Rattle.script_runs.specs.Scripts.{opened_shop}
+use Rattle.script_runs.specs.Misses.{taken_back, CleanedOfNone, CleanedTwice}
 use Rattle.script_runs.proofs.Plays.{programs, Went, whole_lines}
 use Rattle.script_runs.proofs.Steps.{story}
 use Rattle.script_runs.proofs.Scripts.{behind}
@@ -101,9 +99,6 @@ pub cleaned_of_none : CleanedOfNone
 cleaned_of_none after r =
     let b = lines_begin all_sessions cleans [] new_table opened_shop many r.table r.last r.of_lines in
     cleans_none b.rest opened_shop b.first.1.0 b.mid b.first.1.2 refl refl refl (b.whole ∙ ap (λ o. o ++ b.rest) b.first.1.1)
-
-abbrev taken_back : Script
-taken_back = record { lines = runs 1 (Ok (begin Serial)) ∷ runs 1 (Ok (sold_to 1 9 4)) ∷ runs 1 (Ok (rollback None)) ∷ []; out = codes "1 OK 0\n1 OK 1\n1 OK 0\n" }
 
 abbrev two : List ℕ
 two = codes "CLEAN 2\n"

@@ -5,7 +5,6 @@ use Rattle.std.specs.List.{AllZip, Contains}
 use mathlib.Core.Path.{refl, ap, subst, ◌∙◌}
 use mathlib.Core.Logic.{inl, inr}
 use Rattle.std.proofs.Common.{arith}
-use Rattle.iv_types.specs.declared.statement.Mode.TheVariants.{Serial}
 use Rattle.iv_types.specs.declared.lock.LockMode.TheVariants.{Share}
 use Rattle.iv_types.specs.declared.lock.Want.{Want}
 use Rattle.iv_types.specs.declared.session.Sessions.{Sessions}
@@ -14,7 +13,6 @@ use Rattle.iv_types.specs.declared.refusal.Refusal.TheVariants as refusal
 use Rattle.iv_types.specs.declared.refusal.EngineRefusal.TheVariants as engine
 use Rattle.iv_types.specs.declared.reply.Reply.TheVariants as reply
 use Rattle.iv_types.specs.Replies.{members}
-use Rattle.iv_types.specs.Syntax.{begin}
 use Rattle.table_laws.specs.Place.{Place}
 use Rattle.table_laws.specs.Table.{rows_where}
 use Rattle.iv_meaning.specs.Database.{Row}
@@ -37,8 +35,7 @@ use Rattle.script_law.specs.Programs.{Todo}
 use Rattle.script_law.specs.RunLines.{new_table, all_sessions, Outcome, printed, next_of, RunsOn}
 use Rattle.script_law.specs.Machine.{DoesOf}
 use Rattle.statement_law.specs.Telling.{tell}
-use Rattle.script_runs.specs.Scripts.{Script}
-use Rattle.script_runs.specs.Misses.{WaitsForNobody}
+use Rattle.script_runs.specs.Misses.{begun, WaitsForNobody}
 use Rattle.script_runs.proofs.Plays.{programs, Went, whole_lines}
 use Rattle.script_runs.proofs.Steps.{Told, story}
 use Rattle.script_runs.proofs.Scripts.{behind}
@@ -54,9 +51,6 @@ pub not_blocked : (s : State) (i : ℕ) (wants : List Want) (sessions : Sessions
 not_blocked s i wants sessions nobody b = let one = first_of (members sessions) b.not_empty in nobody one.0 ((b.in_the_way one.0).0 one.1)
 
 -- ---- a reader of an empty view
-
-abbrev begun : Script
-begun = record { lines = runs 1 (Ok (begin Serial)) ∷ []; out = codes "1 OK 0\n" }
 
 abbrev went : Went
 went = whole_lines begun.lines new_table start

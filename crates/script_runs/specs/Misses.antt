@@ -2,11 +2,12 @@
 --
 -- What no run of some lines prints.
 use Rattle.std.specs.Prelude.{[], ◌∷◌, codes, Ok, None}
+use Rattle.iv_types.specs.declared.expression.Op.TheVariants.{Equal}
 use Rattle.iv_types.specs.declared.statement.Mode.TheVariants.{Serial}
 use Rattle.iv_types.specs.Syntax.{begin, rollback}
 use Rattle.iv_meaning.specs.Said.{runs, loads, steps, cleans}
 use Rattle.iv_meaning.specs.SerialExample.{shows}
-use Rattle.script_runs.specs.Scripts.{IsMiss, IsMissBehind, sold_to}
+use Rattle.script_runs.specs.Scripts.{Script, IsMiss, IsMissBehind, sale_tuple, inserts, sold_to, shows_shops}
 
 -- a session has no statement of which a step is left
 abbrev pub StepOfNone : Type 0
@@ -25,14 +26,37 @@ abbrev pub CleanedOfNone : Type 0
 CleanedOfNone = IsMiss (record { lines = cleans ∷ []; out = codes "CLEAN 99\n" })
 
 -- a BEGIN of a session that knows no definitions takes two steps
+abbrev pub loaded : Script
+loaded = record { lines = loads 1 (Ok (begin Serial)) ∷ []; out = codes "1 STEP\n" }
+
 abbrev pub TwoStepsAtOnce : Type 0
-TwoStepsAtOnce = IsMissBehind (record { lines = loads 1 (Ok (begin Serial)) ∷ []; out = codes "1 STEP\n" }) (steps 1) (codes "1 OK 0\n")
+TwoStepsAtOnce = IsMissBehind loaded (steps 1) (codes "1 OK 0\n")
 
 -- nobody is in the way of a reader
+abbrev pub begun : Script
+begun = record { lines = runs 1 (Ok (begin Serial)) ∷ []; out = codes "1 OK 0\n" }
+
 abbrev pub WaitsForNobody : Type 0
-WaitsForNobody = IsMissBehind (record { lines = runs 1 (Ok (begin Serial)) ∷ []; out = codes "1 OK 0\n" }) (runs 1 (Ok shows)) (codes "1 WAIT 2\n")
+WaitsForNobody = IsMissBehind begun (runs 1 (Ok shows)) (codes "1 WAIT 2\n")
 
 -- a ghost is removed once
+abbrev pub taken_back : Script
+taken_back = record { lines = runs 1 (Ok (begin Serial)) ∷ runs 1 (Ok (sold_to 1 9 4)) ∷ runs 1 (Ok (rollback None)) ∷ []; out = codes "1 OK 0\n1 OK 1\n1 OK 0\n" }
+
 abbrev pub CleanedTwice : Type 0
-CleanedTwice = IsMissBehind
-    (record { lines = runs 1 (Ok (begin Serial)) ∷ runs 1 (Ok (sold_to 1 9 4)) ∷ runs 1 (Ok (rollback None)) ∷ []; out = codes "1 OK 0\n1 OK 1\n1 OK 0\n" }) cleans (codes "CLEAN 2\n")
+CleanedTwice = IsMissBehind taken_back cleans (codes "CLEAN 2\n")
+
+-- a statement outside a transaction is told its count with its commit alone
+abbrev pub ToldUncommitted : Type 0
+ToldUncommitted = IsMiss (record { lines = runs 1 (Ok (sold_to 1 7 10)) ∷ []; out = codes "1 OK 1\n" })
+
+-- A session that waits is in a ring with one that inserts for it. That one is told of the deadlock, and not the session that waited.
+abbrev pub crossed : Script
+crossed = record {
+  lines = runs 1 (Ok (inserts (sale_tuple 1 1 10 ∷ sale_tuple 2 2 20 ∷ []))) ∷ runs 1 (Ok (begin Serial)) ∷ runs 2 (Ok (begin Serial)) ∷ runs 1 (Ok (shows_shops Equal 1))
+      ∷ runs 2 (Ok (shows_shops Equal 2)) ∷ runs 1 (Ok (sold_to 3 2 5)) ∷ [];
+  out = codes "1 OK 2\n1 COMMIT 3\n1 OK 0\n2 OK 0\n1 ROW 1 1 10\n1 OK 1\n2 ROW 2 1 20\n2 OK 1\n1 WAIT 2\n";
+}
+
+abbrev pub WrongSessionTold : Type 0
+WrongSessionTold = IsMissBehind crossed (runs 2 (Ok (sold_to 4 1 5))) (codes "1 ERR 20 Deadlock 1 2\n2 OK 1\n")

@@ -7,7 +7,7 @@ ghost use Rattle.script_runs.specs.Bounds.{FreedRoomIsSerial, RoomIsFreed, SumIs
 ghost use Rattle.script_runs.specs.Waiting.{BothAreTried, InsertWaits, ReaderWaits, RingIsRefused};
 ghost use Rattle.script_runs.specs.Snapshots.{SnapshotBySteps, SnapshotIsKept};
 ghost use Rattle.script_runs.specs.Inside.{InsertBySteps, RefusedInsert, SavepointReturns, StatementsAreRefused};
-ghost use Rattle.script_runs.specs.Misses.{CleanedOfNone, CleanedTwice, DeadlockOfBegin, RefusedByNone, StepOfNone, TwoStepsAtOnce, WaitsForNobody};
+ghost use Rattle.script_runs.specs.Misses.{CleanedOfNone, CleanedTwice, DeadlockOfBegin, RefusedByNone, StepOfNone, ToldUncommitted, TwoStepsAtOnce, WaitsForNobody, WrongSessionTold};
 
 /// Two open inserts into one group: both commit, and the view has both.
 pub fn both_commit()
@@ -132,4 +132,14 @@ pub fn cleaned_twice()
 /// Nobody waits whom nobody hinders.
 pub fn waits_for_nobody()
     ensures { WaitsForNobody }
+{}
+
+/// A statement outside a transaction is told nothing but a refusal without its commit.
+pub fn told_uncommitted()
+    ensures { ToldUncommitted }
+{}
+
+/// A deadlock is told to the session whose step met it.
+pub fn wrong_session_told()
+    ensures { WrongSessionTold }
 {}
