@@ -25,11 +25,15 @@ use Rattle.script_runs.proofs.Plays.{programs}
 
 -- ---- a step of an engine that is not stopped
 
+-- what a step with these effects leaves
+abbrev pub left_with : Story → ℕ → Act → Answer → List Effect → Story
+left_with s i a said es = story_after s (record { session = i; act = a; said = said })
+    (counted s.state i a said (run the_views s.state.store i es) (waits_after s.state.store i a said) (definitions_after s.state.definitions a said) (log_after s.state i a said es))
+
 pub record Doing (s : Story) (i : ℕ) (a : Act) (said : Answer) (after : Story) : Type 0 where
   pub effects : List Effect
   pub says : Says s.state i a said effects
-  pub left : after ≡ story_after s (record { session = i; act = a; said = said })
-      (counted s.state i a said (run the_views s.state.store i effects) (waits_after s.state.store i a said) (definitions_after s.state.definitions a said) (log_after s.state i a said effects))
+  pub left : after ≡ left_with s i a said effects
 
 pub doing_of : (s : Story) (i : ℕ) (a : Act) (said : Answer) (after : Story) → s.state.stop ≡ None → DoesOf s i a said after → Doing s i a said after
 doing_of s i a said after runs h = elim h.1.does [
@@ -92,6 +96,16 @@ run_says i _ _ _ _ _ (goes_on todo b s mid after said memory fewer o has does fr
 pub ends_said : (i : ℕ) (replies : List Reply) (standing : Standing) (s : Story) (n : ℕ) (o : Outcome) (after : Story)
     → RunsOn DoesOf programs (tell [] None) i (says replies standing) s n o after → EndsBy replies o
 ends_said i replies standing s n o after r = run_says i (says replies standing) s n o after r replies standing refl
+
+stays_said : (i : ℕ) (todo : Todo) (s : Story) (n : ℕ) (o : Outcome) (after : Story) → RunsOn DoesOf programs (tell [] None) i todo s n o after
+    → (replies : List Reply) (standing : Standing) → todo ≡ says replies standing → after ≡ s
+stays_said i _ _ _ _ _ (has_ended others standing' s) replies standing is = refl
+stays_said i _ _ _ _ _ (is_blocked todo b s mid said sessions has does waits) replies standing is = absurd (acts_not b replies standing todo is has)
+stays_said i _ _ _ _ _ (goes_on todo b s mid after said memory fewer o has does free more) replies standing is = absurd (acts_not b replies standing todo is has)
+
+pub stays_there : (i : ℕ) (replies : List Reply) (standing : Standing) (s : Story) (n : ℕ) (o : Outcome) (after : Story)
+    → RunsOn DoesOf programs (tell [] None) i (says replies standing) s n o after → after ≡ s
+stays_there i replies standing s n o after r = stays_said i (says replies standing) s n o after r replies standing refl
 
 -- one step of it
 pub record Once (i : ℕ) (todo : Todo) (a : Act) (s : Story) (o : Outcome) (after : Story) : Type 0 where

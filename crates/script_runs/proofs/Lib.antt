@@ -12,3 +12,4 @@ pub mod MissedWaiting
 pub mod Speaking
 pub mod MissedTelling
 pub mod Reaching
+pub mod MissedRetries

@@ -58,7 +58,7 @@ went = whole_lines begun.lines new_table start
 abbrev reading : Todo
 reading = programs.start (went.table 1).standing shows
 
-no_rows : (rows : List Row) → AllZip (IsShown shop_schema by_shop) [] rows → rows ≡ []
+pub no_rows : (rows : List Row) → AllZip (IsShown shop_schema by_shop) [] rows → rows ≡ []
 no_rows [] h = refl
 no_rows (row ∷ rows) h = absurd h
 

@@ -1,10 +1,10 @@
 -- No clause of `run` rests on this module: it serves contracts between crates.
 --
 -- What no run of some lines prints.
-use Rattle.std.specs.Prelude.{[], ◌∷◌, codes, Ok, None}
+use Rattle.std.specs.Prelude.{[], ◌∷◌, codes, Ok, Some, None}
 use Rattle.iv_types.specs.declared.expression.Op.TheVariants.{Equal}
 use Rattle.iv_types.specs.declared.statement.Mode.TheVariants.{Serial}
-use Rattle.iv_types.specs.Syntax.{begin, rollback}
+use Rattle.iv_types.specs.Syntax.{begin, rollback, savepoint}
 use Rattle.iv_meaning.specs.Said.{runs, loads, steps, cleans}
 use Rattle.iv_meaning.specs.SerialExample.{shows}
 use Rattle.script_runs.specs.Scripts.{Script, IsMiss, IsMissBehind, sale_tuple, inserts, sold_to, shows_shops}
@@ -60,3 +60,18 @@ crossed = record {
 
 abbrev pub WrongSessionTold : Type 0
 WrongSessionTold = IsMissBehind crossed (runs 2 (Ok (sold_to 4 1 5))) (codes "1 ERR 20 Deadlock 1 2\n2 OK 1\n")
+
+-- Two readers wait for a session that keeps nothing any more but its locks. Once it ends, the first of them goes on first.
+abbrev pub both_wait : Script
+both_wait = record {
+  lines = runs 3 (Ok (begin Serial)) ∷ runs 3 (Ok (savepoint (codes "s"))) ∷ runs 3 (Ok (sold_to 1 7 10)) ∷ runs 3 (Ok (rollback (Some (codes "s")))) ∷ runs 1 (Ok (begin Serial)) ∷ runs 2 (Ok (begin Serial))
+      ∷ runs 2 (Ok (shows_shops Equal 7)) ∷ runs 1 (Ok (shows_shops Equal 7)) ∷ [];
+  out = codes "3 OK 0\n3 OK 0\n3 OK 1\n3 OK 0\n1 OK 0\n2 OK 0\n2 WAIT 3\n1 WAIT 3\n";
+}
+
+abbrev pub TriedInFallingOrder : Type 0
+TriedInFallingOrder = IsMissBehind both_wait (runs 3 (Ok (rollback None))) (codes "3 OK 0\n2 OK 0\n1 OK 0\n")
+
+-- and they do go on
+abbrev pub NotTriedAgain : Type 0
+NotTriedAgain = IsMissBehind both_wait (runs 3 (Ok (rollback None))) (codes "3 OK 0\n")

@@ -7,7 +7,7 @@ ghost use Rattle.script_runs.specs.Bounds.{FreedRoomIsSerial, RoomIsFreed, SumIs
 ghost use Rattle.script_runs.specs.Waiting.{BothAreTried, InsertWaits, ReaderWaits, RingIsRefused};
 ghost use Rattle.script_runs.specs.Snapshots.{SnapshotBySteps, SnapshotIsKept};
 ghost use Rattle.script_runs.specs.Inside.{InsertBySteps, RefusedInsert, SavepointReturns, StatementsAreRefused};
-ghost use Rattle.script_runs.specs.Misses.{CleanedOfNone, CleanedTwice, DeadlockOfBegin, RefusedByNone, StepOfNone, ToldUncommitted, TwoStepsAtOnce, WaitsForNobody, WrongSessionTold};
+ghost use Rattle.script_runs.specs.Misses.{CleanedOfNone, CleanedTwice, DeadlockOfBegin, NotTriedAgain, RefusedByNone, StepOfNone, ToldUncommitted, TriedInFallingOrder, TwoStepsAtOnce, WaitsForNobody, WrongSessionTold};
 
 /// Two open inserts into one group: both commit, and the view has both.
 pub fn both_commit()
@@ -142,4 +142,14 @@ pub fn told_uncommitted()
 /// A deadlock is told to the session whose step met it.
 pub fn wrong_session_told()
     ensures { WrongSessionTold }
+{}
+
+/// Sessions that wait are tried again in rising order.
+pub fn tried_in_falling_order()
+    ensures { TriedInFallingOrder }
+{}
+
+/// A session that nobody hinders any more is tried again.
+pub fn not_tried_again()
+    ensures { NotTriedAgain }
 {}
