@@ -5,3 +5,4 @@ pub mod Waiting
 pub mod Snapshots
 pub mod Inside
 pub mod Misses
+pub mod Day

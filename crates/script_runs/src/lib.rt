@@ -7,6 +7,7 @@ ghost use Rattle.script_runs.specs.Bounds.{FreedRoomIsSerial, RoomIsFreed, SumIs
 ghost use Rattle.script_runs.specs.Waiting.{BothAreTried, InsertWaits, ReaderWaits, RingIsRefused};
 ghost use Rattle.script_runs.specs.Snapshots.{SnapshotBySteps, SnapshotIsKept};
 ghost use Rattle.script_runs.specs.Inside.{InsertBySteps, RefusedInsert, SavepointReturns, StatementsAreRefused};
+ghost use Rattle.script_runs.specs.Day.{DayRuns};
 ghost use Rattle.script_runs.specs.Misses.{CleanedOfNone, CleanedTwice, DeadlockOfBegin, NotTriedAgain, RefusedByNone, StepOfNone, ToldUncommitted, TriedInFallingOrder, TwoStepsAtOnce, WaitsForNobody, WrongSessionTold};
 
 /// Two open inserts into one group: both commit, and the view has both.
@@ -152,4 +153,9 @@ pub fn tried_in_falling_order()
 /// A session that nobody hinders any more is tried again.
 pub fn not_tried_again()
     ensures { NotTriedAgain }
+{}
+
+/// A shop's day of four sessions, with a snapshot, a checkpoint and a clean.
+pub fn day_runs()
+    ensures { DayRuns }
 {}
