@@ -17,7 +17,7 @@ use Rattle.txn_machine.specs.Deltas.{columns_of, place_of}
 use Rattle.txn_machine.specs.Keeping.{changes_of}
 use Rattle.txn_machine.specs.Store.{locks_of}
 use Rattle.txn_machine.specs.Steps.{group_want}
-use Rattle.txn_machine.proofs.Playing.{Plain, txn, seen, is_nil, in_way, is_free, allows, read_want, put_wants_in, is_cleanable, Move, act_of, begins, learns, scans, views, puts, lacks, makes, pays, undoes, ends, commits, leaves, refuses, blocks, deadlocks, reads_later, puts_later, cancels, peeks, peeks_sales, cleans_none, cleans, prunes}
+use Rattle.txn_machine.proofs.Playing.{Plain, txn, seen, is_nil, in_way, is_free, allows, read_want, put_wants_in, is_cleanable, Move, act_of, begins, learns, scans, views, puts, lacks, makes, pays, undoes, ends, commits, leaves, refuses, blocks, deadlocks, reads_later, puts_later, cancels, peeks, peeks_sales, cleans_none, cleans, prunes, saves}
 use Rattle.statement_law.specs.Telling.{values_in}
 
 -- a move of an act
@@ -105,4 +105,5 @@ choose p i act.Commit = elim (is_nil (changes_of (txn p i).kept)) [ true ↦ cho
 choose p i act.Clean = choose_clean p p.view
 choose p i act.Prune = chosen prunes refl
 choose p i act.Cancel = chosen cancels refl
+choose p i act.Checkpoint = chosen saves refl
 choose p i a = none

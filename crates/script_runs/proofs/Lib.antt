@@ -5,3 +5,11 @@ pub mod Lines
 pub mod Ends
 pub mod Scripts
 pub mod Worked
+pub mod Inverting
+pub mod Missed
+pub mod MissedCleaning
+pub mod MissedWaiting
+pub mod Speaking
+pub mod MissedTelling
+pub mod Reaching
+pub mod MissedRetries

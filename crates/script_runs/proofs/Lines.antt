@@ -14,11 +14,11 @@ use Rattle.txn_machine.specs.Answers.{Answer}
 use Rattle.txn_machine.proofs.Playing.{Plain}
 use Rattle.txn_machine.proofs.Testing.{left_one, right_one}
 use Rattle.script_law.specs.Programs.{Standing, Todo}
-use Rattle.script_law.specs.RunLines.{Line, idle, waiting, stepping, held, Table, set_seat, seat_run, seat_stepped, all_removed, Tells, Rel, RefusedOr, Given, RunsIt, LoadsIt, Stepped, Cleans, cleaned_all, cleaned_one, CleansLine, pruned, Own, Tries, Pass, Passes, RunsLine, RunsLines, all_sessions}
+use Rattle.script_law.specs.RunLines.{Line, idle, waiting, stepping, held, Table, set_seat, seat_run, seat_stepped, all_removed, Tells, Rel, RefusedOr, Given, RunsIt, LoadsIt, Stepped, Cleans, cleaned_all, cleaned_one, CleansLine, pruned, saved, Own, Tries, Pass, Passes, RunsLine, RunsLines, all_sessions}
 use Rattle.script_law.specs.Machine.{DoesOf}
 use Rattle.statement_law.specs.Telling.{tell}
 use Rattle.script_runs.proofs.Choosing.{choose}
-use Rattle.script_runs.proofs.Plays.{programs, Came, advance, once, Went, tells, comes, most, runs_it, loads_it, unless_refused, given, steps_it, Swept, not_swept, swept_by, sweeps, pruned_by, cleans_it, does_line, Passed, tries, pass, again, passes_on, whole_line, whole_lines}
+use Rattle.script_runs.proofs.Plays.{lost, programs, Came, advance, once, Went, tells, comes, most, runs_it, loads_it, unless_refused, given, steps_it, Swept, not_swept, swept_by, sweeps, pruned_by, cleans_it, saved_by, does_line, Passed, tries, pass, again, passes_on, whole_line, whole_lines}
 use Rattle.script_runs.proofs.Steps.{Told, story, told_then, IsStep, doing_so, advance_so, once_so}
 
 -- ---- what a line does itself
@@ -112,6 +112,13 @@ pruned_so p said q does h told = absurd h
 cleans_so : (p : Plain) → CleansTo p (cleans_it p)
 cleans_so p = doing_so (CleansTo p) p 0 act.Prune (choose p 0 act.Prune) pruned_by (not_swept p) (pruned_so p) (λ k. absurd k)
 
+-- ---- checkpoint
+
+saved_so : (table : Table) (p : Plain) (said : Answer) (q : Plain) → IsStep p 0 act.Checkpoint said q → IsSo (Own DoesOf programs (tell [] None) checkpoints) table p (saved_by table said q)
+saved_so table p (answer.Saved number) q does h told =
+    (told_then p told 0 act.Checkpoint (answer.Saved number), (refl, saved (story p told) (story q (told_then p told 0 act.Checkpoint (answer.Saved number))) number (does told)))
+saved_so table p said q does h told = absurd h
+
 -- ---- every line
 
 does_so : (said : Said) (table : Table) (p : Plain) → IsSo (Own DoesOf programs (tell [] None) said) table p (does_line said table p)
@@ -127,7 +134,8 @@ does_so (steps session) table p h told = steps_so session (table session).line t
 does_so cleans table p h told =
     let r = cleans_so p h told in
     (r.0, (refl, (all_removed (cleans_it p).removed, refl, r.1)))
-does_so checkpoints table p h told = absurd h
+does_so checkpoints table p h told =
+    doing_so (IsSo (Own DoesOf programs (tell [] None) checkpoints) table p) p 0 act.Checkpoint (choose p 0 act.Checkpoint) (saved_by table) (lost table p) (saved_so table p) (λ k. absurd k) h told
 
 -- ---- sessions that are tried again
 

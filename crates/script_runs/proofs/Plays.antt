@@ -143,6 +143,10 @@ cleans_it p = doing p 0 act.Prune (choose p 0 act.Prune) pruned_by (not_swept p)
 abbrev pub tells_swept : Table → Swept → Went
 tells_swept table s = record { passes = s.passes; out = counted_line (codes "CLEAN") s.removed; table = table; left = s.left }
 
+abbrev pub saved_by : Table → Answer → Plain → Went
+saved_by table (answer.Saved number) p = prints (counted_line (codes "CHECKPOINT") number) table p
+saved_by table said p = lost table p
+
 abbrev pub does_line : Said → Table → Plain → Went
 does_line nothing table p = prints [] table p
 does_line too_long table p = tells 0 (reply.Error refusal.LineTooLong) table p
@@ -152,7 +156,7 @@ does_line (loads session read) table p = given session (table session).standing 
 does_line (unread session) table p = tells session (reply.Error refusal.NoMemory) table p
 does_line (steps session) table p = steps_it session (table session).line table p
 does_line cleans table p = tells_swept table (cleans_it p)
-does_line checkpoints table p = lost table p
+does_line checkpoints table p = doing p 0 act.Checkpoint (choose p 0 act.Checkpoint) (saved_by table) (lost table p)
 
 -- ---- sessions that are tried again
 

@@ -17,7 +17,7 @@ use Rattle.script_law.specs.RunLines.{new_table, all_sessions, RunsLines, RunsSc
 use Rattle.script_law.specs.Machine.{DoesOf, seen_of}
 use Rattle.statement_law.specs.Telling.{tell}
 use Rattle.statement_law.proofs.Works.{statements_law}
-use Rattle.script_runs.specs.Scripts.{Script, RunsTo, IsPrinted, IsTranscript}
+use Rattle.script_runs.specs.Scripts.{Script, RunsTo, IsPrinted, IsTranscript, opened_shop}
 use Rattle.script_runs.proofs.Plays.{programs, Went, whole_lines, leave_all, plays}
 use Rattle.script_runs.proofs.Steps.{Told, story}
 use Rattle.script_runs.proofs.Lines.{lines_so}
@@ -50,3 +50,14 @@ printed s h = prints s.lines s.out h
 -- and that is serial
 pub serial : (s : Script) → T (plays s.lines s.out) → IsTranscript s
 serial s h = let run = prints s.lines s.out h in (statements_law shop_database empty unlimited shop_opened s.lines s.out run.0 run.1).0
+
+-- lines that are played lead to what is left of them
+pub behind : (s : Script) → (let w : Went = whole_lines s.lines new_table start in T (w.passes && bytes_eq w.out s.out)) → (told : Told)
+    × RunsLines DoesOf programs (tell [] None) all_sessions s.lines new_table opened_shop s.out (whole_lines s.lines new_table start).table (story (whole_lines s.lines new_table start).left told)
+behind s h =
+    let w : Went = whole_lines s.lines new_table start in
+    let r = lines_so s.lines new_table start (left_one w.passes (bytes_eq w.out s.out) h) (λ session. []) in (
+      r.0,
+      subst (λ (o : List ℕ). RunsLines DoesOf programs (tell [] None) all_sessions s.lines new_table opened_shop o w.table (story w.left r.0)) (bytes_same w.out s.out (right_one w.passes (bytes_eq w.out s.out) h))
+          (subst (λ (x : State). RunsLines DoesOf programs (tell [] None) all_sessions s.lines new_table (begun_story x) w.out w.table (story w.left r.0)) start_is r.1),
+    )

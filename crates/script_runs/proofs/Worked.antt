@@ -5,6 +5,7 @@ use Rattle.script_runs.specs.Bounds.{sum_is_refused as sum_is_refused_script, Su
 use Rattle.script_runs.specs.Waiting.{reader_waits as reader_waits_script, ReaderWaits, ring_is_refused as ring_is_refused_script, RingIsRefused, insert_waits as insert_waits_script, InsertWaits, both_are_tried as both_are_tried_script, BothAreTried}
 use Rattle.script_runs.specs.Snapshots.{snapshot_is_kept as snapshot_is_kept_script, SnapshotIsKept, snapshot_by_steps as snapshot_by_steps_script, SnapshotBySteps}
 use Rattle.script_runs.specs.Inside.{refused_insert as refused_insert_script, RefusedInsert, savepoint_returns as savepoint_returns_script, SavepointReturns, insert_by_steps as insert_by_steps_script, InsertBySteps, statements_are_refused as statements_are_refused_script, StatementsAreRefused}
+use Rattle.script_runs.specs.Day.{day, DayRuns}
 use Rattle.script_runs.proofs.Scripts.{printed, serial}
 
 pub both_commit : BothCommit
@@ -78,3 +79,7 @@ statements_are_refused = printed statements_are_refused_script tt
 pub freed_room_is_serial : FreedRoomIsSerial
 unfolding digits
 freed_room_is_serial = serial room_is_freed_script tt
+
+pub day_runs : DayRuns
+unfolding digits
+day_runs = printed day tt

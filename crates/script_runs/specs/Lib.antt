@@ -4,3 +4,5 @@ pub mod Bounds
 pub mod Waiting
 pub mod Snapshots
 pub mod Inside
+pub mod Misses
+pub mod Day

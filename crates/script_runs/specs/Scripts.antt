@@ -13,7 +13,7 @@ use Rattle.txn_machine.specs.Store.{opened}
 use Rattle.txn_machine.specs.Log.{unlimited}
 use Rattle.txn_machine.specs.State.{opened_state}
 use Rattle.txn_machine.specs.Alone.{Story, begun_story}
-use Rattle.script_law.specs.RunLines.{RunsScript}
+use Rattle.script_law.specs.RunLines.{Table, new_table, all_sessions, RunsLine, RunsLines, RunsScript}
 use Rattle.script_law.specs.Machine.{DoesOf, seen_of}
 use Rattle.script_law.specs.Sessions.{programs_of}
 use Rattle.statement_law.specs.Telling.{tell}
@@ -44,6 +44,13 @@ IsMiss s = (after : Story) → RunsTo s.lines s.out after → ⊥
 -- what is printed is serial
 abbrev pub IsTranscript : Script → Type 0
 IsTranscript s = IsSerialFrom (opened_with shop_database) s.lines s.out
+
+-- some lines print this, and behind them no run of a line prints that
+pub record IsMissBehind (before : Script) (said : Said) (piece : List ℕ) : Type 0 where
+  pub table : Table
+  pub s : Story
+  pub comes : RunsLines DoesOf (programs_of the_works) (tell [] None) all_sessions before.lines new_table opened_shop before.out table s
+  pub never : (later_table : Table) (after : Story) → RunsLine DoesOf (programs_of the_works) (tell [] None) all_sessions said table s piece later_table after → ⊥
 
 -- ---- statements
 

@@ -7,6 +7,8 @@ ghost use Rattle.script_runs.specs.Bounds.{FreedRoomIsSerial, RoomIsFreed, SumIs
 ghost use Rattle.script_runs.specs.Waiting.{BothAreTried, InsertWaits, ReaderWaits, RingIsRefused};
 ghost use Rattle.script_runs.specs.Snapshots.{SnapshotBySteps, SnapshotIsKept};
 ghost use Rattle.script_runs.specs.Inside.{InsertBySteps, RefusedInsert, SavepointReturns, StatementsAreRefused};
+ghost use Rattle.script_runs.specs.Day.{DayRuns};
+ghost use Rattle.script_runs.specs.Misses.{CleanedOfNone, CleanedTwice, DeadlockOfBegin, NotTriedAgain, RefusedByNone, StepOfNone, ToldUncommitted, TriedInFallingOrder, TwoStepsAtOnce, WaitsForNobody, WrongSessionTold};
 
 /// Two open inserts into one group: both commit, and the view has both.
 pub fn both_commit()
@@ -96,4 +98,64 @@ pub fn insert_by_steps()
 /// Refusals of statements.
 pub fn statements_are_refused()
     ensures { StatementsAreRefused }
+{}
+
+/// No step is told of where no statement is left.
+pub fn step_of_none()
+    ensures { StepOfNone }
+{}
+
+/// No deadlock meets a BEGIN.
+pub fn deadlock_of_begin()
+    ensures { DeadlockOfBegin }
+{}
+
+/// A log without limits refuses nothing.
+pub fn refused_by_none()
+    ensures { RefusedByNone }
+{}
+
+/// A step line does one step.
+pub fn two_steps_at_once()
+    ensures { TwoStepsAtOnce }
+{}
+
+/// No ghosts are counted where none is stored.
+pub fn cleaned_of_none()
+    ensures { CleanedOfNone }
+{}
+
+/// One ghost is counted once.
+pub fn cleaned_twice()
+    ensures { CleanedTwice }
+{}
+
+/// Nobody waits whom nobody hinders.
+pub fn waits_for_nobody()
+    ensures { WaitsForNobody }
+{}
+
+/// A statement outside a transaction is told nothing but a refusal without its commit.
+pub fn told_uncommitted()
+    ensures { ToldUncommitted }
+{}
+
+/// A deadlock is told to the session whose step met it.
+pub fn wrong_session_told()
+    ensures { WrongSessionTold }
+{}
+
+/// Sessions that wait are tried again in rising order.
+pub fn tried_in_falling_order()
+    ensures { TriedInFallingOrder }
+{}
+
+/// A session that nobody hinders any more is tried again.
+pub fn not_tried_again()
+    ensures { NotTriedAgain }
+{}
+
+/// A shop's day of four sessions, with a snapshot, a checkpoint and a clean.
+pub fn day_runs()
+    ensures { DayRuns }
 {}

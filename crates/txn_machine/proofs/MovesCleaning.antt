@@ -36,7 +36,7 @@ use Rattle.txn_machine.specs.May.{MayPeek}
 use Rattle.txn_machine.specs.Steps.{Step, log_after}
 use Rattle.txn_machine.specs.Example.{by_shop, shop_database}
 use Rattle.txn_machine.proofs.Holding.{contains_here, contains_next}
-use Rattle.txn_machine.proofs.Playing.{shop_schema, set_in, Sold, entry_of, Plain, state_of, redo_in, base, number_after, txn, sales_in, fresh_in, each_to, each_of, is_serial, is_nil, is_zero, is_increment, goes_on, holds_in, view_of, peeked, sold_by, changes_deltas, deltas_in, is_cleanable, said_of, test, after, peeks, peeks_sales, cleans_none, cleans, prunes}
+use Rattle.txn_machine.proofs.Playing.{shop_schema, set_in, Sold, entry_of, Plain, state_of, redo_in, base, number_after, number_of, txn, sales_in, fresh_in, each_to, each_of, is_serial, is_nil, is_zero, is_increment, goes_on, holds_in, view_of, peeked, sold_by, changes_deltas, deltas_in, is_cleanable, said_of, test, after, peeks, peeks_sales, cleans_none, cleans, prunes, saves}
 use Rattle.txn_machine.proofs.Tabled.{key_cmp, InOrder, entries_are, get_is, write_is, set_sorted, redo_sorted, sold_sorted, with_sales, keeps_is, fold_is, origin_is, base_sorted, committed_is, listed_is, read_is, owed_is, fresh_is}
 use Rattle.txn_machine.proofs.Testing.{is_true, holds, left_one, right_one, both, either, not_so, not_that, equal, nil_is, each_so, each_in, some_in, lies_so}
 use Rattle.txn_machine.proofs.MovesAlone.{Sorted, step, of_db, number_is, log_room, going, holds_so}
@@ -235,3 +235,6 @@ module _ (p : Plain) (i : ℕ) (sorted : Sorted p) (session : i ≤ 64) where
   pub prunes_so : T (test p i prunes) → Step (state_of p) i act.Prune answer.Pruned (state_of (after p i prunes))
   prunes_so h = step p i sorted session act.Prune answer.Pruned (Prunes ∷ []) (state_of (after p i prunes)) (equal i 0 h) refl
       (ap (λ (n : ℕ). counted (state_of p) i act.Prune answer.Pruned (record s { mark = least_snapshot s.open_of 64 n }) [] (state_of p).definitions (log_after (state_of p) i act.Prune answer.Pruned (Prunes ∷ []))) (number_is p i sorted session))
+
+  pub saves_so : T (test p i saves) → Step (state_of p) i act.Checkpoint (answer.Saved (number_of p)) (state_of (after p i saves))
+  saves_so h = step p i sorted session act.Checkpoint (answer.Saved (number_of p)) [] (state_of (after p i saves)) (equal i 0 h) (refl, number_is p i sorted session) refl

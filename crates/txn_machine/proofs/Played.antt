@@ -7,12 +7,12 @@ use Rattle.txn_machine.specs.Log.{unlimited}
 use Rattle.txn_machine.specs.State.{State, opened_state}
 use Rattle.txn_machine.specs.Steps.{Step, Run}
 use Rattle.txn_machine.specs.Example.{shop_database}
-use Rattle.txn_machine.proofs.Playing.{put_in, Plain, state_of, start, txn, owes, lacks_first, makes_first, pays_first, refuses_first, Move, act_of, said_of, test, after, is_in_order, Turn, fine, told, played, begins, learns, scans, views, puts, lacks, makes, pays, undoes, ends, commits, leaves, refuses, blocks, reads_later, puts_later, cancels, deadlocks, peeks, peeks_sales, cleans_none, cleans, prunes}
+use Rattle.txn_machine.proofs.Playing.{put_in, Plain, state_of, start, txn, owes, lacks_first, makes_first, pays_first, refuses_first, Move, act_of, said_of, test, after, is_in_order, Turn, fine, told, played, begins, learns, scans, views, puts, lacks, makes, pays, undoes, ends, commits, leaves, refuses, blocks, reads_later, puts_later, cancels, deadlocks, peeks, peeks_sales, cleans_none, cleans, prunes, saves}
 use Rattle.txn_machine.proofs.Tabled.{none_is}
 use Rattle.txn_machine.proofs.Testing.{left_one, right_one, at_most}
 use Rattle.txn_machine.proofs.MovesAlone.{Sorted, in_order, begins_so, learns_so, scans_so, views_so, puts_so, lacks_by, makes_by, pays_by, undoes_so, ends_so, commits_so, leaves_so}
 use Rattle.txn_machine.proofs.MovesWaiting.{refuses_by, blocks_so, reads_later_so, puts_later_so, cancels_so, deadlocks_so}
-use Rattle.txn_machine.proofs.MovesCleaning.{peeks_so, peeks_sales_so, cleans_none_so, cleans_so, prunes_so}
+use Rattle.txn_machine.proofs.MovesCleaning.{peeks_so, peeks_sales_so, cleans_none_so, cleans_so, prunes_so, saves_so}
 
 module _ (p : Plain) (i : ℕ) (sorted : Sorted p) (session : i ≤ 64) where
   pub sound : (m : Move) → T (test p i m) → Step (state_of p) i (act_of m) (said_of p i m) (state_of (after p i m))
@@ -39,6 +39,7 @@ module _ (p : Plain) (i : ℕ) (sorted : Sorted p) (session : i ≤ 64) where
   sound cleans_none h = cleans_none_so p i sorted session h
   sound (cleans place) h = cleans_so p i sorted session place h
   sound prunes h = prunes_so p i sorted session h
+  sound saves h = saves_so p i sorted session h
 
 -- ---- moves one after the other
 

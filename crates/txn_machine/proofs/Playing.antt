@@ -343,6 +343,8 @@ pub data Move : Type 0 where
   cleans_none : Move
   cleans : Place → Move
   prunes : Move
+  -- saves what is stored
+  saves : Move
 
 -- reads a sale to change it
 abbrev pub fetches : List ℕ → Move
@@ -372,6 +374,7 @@ act_of (peeks_sales interval) = act.Peek 1 interval
 act_of cleans_none = act.Clean
 act_of (cleans place) = act.Clean
 act_of prunes = act.Prune
+act_of saves = act.Checkpoint
 
 -- ---- how moves are answered
 
@@ -443,6 +446,7 @@ said_of p i (peeks_sales interval) = answer.Rows (found_in (sold_by p (txn p i).
 said_of p i cleans_none = answer.Cleaned 0
 said_of p i (cleans place) = answer.Cleaned 1
 said_of p i prunes = answer.Pruned
+said_of p i saves = answer.Saved (number_of p)
 
 -- ---- tests of moves
 
@@ -552,6 +556,7 @@ test p i cleans_none = (i == 0) && each_of (λ e. not (is_cleanable p e.0)) p.vi
 test p i (cleans place) =
     (i == 0) && (is_some (find place_cmp place p.view) && (is_cleanable p place && each_of (λ e. not (is_cleanable p e.0) || eq_by_cmp place_cmp place e.0) p.view))
 test p i prunes = i == 0
+test p i saves = i == 0
 
 -- ---- what moves leave
 
@@ -640,6 +645,7 @@ after p i (peeks_sales interval) = left_by p i (act.Peek 1 interval) (said_of p 
 after p i cleans_none = left_by p i act.Clean (answer.Cleaned 0) []
 after p i (cleans place) = record p { view = set_in place None p.view; of = left_as p i act.Clean (answer.Cleaned 1) p.of.store [] (Cleans place ∷ []) }
 after p i prunes = record p { of = left_as p i act.Prune answer.Pruned (record p.of.store { mark = least_snapshot p.of.store.open_of 64 (number_of p) }) [] (Prunes ∷ []) }
+after p i saves = record p { of = counted (state_of p) i act.Checkpoint (answer.Saved (number_of p)) (state_of p).store [] p.of.definitions (log_after (state_of p) i act.Checkpoint (answer.Saved (number_of p)) []) }
 
 -- ---- moves one after the other
 
