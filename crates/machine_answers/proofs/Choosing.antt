@@ -1,0 +1,45 @@
+-- Choices that are decided: between numbers, among the sessions.
+use Rattle.std.specs.Prelude.{◌≡◌, ◌⊎◌, ℕ, zero, suc, ◌≤◌, ◌<◌, nat_le, Bool, true, false, Option, Some, None}
+use mathlib.Core.Path.{refl, subst}
+use mathlib.Core.Logic.{inl, inr}
+use Rattle.std.proofs.Common.{arith, leb-true}
+use Rattle.std.proofs.lemmas.Bool.{leb-false}
+use Rattle.txn_machine.specs.Log.{Within, Above}
+
+pub at_most_or_more : (a b : ℕ) → (a ≤ b) ⊎ (b < a)
+at_most_or_more a b = by (nat_le a b) refl
+  where
+    by : (t : Bool) → nat_le a b ≡ t → (a ≤ b) ⊎ (b < a)
+    by true e = inl (leb-true a b e)
+    by false e = inr (leb-false a b e)
+
+pub within_or_above : (limit : Option ℕ) (bytes : ℕ) → Within limit bytes ⊎ Above limit bytes
+within_or_above None bytes = inl tt
+within_or_above (Some most) bytes = at_most_or_more bytes most
+
+pub some_or_none : {X : Type 0} (o : Option X) → ((x : X) × (o ≡ Some x)) ⊎ (o ≡ None)
+some_or_none (Some x) = inl (x, refl)
+some_or_none None = inr refl
+
+-- of numbers up to one, the least that has a property, or none has it
+pub record Least (P : ℕ → Type 0) (most : ℕ) : Type 0 where
+  pub number : ℕ
+  pub first : 1 ≤ number
+  pub last : number ≤ most
+  pub has : P number
+  pub least : (other : ℕ) → 1 ≤ other → other < number → P other → ⊥
+
+pub least_or_none : (P : ℕ → Type 0) → ((n : ℕ) → P n ⊎ (P n → ⊥)) → (most : ℕ) → Least P most ⊎ ((n : ℕ) → 1 ≤ n → n ≤ most → P n → ⊥)
+least_or_none P decide zero = inr (λ n one le p. omega (arith, one, le))
+least_or_none P decide (suc most) = by (least_or_none P decide most)
+  where
+    at_last : ((n : ℕ) → 1 ≤ n → n ≤ most → P n → ⊥) → P (suc most) ⊎ (P (suc most) → ⊥) → Least P (suc most) ⊎ ((n : ℕ) → 1 ≤ n → n ≤ suc most → P n → ⊥)
+    at_last none (inl p) = inl (record { number = suc most; first = omega arith; last = omega arith; has = p; least = λ other one less q. none other one (omega (arith, less)) q })
+    at_last none (inr lacks) = inr (λ n one le p. elim (at_most_or_more n most) [
+      | inl small ↦ none n one small p
+      | inr more ↦ let same : n ≡ suc most = omega (arith, le, more) in lacks (subst P same p)
+    ])
+
+    by : Least P most ⊎ ((n : ℕ) → 1 ≤ n → n ≤ most → P n → ⊥) → Least P (suc most) ⊎ ((n : ℕ) → 1 ≤ n → n ≤ suc most → P n → ⊥)
+    by (inl l) = let within = l.last in inl (record { number = l.number; first = l.first; last = omega (arith, within); has = l.has; least = l.least })
+    by (inr none) = at_last none (decide (suc most))
