@@ -1,10 +1,12 @@
 -- Choices that are decided: between numbers, among the sessions.
-use Rattle.std.specs.Prelude.{◌≡◌, ◌⊎◌, ℕ, zero, suc, ◌≤◌, ◌<◌, nat_le, Bool, true, false, Option, Some, None}
+use Rattle.std.specs.Prelude.{◌≡◌, ◌⊎◌, ℕ, zero, suc, ◌≤◌, ◌<◌, ◌==◌, nat_le, Bool, true, false, T, Option, Some, None}
 use mathlib.Core.Path.{refl, subst}
 use mathlib.Core.Logic.{inl, inr}
-use Rattle.std.proofs.Common.{arith, leb-true}
+use Rattle.std.proofs.Common.{arith, leb-true, eq-eqb}
 use Rattle.std.proofs.lemmas.Bool.{leb-false}
+use Rattle.iv_meaning.specs.Escrow.{IsSession}
 use Rattle.txn_machine.specs.Log.{Within, Above}
+use Rattle.txn_machine.proofs.Testing.{equal, holds}
 
 pub at_most_or_more : (a b : ℕ) → (a ≤ b) ⊎ (b < a)
 at_most_or_more a b = by (nat_le a b) refl
@@ -20,6 +22,23 @@ within_or_above (Some most) bytes = at_most_or_more bytes most
 pub some_or_none : {X : Type 0} (o : Option X) → ((x : X) × (o ≡ Some x)) ⊎ (o ≡ None)
 some_or_none (Some x) = inl (x, refl)
 some_or_none None = inr refl
+
+pub so_or_not : (b : Bool) → T b ⊎ (T b → ⊥)
+so_or_not true = inl tt
+so_or_not false = inr (λ f. f)
+
+pub true_or_not : (b : Bool) → (b ≡ true) ⊎ (b ≡ true → ⊥)
+true_or_not true = inl refl
+true_or_not false = inr (λ e. cc)
+
+pub same_or_not : (a b : ℕ) → (a ≡ b) ⊎ (a ≡ b → ⊥)
+same_or_not a b = elim (so_or_not (a == b)) [ inl t ↦ inl (equal a b t) | inr f ↦ inr (λ e. f (holds (a == b) (eq-eqb a b e))) ]
+
+pub session_or_not : (session : ℕ) → IsSession session ⊎ (IsSession session → ⊥)
+session_or_not session = elim (at_most_or_more 1 session) [
+  | inr less ↦ inr (λ is. let from = is.0 in omega (arith, less, from))
+  | inl from ↦ elim (at_most_or_more session 64) [ inl to ↦ inl (from, to) | inr more ↦ inr (λ is. let to = is.1 in omega (arith, more, to)) ]
+]
 
 -- of numbers up to one, the least that has a property, or none has it
 pub record Least (P : ℕ → Type 0) (most : ℕ) : Type 0 where

@@ -1,3 +1,4 @@
 pub mod Answering
 pub mod Choosing
 pub mod Simple
+pub mod Waiting
