@@ -1,5 +1,5 @@
 -- Choices that are decided: between numbers, among the sessions.
-use Rattle.std.specs.Prelude.{◌≡◌, ◌⊎◌, ℕ, zero, suc, ◌≤◌, ◌<◌, ◌==◌, nat_le, Bool, true, false, T, Option, Some, None}
+use Rattle.std.specs.Prelude.{◌≡◌, ◌⊎◌, ℕ, zero, suc, ◌≤◌, ◌<◌, ◌==◌, nat_le, Bool, true, false, T, Option, Some, None, IsSome}
 use mathlib.Core.Path.{refl, subst}
 use mathlib.Core.Logic.{inl, inr}
 use Rattle.std.proofs.Common.{arith, leb-true, eq-eqb}
@@ -40,6 +40,10 @@ session_or_not session = elim (at_most_or_more 1 session) [
   | inl from ↦ elim (at_most_or_more session 64) [ inl to ↦ inl (from, to) | inr more ↦ inr (λ is. let to = is.1 in omega (arith, more, to)) ]
 ]
 
+pub there_or_not : {X : Type 0} (o : Option X) → IsSome o ⊎ (IsSome o → ⊥)
+there_or_not (Some x) = inl refl
+there_or_not None = inr (λ e. cc)
+
 -- of numbers up to one, the least that has a property, or none has it
 pub record Least (P : ℕ → Type 0) (most : ℕ) : Type 0 where
   pub number : ℕ
@@ -62,3 +66,32 @@ least_or_none P decide (suc most) = by (least_or_none P decide most)
     by : Least P most ⊎ ((n : ℕ) → 1 ≤ n → n ≤ most → P n → ⊥) → Least P (suc most) ⊎ ((n : ℕ) → 1 ≤ n → n ≤ suc most → P n → ⊥)
     by (inl l) = let within = l.last in inl (record { number = l.number; first = l.first; last = omega (arith, within); has = l.has; least = l.least })
     by (inr none) = at_last none (decide (suc most))
+
+-- of the numbers below one, the first that lacks a property
+pub record FirstWithout (P : ℕ → Type 0) (end : ℕ) : Type 0 where
+  pub number : ℕ
+  pub below : number < end
+  pub lacks : P number → ⊥
+  pub before : (earlier : ℕ) → earlier < number → P earlier
+
+pub all_or_first : (P : ℕ → Type 0) → ((n : ℕ) → P n ⊎ (P n → ⊥)) → (end : ℕ) → ((n : ℕ) → n < end → P n) ⊎ FirstWithout P end
+all_or_first P decide zero = inl (λ n less. absurd (omega (arith, less)))
+all_or_first P decide (suc end) = by (all_or_first P decide end) (decide end)
+  where
+    by : ((n : ℕ) → n < end → P n) ⊎ FirstWithout P end → P end ⊎ (P end → ⊥) → ((n : ℕ) → n < suc end → P n) ⊎ FirstWithout P (suc end)
+    by (inr f) last = let less = f.below in inr (record { number = f.number; below = omega (arith, less); lacks = f.lacks; before = f.before })
+    by (inl all) (inl p) = inl (λ n less. elim (at_most_or_more end n) [ inl last ↦ let e : end ≡ n = omega (arith, less, last) in subst P e p | inr before ↦ all n before ])
+    by (inl all) (inr lacks) = inr (record { number = end; below = omega arith; lacks = lacks; before = all })
+
+-- each session has a property, or not each has
+pub each_session_or_not : (P : ℕ → Type 0) → ((n : ℕ) → P n ⊎ (P n → ⊥)) → ((n : ℕ) → IsSession n → P n) ⊎ (((n : ℕ) → IsSession n → P n) → ⊥)
+each_session_or_not P decide = elim (all_or_first (λ n. IsSession n → P n) of_session 65) [
+  | inl all ↦ inl (λ n is. let to = is.1 in all n (omega (arith, to)) is)
+  | inr f ↦ inr (λ each. f.lacks (each f.number))
+]
+  where
+    of_session : (n : ℕ) → (IsSession n → P n) ⊎ ((IsSession n → P n) → ⊥)
+    of_session n = elim (session_or_not n) [
+      | inr other ↦ inl (λ is. absurd (other is))
+      | inl is ↦ elim (decide n) [ inl p ↦ inl (λ same. p) | inr lacks ↦ inr (λ h. lacks (h is)) ]
+    ]

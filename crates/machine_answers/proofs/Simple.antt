@@ -26,6 +26,7 @@ use Rattle.txn_machine.specs.Log.{Within, Above}
 use Rattle.txn_machine.proofs.Looking.{view_laws}
 use Rattle.txn_machine.proofs.Stepping.{now_is}
 use Rattle.machine_answers.specs.Answered.{IsAnswered}
+use Rattle.machine_answers.proofs.Granted.{owed_now}
 use Rattle.machine_answers.proofs.Choosing.{at_most_or_more, within_or_above, some_or_none}
 
 module _ (s : State) (session : ℕ) where
@@ -73,21 +74,18 @@ module _ (s : State) (session : ℕ) where
   pub makes_ghost : Owes s.store session → IsAnswered s session act.Ghost
   makes_ghost o = by (some_or_none (get s.store.view (place_of o.first)))
     where
-      owed_now : (now s.store session).owed ≡ o.first ∷ o.others
-      owed_now = ap (λ (t : Open). t.owed) (now_is view_laws s.store session o.goes_on.transaction o.goes_on.is_open) ∙ o.owed_is
-
       by : ((numbers : List ℤ) × (get s.store.view (place_of o.first) ≡ Some numbers)) ⊎ (get s.store.view (place_of o.first) ≡ None) → IsAnswered s session act.Ghost
       by (inl (numbers, there)) = record {
         said = answer.Ghosted;
         effects = [];
         of_state = tt;
-        says = record { first = o.first; others = o.others; owed_is = owed_now; effects = inr (subst IsSome (sym there) refl, refl) };
+        says = record { first = o.first; others = o.others; owed_is = owed_now s session o; effects = inr (subst IsSome (sym there) refl, refl) };
       }
       by (inr absent) = record {
         said = answer.Ghosted;
         effects = Ghosts (place_of o.first) (length (columns_of o.first)) ∷ [];
         of_state = tt;
-        says = record { first = o.first; others = o.others; owed_is = owed_now; effects = inl (absent, refl) };
+        says = record { first = o.first; others = o.others; owed_is = owed_now s session o; effects = inl (absent, refl) };
       }
 
   pub takes_back : (o : IsOpen s.store session) → o.transaction.kept ≢ [] → IsAnswered s session act.UndoOne

@@ -1,20 +1,18 @@
 -- Who is in the way of a step, and what comes of it: it is free, or it is blocked, or it would close a first shortest cycle.
 use Rattle.std.specs.Prelude.{◌≡◌, ◌⊎◌, ◌↔◌, ℕ, zero, suc, ◌+◌, ◌-◌, ◌/◌, ◌^◌, ◌≤◌, ◌<◌, List, [], ◌∷◌, length, take, get_or}
 use Rattle.std.specs.List.{Contains}
-use mathlib.Core.Path.{refl, sym, ap, subst, ◌∙◌}
+use mathlib.Core.Path.{refl, sym, ap, subst}
 use mathlib.Core.Logic.{inl, inr}
 use Rattle.std.proofs.Common.{arith, eqb, bit_and}
 use Rattle.iv_types.specs.declared.lock.Want.{Want}
 use Rattle.iv_types.specs.declared.session.Sessions.{Sessions}
-use Rattle.iv_types.specs.declared.session.Cycle.{Cycle}
 use Rattle.iv_types.specs.declared.refusal.EngineRefusal.TheVariants as refusal
-use Rattle.iv_types.specs.Replies.{members}
 use Rattle.iv_types.specs.SessionSets.{Has}
 use Rattle.iv_types.proofs.Members.{bit_of, has_by_test, set_with, has_with, has_members, nobody_there, contains_none}
 use Rattle.iv_meaning.specs.Escrow.{IsSession}
-use Rattle.iv_meaning.specs.Waits.{LeadsTo, IsCycle, IsFirstCycle, sessions_of}
+use Rattle.iv_meaning.specs.Waits.{LeadsTo, IsCycle, IsFirstCycle}
 use Rattle.wait_graph.specs.Walks.{HasWalk, HasNoShorter}
-use Rattle.wait_graph.proofs.Firsts.{IsFirstStep, AreFirstSteps, AreStepsByPlace}
+use Rattle.wait_graph.proofs.Firsts.{IsFirstStep, AreFirstSteps}
 use Rattle.wait_graph.proofs.Cycles.{no_cycle, first_cycle_of_front}
 use Rattle.txn_machine.specs.Acts.{Act}
 use Rattle.txn_machine.specs.Answers as answer
@@ -45,24 +43,34 @@ module _ (P : ℕ → Type 0) (decide : (n : ℕ) → P n ⊎ (P n → ⊥)) whe
   AreThose most set = (other : ℕ) → Has set other ↔ ((1 ≤ other) × (other ≤ most) × P other)
 
   with_next : (n : ℕ) → suc n ≤ 64 → (set : Sessions) → AreThose n set → P (suc n) ⊎ (P (suc n) → ⊥) → (more : Sessions) × AreThose (suc n) more
-  with_next n le set same (inl p) = (set_with set (suc n), λ other.
-      let joined = has_with set (suc n) other (omega arith) le in (
-        λ h. elim (joined.0 h) [
-          | inl before ↦ let t = (same other).0 before in let up = t.1 in (t.0, omega (arith, up), t.2)
-          | inr e ↦ (omega (arith, e), omega (arith, e), subst P (sym e) p)
+  with_next n le set same (inl p) = (
+    set_with set (suc n),
+    λ other.
+        let joined = has_with set (suc n) other (omega arith) le in (
+          λ h. elim (joined.0 h) [
+            | inl before ↦ let t = (same other).0 before in let up = t.1 in (t.0, omega (arith, up), t.2)
+            | inr e ↦ (omega (arith, e), omega (arith, e), subst P (sym e) p)
+          ],
+          λ t. joined.1 (elim (at_most_or_more other n) [
+            | inl small ↦ inl ((same other).1 (t.0, small, t.2))
+            | inr more ↦ let up = t.1 in inr (omega (arith, up, more))
+          ]),
+        ),
+  )
+  with_next n le set same (inr lacks) = (
+    set,
+    λ other. (
+      λ h. let t = (same other).0 h in let up = t.1 in (t.0, omega (arith, up), t.2),
+      λ t. (same other).1 (
+        t.0,
+        elim (at_most_or_more other n) [
+          | inl small ↦ small
+          | inr more ↦ let up = t.1 in let e : other ≡ suc n = omega (arith, up, more) in absurd (lacks (subst P e t.2))
         ],
-        λ t. joined.1 (elim (at_most_or_more other n) [
-          | inl small ↦ inl ((same other).1 (t.0, small, t.2))
-          | inr more ↦ let up = t.1 in inr (omega (arith, up, more))
-        ]),
-      ))
-  with_next n le set same (inr lacks) = (set, λ other. (
-    λ h. let t = (same other).0 h in let up = t.1 in (t.0, omega (arith, up), t.2),
-    λ t. (same other).1 (t.0, elim (at_most_or_more other n) [
-      | inl small ↦ small
-      | inr more ↦ let up = t.1 in let e : other ≡ suc n = omega (arith, up, more) in absurd (lacks (subst P e t.2))
-    ], t.2),
-  ))
+        t.2,
+      ),
+    ),
+  )
 
   pub those : (most : ℕ) → most ≤ 64 → (set : Sessions) × AreThose most set
   those zero le = (record { bits = 0 }, λ other. (λ h. absurd (nobody_there other h), λ t. let one = t.0 in let up = t.1 in absurd (omega (arith, one, up))))
@@ -70,11 +78,13 @@ module _ (P : ℕ → Type 0) (decide : (n : ℕ) → P n ⊎ (P n → ⊥)) whe
 
 pub in_way_of : (locks : Locks) (i : ℕ) (wants : List Want) → (sessions : Sessions) × AreInTheWay locks i wants sessions
 in_way_of locks i wants =
-    let set = those (IsInTheWay locks i wants) (in_way_or_not locks i wants) 64 (omega arith) in
-    (set.0, λ other. (
-      λ c. ((set.1 other).0 ((has_members set.0 other).1 c)).2,
-      λ w. (has_members set.0 other).0 ((set.1 other).1 (w.of_session.0, w.of_session.1, w)),
-    ))
+    let set = those (IsInTheWay locks i wants) (in_way_or_not locks i wants) 64 (omega arith) in (
+      set.0,
+      λ other. (
+        λ c. ((set.1 other).0 ((has_members set.0 other).1 c)).2,
+        λ w. (has_members set.0 other).0 ((set.1 other).1 (w.of_session.0, w.of_session.1, w)),
+      ),
+    )
 
 -- ---- first shortest cycles
 
@@ -116,15 +126,21 @@ module _ (w : ℕ → Sessions) where
   first_steps (suc n) from end walk = elim (least_step (λ next. HasWalk w (suc n) next end) (λ next. walk_or_not (suc n) next end) from) [
     | inr none ↦ absurd (none walk.0 walk.1 walk.2)
     | inl l ↦
-        let rest = first_steps n l.number end l.has.1 in
-        (l.number ∷ rest.0, ap suc rest.1, (record {
-          waited = l.has.0;
-          leads = subst (λ k. HasWalk w (suc k) l.number end) (sym rest.1) l.has.1;
-          first = λ other has goes. elim (at_most_or_more l.number other) [
-            | inl small ↦ small
-            | inr less ↦ absurd (l.least other (bit_of (w from) other has).from less (has, subst (λ k. HasWalk w (suc k) other end) rest.1 goes))
-          ];
-        }, rest.2))
+        let rest = first_steps n l.number end l.has.1 in (
+          l.number ∷ rest.0,
+          ap suc rest.1,
+          (
+            record {
+              waited = l.has.0;
+              leads = subst (λ k. HasWalk w (suc k) l.number end) (sym rest.1) l.has.1;
+              first = λ other has goes. elim (at_most_or_more l.number other) [
+                | inl small ↦ small
+                | inr less ↦ absurd (l.least other (bit_of (w from) other has).from less (has, subst (λ k. HasWalk w (suc k) other end) rest.1 goes))
+              ];
+            },
+            rest.2,
+          ),
+        )
   ]
 
   -- by their places
@@ -152,11 +168,13 @@ module _ (w : ℕ → Sessions) where
       closed zero one walk least = absurd (omega (arith, one))
       closed (suc n) one walk least =
           let steps = first_steps n requester requester walk in
-          let short : HasNoShorter w requester (suc (length steps.0)) = λ many less. least (suc many) (omega arith) (subst (λ k. suc many < suc k) steps.1 less) in
-          (steps.0, first_cycle_of_front w (requester ∷ steps.0) requester (suc (length steps.0)) (omega arith) (omega arith) refl short (record {
-            each = each_place steps.0 requester requester steps.2;
-            last = last_place steps.0 requester requester steps.2;
-          }))
+          let short : HasNoShorter w requester (suc (length steps.0)) = λ many less. least (suc many) (omega arith) (subst (λ k. suc many < suc k) steps.1 less) in (
+            steps.0,
+            first_cycle_of_front w (requester ∷ steps.0) requester (suc (length steps.0)) (omega arith) (omega arith) refl short (record {
+              each = each_place steps.0 requester requester steps.2;
+              last = last_place steps.0 requester requester steps.2;
+            }),
+          )
 
 -- ---- steps that ask for locks
 
@@ -178,22 +196,26 @@ module _ (s : State) (session : ℕ) (a : Act) (is : IsSession session) (locks :
   waits_or_closes : (other : ℕ) → IsInTheWay (locks_of s.store) session wants other → IsAnswered s session a
   waits_or_closes other way = elim (first_cycle_or_none waits session is) [
     | inl found ↦ record {
-        said = answer.Refused (refusal.Deadlock (record { length = suc (length found.0); members = session ∷ found.0 }));
-        effects = Loses ∷ [];
-        of_state = tt;
-        says = (locks, record { waits = waits; of_all = λ t of. (in_way_of (locks_of s.store) t (waiting t)).1; closes = found.1 }, refl);
-      }
+      said = answer.Refused (refusal.Deadlock (record { length = suc (length found.0); members = session ∷ found.0 }));
+      effects = Loses ∷ [];
+      of_state = tt;
+      says = (locks, record { waits = waits; of_all = λ t of. (in_way_of (locks_of s.store) t (waiting t)).1; closes = found.1 }, refl);
+    }
     | inr none ↦
         let those_there = in_way_of (locks_of s.store) session wants in
         record {
           said = answer.Blocked those_there.0;
           effects = [];
           of_state = tt;
-          says = (locks, record {
-            in_the_way = those_there.1;
-            not_empty = λ e. contains_none other (subst (λ l. Contains l other) e ((those_there.1 other).1 way));
-            no_cycle = λ others ring. none (session ∷ others) (record { others = others; begins = refl; different = ring.different; leads = ring_leads (session ∷ others) session ring.leads });
-          }, refl);
+          says = (
+            locks,
+            record {
+              in_the_way = those_there.1;
+              not_empty = λ e. contains_none other (subst (λ l. Contains l other) e ((those_there.1 other).1 way));
+              no_cycle = λ others ring. none (session ∷ others) (record { others = others; begins = refl; different = ring.different; leads = ring_leads (session ∷ others) session ring.leads });
+            },
+            refl,
+          );
         }
   ]
 

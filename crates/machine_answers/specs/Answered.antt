@@ -3,7 +3,6 @@
 -- That each step that may be asked for has an answer.
 use Rattle.std.specs.Prelude.{ℕ, List}
 use Rattle.iv_types.specs.declared.refusal.EngineRefusal.TheVariants as refusal
-use Rattle.txn_machine.specs.Acts as act
 use Rattle.txn_machine.specs.Acts.{Act}
 use Rattle.txn_machine.specs.Answers as answer
 use Rattle.txn_machine.specs.Answers.{Answer}
@@ -26,23 +25,6 @@ pub record IsAnswered (s : State) (session : ℕ) (a : Act) : Type 0 where
   pub of_state : IsOfState said
   pub says : Says s session a said effects
 
--- each step with such an act that may be asked for has an answer, and a state after it
-abbrev pub AreAnswered : (Act → Type 0) → Type 0
-AreAnswered Is = (s : State) → IsReached s → (session : ℕ) (a : Act) → Is a → May s session a → (said : Answer) × (after : State) × IsOfState said × Step s session a said after
-
--- the acts that ask for no lock, but for CREATE statements and Clean
-abbrev pub AsksLittle : Act → Type 0
-AsksLittle (act.Begin mode) = Unit {0}
-AsksLittle act.Defs = Unit {0}
-AsksLittle (act.Peek number interval) = Unit {0}
-AsksLittle act.Ghost = Unit {0}
-AsksLittle act.UndoOne = Unit {0}
-AsksLittle act.End = Unit {0}
-AsksLittle act.Commit = Unit {0}
-AsksLittle act.Prune = Unit {0}
-AsksLittle act.Checkpoint = Unit {0}
-AsksLittle act.Cancel = Unit {0}
-AsksLittle _ = ⊥
-
-abbrev pub LittleLaw : Type 0
-LittleLaw = AreAnswered AsksLittle
+-- each step that may be asked for has such an answer, and a state after it
+abbrev pub AnsweredLaw : Type 0
+AnsweredLaw = (s : State) → IsReached s → (session : ℕ) (a : Act) → May s session a → (said : Answer) × (after : State) × IsOfState said × Step s session a said after

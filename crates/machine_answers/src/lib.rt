@@ -1,9 +1,9 @@
-//! That steps of the machine of open transactions that may be asked for have an answer. Each function is there for its contract.
+//! That each step of the machine of open transactions that may be asked for has an answer. Each function is there for its contract.
 #![tactic(auto)]
 
-ghost use Rattle.machine_answers.specs.Answered.{LittleLaw};
+ghost use Rattle.machine_answers.specs.Answered.{AnsweredLaw};
 
-/// Each step that asks for no lock, defines nothing and removes no stored row has an answer for which neither memory was wanting nor the disk failed.
-pub fn little_law()
-    ensures { LittleLaw }
+/// Each step that may be asked for has an answer for which neither memory was wanting nor the disk failed.
+pub fn answered_law()
+    ensures { AnsweredLaw }
 {}
