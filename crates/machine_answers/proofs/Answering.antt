@@ -15,7 +15,8 @@ use Rattle.txn_machine.specs.May.{May, MayAct}
 use Rattle.txn_machine.specs.Laws.{IsReached}
 use Rattle.txn_machine.specs.Steps.{Step, asked, IsFree, MayWait, waits_after, definitions_after, log_after}
 use Rattle.txn_machine.proofs.Moving.{may_of}
-use Rattle.machine_answers.specs.Answered.{IsOfState, IsAnswered, AnsweredLaw}
+use Rattle.machine_answers.specs.Answered.{IsOfState, AnsweredLaw}
+use Rattle.machine_answers.proofs.Saying.{HasAnswer}
 use Rattle.machine_answers.proofs.Choosing.{some_or_none}
 use Rattle.machine_answers.proofs.Cleaning.{cleans}
 use Rattle.machine_answers.proofs.Defining.{defines_it}
@@ -33,7 +34,7 @@ told s session a stop e may = (
   record { may = may; does = inr (record { stop = stop; stopped = e; says = refl; left = refl }) },
 )
 
-stepped : (s : State) (session : ℕ) (a : Act) → s.stop ≡ None → May s session a → IsAnswered s session a → (said : Answer) × (after : State) × IsOfState said × Step s session a said after
+stepped : (s : State) (session : ℕ) (a : Act) → s.stop ≡ None → May s session a → HasAnswer s session a → (said : Answer) × (after : State) × IsOfState said × Step s session a said after
 stepped s session a runs may h = (
   h.said,
   counted s session a h.said (run the_views s.store session h.effects) (waits_after s.store session a h.said) (definitions_after s.definitions a h.said) (log_after s session a h.said h.effects),
@@ -42,7 +43,7 @@ stepped s session a runs may h = (
 )
 
 -- where a running engine has an answer, each has
-by_running : (s : State) (session : ℕ) (a : Act) → May s session a → (MayAct s.store session a → IsAnswered s session a)
+by_running : (s : State) (session : ℕ) (a : Act) → May s session a → (MayAct s.store session a → HasAnswer s session a)
     → (said : Answer) × (after : State) × IsOfState said × Step s session a said after
 by_running s session a may answers = elim (some_or_none s.stop) [
   | inl (stop, e) ↦ told s session a stop e may
@@ -50,10 +51,10 @@ by_running s session a may answers = elim (some_or_none s.stop) [
 ]
 
 -- a step that asks for locks
-locked : (s : State) (session : ℕ) (a : Act) → IsSession session → MayWait a → (IsFree s.store session (asked s.store session a) → IsAnswered s session a) → IsAnswered s session a
+locked : (s : State) (session : ℕ) (a : Act) → IsSession session → MayWait a → (IsFree s.store session (asked s.store session a) → HasAnswer s session a) → HasAnswer s session a
 locked s session a is locks answers = elim (free_or_answered s session a is locks) [ inl free ↦ answers free | inr answered ↦ answered ]
 
-running : (s : State) → IsReached s → (session : ℕ) (a : Act) → MayAct s.store session a → IsAnswered s session a
+running : (s : State) → IsReached s → (session : ℕ) (a : Act) → MayAct s.store session a → HasAnswer s session a
 running s r session (act.Begin mode) may = begins s session mode
 running s r session act.Defs may = learns s session
 running s r session (act.Fetch number interval mode) may =

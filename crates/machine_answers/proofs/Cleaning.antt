@@ -33,7 +33,7 @@ use Rattle.txn_machine.specs.State.{State}
 use Rattle.txn_machine.proofs.Holding.{by_contains, contains_here, contains_next, contains_none}
 use Rattle.txn_machine.proofs.Playing.{some_of}
 use Rattle.txn_machine.proofs.Testing.{is_true, holds, left_one, right_one, some_in, some_is, lies_is, lies_so}
-use Rattle.machine_answers.specs.Answered.{IsAnswered}
+use Rattle.machine_answers.proofs.Saying.{HasAnswer}
 use Rattle.machine_answers.proofs.Choosing.{so_or_not, same_or_not, there_or_not, within_or_above, each_session_or_not}
 
 -- ---- one of a list
@@ -180,11 +180,11 @@ module _ (s : Store) where
 
 -- ---- Clean
 
-pub cleans : (s : State) (session : ℕ) → IsAnswered s session act.Clean
+pub cleans : (s : State) (session : ℕ) → HasAnswer s session act.Clean
 cleans s session = by (first_cleanable_or_none s.store)
   where
     with_room : (place : Place) → IsFirstCleanable s.store place → Within s.opening.log_limit (s.log.used + reserved s.store s.log + group_bytes place) ⊎ Above s.opening.log_limit (s.log.used + reserved s.store s.log + group_bytes place)
-        → IsAnswered s session act.Clean
+        → HasAnswer s session act.Clean
     with_room place first (inl fits) = record { said = answer.Cleaned 1; effects = Cleans place ∷ []; of_state = tt; says = (place, first, refl, fits) }
     with_room place first (inr full) = record {
       said = answer.Refused (refusal.LogFull s.log.used (reserved s.store s.log) (group_bytes place));
@@ -193,6 +193,6 @@ cleans s session = by (first_cleanable_or_none s.store)
       says = (refl, place, first, refl, record { used_is = refl; reserved_is = refl; full = full });
     }
 
-    by : ((place : Place) × IsFirstCleanable s.store place) ⊎ ((place : Place) → IsCleanable s.store place → ⊥) → IsAnswered s session act.Clean
+    by : ((place : Place) × IsFirstCleanable s.store place) ⊎ ((place : Place) → IsCleanable s.store place → ⊥) → HasAnswer s session act.Clean
     by (inl (place, first)) = with_room place first (within_or_above s.opening.log_limit (s.log.used + reserved s.store s.log + group_bytes place))
     by (inr none) = record { said = answer.Cleaned 0; effects = []; of_state = tt; says = (none, refl) }

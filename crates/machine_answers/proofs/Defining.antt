@@ -26,7 +26,7 @@ use Rattle.txn_machine.specs.Log.{Within, Above, reserved, definition_need}
 use Rattle.txn_machine.specs.State.{State}
 use Rattle.txn_machine.specs.May.{IsCreate}
 use Rattle.txn_machine.specs.Steps.{NoneIsOpen, IsBusy, Makes, made_need, FitsLog, FitsData, unbound, refused, used_data, history_bytes}
-use Rattle.machine_answers.specs.Answered.{IsAnswered}
+use Rattle.machine_answers.proofs.Saying.{HasAnswer}
 use Rattle.machine_answers.proofs.Choosing.{at_most_or_more, within_or_above, there_or_not, least_or_none}
 
 -- ---- what it is bound to
@@ -104,7 +104,7 @@ module _ (s : State) (session : ℕ) (statement : StatementTree) where
   module _ (object : Object) (makes : Makes s.store statement object) (none : NoneIsOpen s.store)
       (accepted : (count : ℕ) × (kept : List Kept) × (bound_meaning (create object) (committed s.store) ≡ Accepted [] count kept)) where
     in_history : FitsLog s (definition_need statement) → FitsData s (made_need s.store statement object)
-        → (history_bytes s + (entry_size + definition_size statement) ≤ most_of_history) ⊎ (most_of_history < history_bytes s + (entry_size + definition_size statement)) → IsAnswered s session (act.Schema statement)
+        → (history_bytes s + (entry_size + definition_size statement) ≤ most_of_history) ⊎ (most_of_history < history_bytes s + (entry_size + definition_size statement)) → HasAnswer s session (act.Schema statement)
     in_history log_room data_room (inl fits) = record {
       said = answer.Committed ((committed s.store).number + 1);
       effects = Defines object ∷ [];
@@ -119,7 +119,7 @@ module _ (s : State) (session : ℕ) (statement : StatementTree) where
     }
 
     in_data : FitsLog s (definition_need statement)
-        → Within s.opening.data_limit (used_data s + made_need s.store statement object) ⊎ Above s.opening.data_limit (used_data s + made_need s.store statement object) → IsAnswered s session (act.Schema statement)
+        → Within s.opening.data_limit (used_data s + made_need s.store statement object) ⊎ Above s.opening.data_limit (used_data s + made_need s.store statement object) → HasAnswer s session (act.Schema statement)
     in_data log_room (inl fits) = in_history log_room fits (at_most_or_more (history_bytes s + (entry_size + definition_size statement)) most_of_history)
     in_data log_room (inr full) = record {
       said = answer.Refused (refusal.DataFull (used_data s) (made_need s.store statement object));
@@ -128,7 +128,7 @@ module _ (s : State) (session : ℕ) (statement : StatementTree) where
       says = (record { object = object; makes = makes; none_open = none; accepted = accepted; log_room = log_room; need_is = refl; full = record { used_is = refl; full = full } }, refl);
     }
 
-    in_log : IsAnswered s session (act.Schema statement)
+    in_log : HasAnswer s session (act.Schema statement)
     in_log = elim (within_or_above s.opening.log_limit (s.log.used + reserved s.store s.log + definition_need statement)) [
       | inl fits ↦ in_data fits (within_or_above s.opening.data_limit (used_data s + made_need s.store statement object))
       | inr full ↦ record {
@@ -139,7 +139,7 @@ module _ (s : State) (session : ℕ) (statement : StatementTree) where
       }
     ]
 
-  made : (object : Object) → Makes s.store statement object → IsAnswered s session (act.Schema statement)
+  made : (object : Object) → Makes s.store statement object → HasAnswer s session (act.Schema statement)
   made object makes = elim (busy_or_none s.store) [
     | inl (busy, is) ↦ record { said = answer.Refused (refusal.SchemaBusy busy); effects = []; of_state = tt; says = (record { object = object; makes = makes; least = is }, refl) }
     | inr none ↦ elim (means object (committed s.store)) [
@@ -148,10 +148,10 @@ module _ (s : State) (session : ℕ) (statement : StatementTree) where
     ]
   ]
 
-  pub defines_it : IsCreate statement → IsAnswered s session (act.Schema statement)
+  pub defines_it : IsCreate statement → HasAnswer s session (act.Schema statement)
   defines_it is = by (bind (schema_of s.store) statement) refl
     where
-      by : (b : Result BoundTree Refusal) → bind (schema_of s.store) statement ≡ b → IsAnswered s session (act.Schema statement)
+      by : (b : Result BoundTree Refusal) → bind (schema_of s.store) statement ≡ b → HasAnswer s session (act.Schema statement)
       by (Err why) e = record { said = answer.Denied why; effects = []; of_state = tt; says = (unbound e, refl) }
       by (Ok what) e =
           let o = creates (schema_of s.store) statement what is e in

@@ -27,14 +27,14 @@ use Rattle.txn_machine.specs.Steps.{asked, IsFree, Finds, FitsTransaction, FitsL
 use Rattle.txn_machine.proofs.Looking.{view_laws}
 use Rattle.txn_machine.proofs.Stepping.{now_is}
 use Rattle.txn_machine.proofs.Testing.{holds, huge_is}
-use Rattle.machine_answers.specs.Answered.{IsAnswered}
+use Rattle.machine_answers.proofs.Saying.{HasAnswer}
 use Rattle.machine_answers.proofs.Choosing.{so_or_not, some_or_none, at_most_or_more, within_or_above, FirstWithout, all_or_first}
 
 module _ (s : State) (session : ℕ) where
   -- ---- Fetch
 
   pub fetches : (number : ℕ) (interval : Interval) (mode : LockMode) → (rows : List Row) → Finds s.store number interval rows
-      → IsFree s.store session (asked s.store session (act.Fetch number interval mode)) → IsAnswered s session (act.Fetch number interval mode)
+      → IsFree s.store session (asked s.store session (act.Fetch number interval mode)) → HasAnswer s session (act.Fetch number interval mode)
   fetches number interval mode rows found free = by (at_most_or_more (kept + need) most_of_transaction)
     where
       kept : ℕ
@@ -46,7 +46,7 @@ module _ (s : State) (session : ℕ) where
       wants : List Want
       wants = asked s.store session (act.Fetch number interval mode)
 
-      by : (kept + need ≤ most_of_transaction) ⊎ (most_of_transaction < kept + need) → IsAnswered s session (act.Fetch number interval mode)
+      by : (kept + need ≤ most_of_transaction) ⊎ (most_of_transaction < kept + need) → HasAnswer s session (act.Fetch number interval mode)
       by (inl fits) = record {
         said = answer.Rows rows;
         effects = Takes wants ∷ Notes (note_of s.store session number interval rows) ∷ [];
@@ -68,7 +68,7 @@ module _ (s : State) (session : ℕ) where
 
     in_history : FitsTransaction s.store session (put_need s.store change) → FitsLog s (log_need s.store change) → FitsData s (data_need s.store change)
         → (history_bytes s + kept_change_size (schema_of s.store) change ≤ most_of_history) ⊎ (most_of_history < history_bytes s + kept_change_size (schema_of s.store) change)
-        → IsAnswered s session (act.Put number key new)
+        → HasAnswer s session (act.Put number key new)
     in_history room log_room data_room (inl fits) = record {
       said = answer.Changed change.before (put_owed s.store change);
       effects = Takes (asked s.store session (act.Put number key new)) ∷ Writes change.key change.after ∷ [];
@@ -84,7 +84,7 @@ module _ (s : State) (session : ℕ) where
 
     in_data : FitsTransaction s.store session (put_need s.store change) → FitsLog s (log_need s.store change)
         → Within s.opening.data_limit (used_data s + data_need s.store change) ⊎ Above s.opening.data_limit (used_data s + data_need s.store change)
-        → IsAnswered s session (act.Put number key new)
+        → HasAnswer s session (act.Put number key new)
     in_data room log_room (inl fits) = in_history room log_room fits (at_most_or_more (history_bytes s + kept_change_size (schema_of s.store) change) most_of_history)
     in_data room log_room (inr full) = record {
       said = answer.Refused (refusal.DataFull (used_data s) (data_need s.store change));
@@ -95,7 +95,7 @@ module _ (s : State) (session : ℕ) where
 
     in_log : FitsTransaction s.store session (put_need s.store change)
         → Within s.opening.log_limit (s.log.used + reserved s.store s.log + log_need s.store change) ⊎ Above s.opening.log_limit (s.log.used + reserved s.store s.log + log_need s.store change)
-        → IsAnswered s session (act.Put number key new)
+        → HasAnswer s session (act.Put number key new)
     in_log room (inl fits) = in_data room fits (within_or_above s.opening.data_limit (used_data s + data_need s.store change))
     in_log room (inr full) = record {
       said = answer.Refused (refusal.LogFull s.log.used (reserved s.store s.log) (log_need s.store change));
@@ -104,7 +104,7 @@ module _ (s : State) (session : ℕ) where
       says = (record { free = free; room = room; need_is = refl; full = record { used_is = refl; reserved_is = refl; full = full } }, refl);
     }
 
-    pub puts : IsAnswered s session (act.Put number key new)
+    pub puts : HasAnswer s session (act.Put number key new)
     puts = elim (at_most_or_more (transaction_size (schema_of s.store) (now s.store session) + put_need s.store change) most_of_transaction) [
       | inl fits ↦ in_log fits (within_or_above s.opening.log_limit (s.log.used + reserved s.store s.log + log_need s.store change))
       | inr full ↦ record {
@@ -133,7 +133,7 @@ module _ (s : State) (session : ℕ) where
   pub owed_now : (o : Owes s.store session) → (now s.store session).owed ≡ o.first ∷ o.others
   owed_now o = ap (λ (t : Open). t.owed) (now_is view_laws s.store session o.goes_on.transaction o.goes_on.is_open) ∙ o.owed_is
 
-  pub pays : (o : Owes s.store session) → IsFree s.store session (asked s.store session act.Pay) → IsAnswered s session act.Pay
+  pub pays : (o : Owes s.store session) → IsFree s.store session (asked s.store session act.Pay) → HasAnswer s session act.Pay
   pays o free = by (some_or_none (get s.store.view (place_of o.first)))
     where
       wants : List Want
@@ -142,7 +142,7 @@ module _ (s : State) (session : ℕ) where
       first : PaysFirst s.store session wants
       first = record { free = free; first = o.first; others = o.others; owed_is = owed_now o }
 
-      weighed : IsSome (get s.store.view (place_of o.first)) → AllAllow s.store session o.first ⊎ FirstWithout (IsAllowedIn s.store session o.first) (length (columns_of o.first)) → IsAnswered s session act.Pay
+      weighed : IsSome (get s.store.view (place_of o.first)) → AllAllow s.store session o.first ⊎ FirstWithout (IsAllowedIn s.store session o.first) (length (columns_of o.first)) → HasAnswer s session act.Pay
       weighed there (inl allowed) = record {
         said = answer.Paid (length o.others);
         effects = Takes wants ∷ Pays ∷ [];
@@ -156,7 +156,7 @@ module _ (s : State) (session : ℕ) where
         says = record { pays = first; there = there; refused = record { is_column = f.below; refuses = f.lacks; first = f.before; low_is = refl; high_is = refl }; effects = refl };
       }
 
-      by : ((numbers : List ℤ) × (get s.store.view (place_of o.first) ≡ Some numbers)) ⊎ (get s.store.view (place_of o.first) ≡ None) → IsAnswered s session act.Pay
+      by : ((numbers : List ℤ) × (get s.store.view (place_of o.first) ≡ Some numbers)) ⊎ (get s.store.view (place_of o.first) ≡ None) → HasAnswer s session act.Pay
       by (inl (numbers, there)) = weighed (subst IsSome (sym there) refl)
           (all_or_first (IsAllowedIn s.store session o.first) (λ column. allowed_or_not (account_of s.store (place_of o.first) column) (worth column o.first)) (length (columns_of o.first)))
       by (inr absent) = record { said = answer.NeedsGhost; effects = Takes wants ∷ []; of_state = tt; says = record { pays = first; absent = absent; effects = refl } }

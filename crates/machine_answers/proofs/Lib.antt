@@ -4,5 +4,6 @@ pub mod Cleaning
 pub mod Defining
 pub mod Found
 pub mod Granted
+pub mod Saying
 pub mod Simple
 pub mod Waiting

@@ -25,12 +25,12 @@ use Rattle.txn_machine.specs.Counts.{most_of_history}
 use Rattle.txn_machine.specs.Log.{Within, Above}
 use Rattle.txn_machine.proofs.Looking.{view_laws}
 use Rattle.txn_machine.proofs.Stepping.{now_is}
-use Rattle.machine_answers.specs.Answered.{IsAnswered}
+use Rattle.machine_answers.proofs.Saying.{HasAnswer}
 use Rattle.machine_answers.proofs.Granted.{owed_now}
 use Rattle.machine_answers.proofs.Choosing.{at_most_or_more, within_or_above, some_or_none}
 
 module _ (s : State) (session : ℕ) where
-  pub begins : (mode : Mode) → IsAnswered s session (act.Begin mode)
+  pub begins : (mode : Mode) → HasAnswer s session (act.Begin mode)
   begins Snapshot = record {
     said = answer.Begun (committed s.store).number (length (schema_of s.store));
     effects = Opens Snapshot ∷ [];
@@ -40,7 +40,7 @@ module _ (s : State) (session : ℕ) where
   begins Serial = by (within_or_above s.opening.log_limit (s.log.used + reserved s.store s.log + end_bytes)) (at_most_or_more (history_bytes s + entry_size) most_of_history)
     where
       by : Within s.opening.log_limit (s.log.used + reserved s.store s.log + end_bytes) ⊎ Above s.opening.log_limit (s.log.used + reserved s.store s.log + end_bytes)
-          → (history_bytes s + entry_size ≤ most_of_history) ⊎ (most_of_history < history_bytes s + entry_size) → IsAnswered s session (act.Begin Serial)
+          → (history_bytes s + entry_size ≤ most_of_history) ⊎ (most_of_history < history_bytes s + entry_size) → HasAnswer s session (act.Begin Serial)
       by (inr full) h = record {
         said = answer.Refused (refusal.LogFull s.log.used (reserved s.store s.log) end_bytes);
         effects = [];
@@ -60,10 +60,10 @@ module _ (s : State) (session : ℕ) where
         says = record { room = (room, fits); number_is = refl; defs_are = refl; effects = refl };
       }
 
-  pub learns : IsAnswered s session act.Defs
+  pub learns : HasAnswer s session act.Defs
   learns = record { said = answer.Defs (schema_of s.store); effects = []; of_state = tt; says = (refl, refl) }
 
-  pub peeks : (index : ℕ) (interval : Interval) → IsAnswered s session (act.Peek index interval)
+  pub peeks : (index : ℕ) (interval : Interval) → HasAnswer s session (act.Peek index interval)
   peeks index interval = record {
     said = answer.Rows (read (state_at s.store.origin s.store.history (now s.store session).number) index interval);
     effects = [];
@@ -71,10 +71,10 @@ module _ (s : State) (session : ℕ) where
     says = (refl, refl);
   }
 
-  pub makes_ghost : Owes s.store session → IsAnswered s session act.Ghost
+  pub makes_ghost : Owes s.store session → HasAnswer s session act.Ghost
   makes_ghost o = by (some_or_none (get s.store.view (place_of o.first)))
     where
-      by : ((numbers : List ℤ) × (get s.store.view (place_of o.first) ≡ Some numbers)) ⊎ (get s.store.view (place_of o.first) ≡ None) → IsAnswered s session act.Ghost
+      by : ((numbers : List ℤ) × (get s.store.view (place_of o.first) ≡ Some numbers)) ⊎ (get s.store.view (place_of o.first) ≡ None) → HasAnswer s session act.Ghost
       by (inl (numbers, there)) = record {
         said = answer.Ghosted;
         effects = [];
@@ -88,23 +88,23 @@ module _ (s : State) (session : ℕ) where
         says = record { first = o.first; others = o.others; owed_is = owed_now s session o; effects = inl (absent, refl) };
       }
 
-  pub takes_back : (o : IsOpen s.store session) → o.transaction.kept ≢ [] → IsAnswered s session act.UndoOne
+  pub takes_back : (o : IsOpen s.store session) → o.transaction.kept ≢ [] → HasAnswer s session act.UndoOne
   takes_back o some = by (now s.store session).kept refl
     where
       same : (now s.store session).kept ≡ o.transaction.kept
       same = ap (λ (t : Open). t.kept) (now_is view_laws s.store session o.transaction o.is_open)
 
-      by : (ks : List KeptStep) → (now s.store session).kept ≡ ks → IsAnswered s session act.UndoOne
+      by : (ks : List KeptStep) → (now s.store session).kept ≡ ks → HasAnswer s session act.UndoOne
       by [] e = absurd (some (sym same ∙ e))
       by (k ∷ ks) e = record { said = answer.Undone (length ks); effects = Undoes ∷ []; of_state = tt; says = record { latest = k; earlier = ks; kept_is = e; left_is = refl; effects = refl } }
 
-  pub ends : IsAnswered s session act.End
+  pub ends : HasAnswer s session act.End
   ends = record { said = answer.Ended; effects = Ends ∷ []; of_state = tt; says = refl }
 
-  pub commits : IsAnswered s session act.Commit
+  pub commits : HasAnswer s session act.Commit
   commits = by (changes_by s.store session) refl
     where
-      by : (cs : List RowChange) → changes_by s.store session ≡ cs → IsAnswered s session act.Commit
+      by : (cs : List RowChange) → changes_by s.store session ≡ cs → HasAnswer s session act.Commit
       by [] e = record {
         said = answer.Committed (number_unchanged s.store (now s.store session));
         effects = Ends ∷ [];
@@ -118,11 +118,11 @@ module _ (s : State) (session : ℕ) where
         says = subst (λ cs. Steps.CommitsAs s.store session cs ((committed s.store).number + 1) (Commits ∷ [])) (sym e) (refl, refl);
       }
 
-  pub prunes : IsAnswered s session act.Prune
+  pub prunes : HasAnswer s session act.Prune
   prunes = record { said = answer.Pruned; effects = Prunes ∷ []; of_state = tt; says = refl }
 
-  pub saves : IsAnswered s session act.Checkpoint
+  pub saves : HasAnswer s session act.Checkpoint
   saves = record { said = answer.Saved (committed s.store).number; effects = []; of_state = tt; says = (refl, refl) }
 
-  pub cancels : IsAnswered s session act.Cancel
+  pub cancels : HasAnswer s session act.Cancel
   cancels = record { said = answer.Cancelled; effects = []; of_state = tt; says = refl }

@@ -23,7 +23,7 @@ use Rattle.txn_machine.specs.State.{State}
 use Rattle.txn_machine.specs.Steps.{asked, IsFree, MayWait}
 use Rattle.txn_machine.proofs.Playing.{in_way}
 use Rattle.txn_machine.proofs.Testing.{in_way_is, in_way_so}
-use Rattle.machine_answers.specs.Answered.{IsAnswered}
+use Rattle.machine_answers.proofs.Saying.{HasAnswer}
 use Rattle.machine_answers.proofs.Choosing.{so_or_not, true_or_not, same_or_not, session_or_not, at_most_or_more, Least, least_or_none}
 
 -- ---- the set of those that are in the way
@@ -193,7 +193,7 @@ module _ (s : State) (session : ℕ) (a : Act) (is : IsSession session) (locks :
   ring_leads (t ∷ []) end l = ((in_way_of (locks_of s.store) t (waiting t)).1 end).1 l
   ring_leads (t ∷ u ∷ us) end l = (((in_way_of (locks_of s.store) t (waiting t)).1 u).1 l.0, ring_leads (u ∷ us) end l.1)
 
-  waits_or_closes : (other : ℕ) → IsInTheWay (locks_of s.store) session wants other → IsAnswered s session a
+  waits_or_closes : (other : ℕ) → IsInTheWay (locks_of s.store) session wants other → HasAnswer s session a
   waits_or_closes other way = elim (first_cycle_or_none waits session is) [
     | inl found ↦ record {
       said = answer.Refused (refusal.Deadlock (record { length = suc (length found.0); members = session ∷ found.0 }));
@@ -220,7 +220,7 @@ module _ (s : State) (session : ℕ) (a : Act) (is : IsSession session) (locks :
   ]
 
   -- nobody is in the way, or it is answered
-  pub free_or_answered : IsFree s.store session wants ⊎ IsAnswered s session a
+  pub free_or_answered : IsFree s.store session wants ⊎ HasAnswer s session a
   free_or_answered = elim (least_or_none (IsInTheWay (locks_of s.store) session wants) (in_way_or_not (locks_of s.store) session wants) 64) [
     | inl l ↦ inr (waits_or_closes l.number l.has)
     | inr none ↦ inl (λ other w. none other w.of_session.0 w.of_session.1 w)

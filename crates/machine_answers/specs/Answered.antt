@@ -1,15 +1,14 @@
 -- No clause of `run` rests on this module: it serves contracts between crates.
 --
 -- That each step that may be asked for has an answer.
-use Rattle.std.specs.Prelude.{ℕ, List}
+use Rattle.std.specs.Prelude.{ℕ}
 use Rattle.iv_types.specs.declared.refusal.EngineRefusal.TheVariants as refusal
 use Rattle.txn_machine.specs.Acts.{Act}
 use Rattle.txn_machine.specs.Answers as answer
 use Rattle.txn_machine.specs.Answers.{Answer}
-use Rattle.txn_machine.specs.Store.{Effect}
 use Rattle.txn_machine.specs.State.{State}
 use Rattle.txn_machine.specs.May.{May}
-use Rattle.txn_machine.specs.Steps.{Says, Step}
+use Rattle.txn_machine.specs.Steps.{Step}
 use Rattle.txn_machine.specs.Laws.{IsReached}
 
 -- it tells what the state gives: neither was memory wanting, nor did the disk fail
@@ -17,13 +16,6 @@ abbrev pub IsOfState : Answer → Type 0
 IsOfState (answer.Refused refusal.NoMemory) = ⊥
 IsOfState (answer.Refused refusal.DiskFault) = ⊥
 IsOfState said = Unit {0}
-
--- the step of an engine that is not stopped has such an answer
-pub record IsAnswered (s : State) (session : ℕ) (a : Act) : Type 0 where
-  pub said : Answer
-  pub effects : List Effect
-  pub of_state : IsOfState said
-  pub says : Says s session a said effects
 
 -- each step that may be asked for has such an answer, and a state after it
 abbrev pub AnsweredLaw : Type 0
