@@ -4,6 +4,8 @@ pub mod Cleaning
 pub mod Defining
 pub mod Found
 pub mod Granted
+pub mod Only
+pub mod OnlyDefining
 pub mod Saying
 pub mod Simple
 pub mod Waiting
