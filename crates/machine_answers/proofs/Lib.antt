@@ -6,6 +6,8 @@ pub mod Found
 pub mod Granted
 pub mod Only
 pub mod OnlyDefining
+pub mod OnlyGranted
+pub mod OnlySimple
 pub mod Saying
 pub mod Simple
 pub mod Waiting

@@ -74,6 +74,12 @@ pub not_both : (limit : Option ℕ) (bytes : ℕ) → Within limit bytes → Abo
 not_both None bytes fits full = full
 not_both (Some most) bytes fits full = omega (arith, fits, full)
 
+-- it is of the state, and nobody is waited for
+abbrev pub IsPlain : Answer → Type 0
+IsPlain (answer.Blocked sessions) = ⊥
+IsPlain (answer.Refused (refusal.Deadlock cycle)) = ⊥
+IsPlain said = IsOfState said
+
 -- an answer and its effects
 abbrev pub Both : Answer → List Effect → Answer → List Effect → Type 0
 Both wanted effects said es = (said ≡ wanted) × (es ≡ effects)
