@@ -1,36 +1,41 @@
 -- Steps that ask for no lock have one answer.
-use Rattle.std.specs.Prelude.{◌≡◌, ◌≢◌, ◌⊎◌, ℕ, zero, suc, ◌+◌, ◌≤◌, ◌<◌, List, [], ◌∷◌, length, Option, Some, None, Result, Ok, Err}
-use mathlib.Core.Path.{refl, sym, ap, subst, ◌∙◌}
+use Rattle.std.specs.Prelude.{◌≡◌, ◌≢◌, ℕ, zero, suc, ◌+◌, ◌≤◌, ◌<◌, List, [], ◌∷◌, length, Option, Some, None}
+use mathlib.Core.Path.{refl, sym, subst, ◌∙◌}
 use mathlib.Core.Logic.{inl, inr}
 use Rattle.std.proofs.Common.{arith}
-use Rattle.std.proofs.lemmas.Option.{none-some}
-use Rattle.std.specs.FinMap.{get}
 use Rattle.std.specs.Ordering.{ordering_reverse}
+use Rattle.std.specs.Cmp.{IsTotalOrder}
 use Rattle.std.specs.declared.cmp.Ordering.{Ordering}
 use Rattle.std.specs.declared.cmp.Ordering.TheVariants.{Less, Equal, Greater}
-use Rattle.iv_types.specs.declared.statement.Mode.TheVariants.{Serial, Snapshot}
-use Rattle.iv_types.specs.declared.lock.GroupDelta.{GroupDelta}
-use Rattle.iv_types.specs.declared.refusal.Refusal.{Refusal}
+use Rattle.iv_types.specs.declared.statement.Mode.TheVariants.{Serial}
 use Rattle.iv_types.specs.declared.refusal.EngineRefusal.TheVariants as refusal
-use Rattle.iv_types.specs.Syntax.{StatementTree}
 use Rattle.table_laws.specs.Place.{Place, place_cmp}
 use Rattle.table_laws.proofs.Place.{place_cmp_total, place_cmp-IsAntisymmetric}
-use Rattle.iv_meaning.specs.Schema.{Object}
-use Rattle.iv_meaning.specs.Statement.{Kept, BoundTree, create, bound_meaning, Refused, Accepted}
-use Rattle.iv_meaning.specs.Binding.{bind}
 use Rattle.txn_machine.specs.Acts as act
 use Rattle.txn_machine.specs.Acts.{Act}
 use Rattle.txn_machine.specs.Answers as answer
 use Rattle.txn_machine.specs.Answers.{Answer}
-use Rattle.txn_machine.specs.Store.{Store, committed, schema_of, Effect, Opens, Cleans, Defines}
+use Rattle.txn_machine.specs.Store.{committed, schema_of, Effect, Opens, Cleans}
 use Rattle.txn_machine.specs.Ghosts.{IsCleanable, IsFirstCleanable}
 use Rattle.txn_machine.specs.Records.{group_bytes}
-use Rattle.txn_machine.specs.Counts.{entry_size, definition_size, most_of_history}
-use Rattle.txn_machine.specs.Log.{Within, Above, reserved, end_bytes, definition_need}
+use Rattle.txn_machine.specs.Counts.{entry_size, most_of_history}
+use Rattle.txn_machine.specs.Log.{Within, Above, reserved, end_bytes}
 use Rattle.txn_machine.specs.State.{State}
-use Rattle.txn_machine.specs.Steps.{Says, FitsLog, FitsData, FitsHistory, history_bytes, used_data, NoneIsOpen, IsBusy, Makes, made_need, unbound, refused}
+use Rattle.txn_machine.specs.Steps.{Says, FitsLog, FitsHistory, history_bytes}
 use Rattle.machine_answers.specs.Answered.{IsOfState}
 use Rattle.machine_answers.proofs.Choosing.{at_most_or_more}
+
+-- ---- two of which neither comes after the other
+
+tied : (a b : Ordering) → a ≡ ordering_reverse b → a ≢ Greater → b ≢ Greater → a ≡ Equal
+tied Less Less e m n = cc
+tied Less Equal e m n = cc
+tied Less Greater e m n = absurd (n refl)
+tied Equal b e m n = refl
+tied Greater b e m n = absurd (m refl)
+
+pub tied_both : {K : Type 0} (R : K → K → Ordering) → IsTotalOrder R → (x y : K) → R x y ≢ Greater → R y x ≢ Greater → R x y ≡ Equal
+tied_both R total x y m n = tied (R x y) (R y x) (total.antisymm x y) m n
 
 -- ---- the first test that fails decides
 
@@ -148,16 +153,8 @@ module _ (s : State) (session : ℕ) where
   IsClean (suc zero) said es = (place : Place) × IsFirstCleanable s.store place × Both (answer.Refused (refusal.LogFull s.log.used (reserved s.store s.log) (group_bytes place))) [] said es
   IsClean (suc (suc n)) said es = (place : Place) × IsFirstCleanable s.store place × Both (answer.Cleaned 1) (Cleans place ∷ []) said es
 
-  tied : (a b : Ordering) → a ≢ Greater → b ≢ Greater → (a ≡ Less → b ≡ Greater) → a ≡ Equal
-  tied Less b m n back = absurd (n (back refl))
-  tied Equal b m n back = refl
-  tied Greater b m n back = absurd (m refl)
-
   one_first : (p q : Place) → IsFirstCleanable s.store p → IsFirstCleanable s.store q → p ≡ q
-  one_first p q h k = place_cmp-IsAntisymmetric p q (tied (place_cmp p q) (place_cmp q p) (h.first q k.is) (k.first p h.is) (λ e. turned p q e))
-    where
-      turned : (p q : Place) → place_cmp p q ≡ Less → place_cmp q p ≡ Greater
-      turned p q e = place_cmp_total.antisymm q p ∙ ap ordering_reverse e
+  one_first p q h k = place_cmp-IsAntisymmetric p q (tied_both place_cmp place_cmp_total p q (h.first q k.is) (k.first p h.is))
 
   pub clean_says : (said : Answer) (es : List Effect) → IsOfState said → Says s session act.Clean said es → IsChosen CleanTest 2 IsClean said es
   clean_says (answer.Blocked x) es of h = absurd h.0

@@ -1,10 +1,9 @@
 -- Acts that have one answer of a kind, or two.
-use Rattle.std.specs.Prelude.{◌≡◌, ◌≢◌, ◌⊎◌, ℕ, zero, suc, ◌+◌, ◌-◌, List, [], ◌∷◌, length, Option, Some, None, IsSome}
+use Rattle.std.specs.Prelude.{◌≡◌, ◌⊎◌, ℕ, suc, ◌-◌, List, [], ◌∷◌, length, Option, Some, None, IsSome}
 use Rattle.std.specs.FinMap.{get}
 use mathlib.Core.Path.{refl, sym, ap, subst, ◌∙◌}
 use mathlib.Core.Logic.{inl, inr}
 use Rattle.std.proofs.Common.{arith}
-use Rattle.iv_types.specs.declared.statement.Mode.{Mode}
 use Rattle.iv_types.specs.declared.statement.Mode.TheVariants.{Serial, Snapshot}
 use Rattle.iv_types.specs.declared.lock.GroupDelta.{GroupDelta}
 use Rattle.iv_types.specs.declared.value.Interval.{Interval}
@@ -16,8 +15,7 @@ use Rattle.txn_machine.specs.Acts.{Act}
 use Rattle.txn_machine.specs.Answers as answer
 use Rattle.txn_machine.specs.Answers.{Answer}
 use Rattle.txn_machine.specs.Deltas.{RowChange, columns_of, place_of}
-use Rattle.txn_machine.specs.Keeping.{KeptStep}
-use Rattle.txn_machine.specs.Store.{committed, schema_of, now, changes_by, Effect, Opens, Ghosts, Undoes, Ends, Commits, Prunes}
+use Rattle.txn_machine.specs.Store.{committed, schema_of, now, changes_by, Effect, Opens, Ghosts, Undoes, Ends, Prunes}
 use Rattle.txn_machine.specs.State.{State}
 use Rattle.txn_machine.specs.Steps.{Says, CommitsAs, MakesGhost}
 use Rattle.machine_answers.specs.Answered.{IsOfState}
