@@ -1,0 +1,158 @@
+-- A CREATE statement is bound to an object or refused, some session has a transaction open or none has, and there is room or not.
+use Rattle.std.specs.Prelude.{◌≡◌, ◌⊎◌, ℕ, ◌+◌, ◌≤◌, ◌<◌, Bool, true, false, cond, List, [], ◌∷◌, map, Option, Some, None, IsSome, is_some, Result, Ok, Err, if◌then◌else◌}
+use Rattle.std.specs.List.{AllByRecursion, list_any}
+use Rattle.std.specs.Option.{option_and_then}
+use mathlib.Core.Path.{refl, sym, ap, ◌∙◌}
+use mathlib.Core.Logic.{inl, inr}
+use Rattle.iv_types.specs.declared.refusal.Refusal.{Refusal}
+use Rattle.iv_types.specs.declared.refusal.Refusal.TheVariants.{UnknownName, NumberRange}
+use Rattle.iv_types.specs.declared.refusal.EngineRefusal.TheVariants as refusal
+use Rattle.iv_types.specs.declared.catalog.TableDef.{TableDef}
+use Rattle.iv_types.specs.Syntax.{StatementTree, create_table, create_index, create_view}
+use Rattle.iv_meaning.specs.Schema.{Schema, Object, ViewTree, table, index, view, named, as_table, as_index, as_view}
+use Rattle.iv_meaning.specs.Database.{Database}
+use Rattle.iv_meaning.specs.Names.{Visible, scope_of, visible, name_faults, object_taken, object_unknown, view_item_faults, from_faults, relation_faults}
+use Rattle.iv_meaning.specs.Shape.{is_index, is_view, rules_of}
+use Rattle.iv_meaning.specs.View.{whole_view}
+use Rattle.iv_meaning.specs.Statement as statement
+use Rattle.iv_meaning.specs.Statement.{Kept, defines, Meaning, Refused, Accepted, BoundTree, create, create_meaning, bound_meaning}
+use Rattle.iv_meaning.specs.Binding.{bind, unless, faults, bound_to, made_view}
+use Rattle.query_laws.proofs.SoundLemmas.{Keeps, rules_hold, neither, nothing_first, nothing_second}
+use Rattle.txn_machine.specs.Acts as act
+use Rattle.txn_machine.specs.Answers as answer
+use Rattle.txn_machine.specs.Store.{Store, committed, schema_of, Defines}
+use Rattle.txn_machine.specs.Counts.{entry_size, definition_size, most_of_history}
+use Rattle.txn_machine.specs.Log.{Within, Above, reserved, definition_need}
+use Rattle.txn_machine.specs.State.{State}
+use Rattle.txn_machine.specs.May.{IsCreate}
+use Rattle.txn_machine.specs.Steps.{NoneIsOpen, IsBusy, Makes, made_need, FitsLog, FitsData, unbound, refused, used_data, history_bytes}
+use Rattle.machine_answers.proofs.Saying.{HasAnswer}
+use Rattle.machine_answers.proofs.Choosing.{at_most_or_more, within_or_above, there_or_not, least_or_none}
+
+-- ---- what it is bound to
+
+no_fault : (fs : List Refusal) (made what : BoundTree) → unless fs made ≡ Ok what → fs ≡ []
+no_fault [] made what e = refl
+no_fault (f ∷ fs) made what e = absurd (cc)
+
+-- what a view's query begins with is a table
+first_there : (o : Option Object) (name : List ℕ) → cond (is_some o) [] (UnknownName name ∷ []) ≡ [] → is_some (option_and_then as_index o) ≡ false → is_some (option_and_then as_view o) ≡ false
+    → (t : TableDef) × (option_and_then as_table o ≡ Some t)
+first_there None name known no_index no_view = absurd (cc)
+first_there (Some (table t)) name known no_index no_view = (t, refl)
+first_there (Some (index i)) name known no_index no_view = absurd (cc)
+first_there (Some (view v)) name known no_index no_view = absurd (cc)
+
+creates : (objects : Schema) (s : StatementTree) (what : BoundTree) → IsCreate s → bind objects s ≡ Ok what → (o : Object) × (what ≡ create o)
+creates objects (create_table name columns primary) what is e = (_, sym (rules_hold objects (create_table name columns primary) what e).1)
+creates objects (create_index name target columns) what is e = (_, sym (rules_hold objects (create_index name target columns) what e).1)
+creates objects (create_view name q) what is e =
+    let bound = rules_hold objects (create_view name q) what e in
+    let scope : List Visible = scope_of objects q in
+    let rules : AllByRecursion Keeps (rules_of objects (create_view name q)) = bound.0 in
+    let names : name_faults objects (create_view name q) ≡ [] = nothing_first (name_faults objects (create_view name q)) _ (no_fault (faults objects (create_view name q)) (bound_to objects (create_view name q)) what e) in
+    let behind : from_faults objects scope q ≡ [] = nothing_second (view_item_faults scope [] q.items) _ (nothing_second (object_taken objects name) _ names) in
+    let known : object_unknown objects q.first.name ≡ [] = nothing_first (object_unknown objects q.first.name) _ (nothing_first (relation_faults objects [] q.first) _ behind) in
+    let no_index = (neither (is_index (visible objects q.first)) (list_any is_index (map (visible objects) (map (λ join. join.relation) q.joins))) rules.1.0).0 in
+    let no_view = (neither (is_view (visible objects q.first)) (list_any is_view (map (visible objects) (map (λ join. join.relation) q.joins))) rules.1.1.1.1.1.1.1.0).0 in
+    let first = first_there (named objects q.first.name) q.first.name known no_index no_view in (
+      made_view objects name q scope first.0,
+      sym bound.1 ∙ ap (λ (f : Option TableDef). elim f [ None ↦ statement.control | Some t ↦ create (made_view objects name q scope t) ]) first.1,
+    )
+creates objects _ what is e = absurd is
+
+-- what it means
+
+-- of a view it is a refusal or the view
+abbrev made_or_not : ViewTree → Bool → Meaning
+made_or_not v readable = if readable then Accepted [] 0 (defines (view v) ∷ []) else Refused NumberRange
+
+abbrev IsMeant : Meaning → Type 0
+IsMeant m = ((count : ℕ) × (kept : List Kept) × (m ≡ Accepted [] count kept)) ⊎ ((why : Refusal) × (m ≡ Refused why))
+
+view_means : (v : ViewTree) (readable : Bool) → IsMeant (made_or_not v readable)
+view_means v true = inl (0, defines (view v) ∷ [], refl)
+view_means v false = inr (NumberRange, refl)
+
+means : (o : Object) (db : Database) → IsMeant (create_meaning o db)
+means (table t) db = inl (0, defines (table t) ∷ [], refl)
+means (index i) db = inl (0, defines (index i) ∷ [], refl)
+means (view v) db = view_means v (is_some (whole_view db.schema db.rows v))
+
+-- ---- who is busy
+
+nothing_there : {X : Type 0} (o : Option X) → (IsSome o → ⊥) → o ≡ None
+nothing_there None lacks = refl
+nothing_there (Some x) lacks = absurd (lacks refl)
+
+busy_or_none : (s : Store) → ((session : ℕ) × IsBusy s session) ⊎ NoneIsOpen s
+busy_or_none s = elim (least_or_none (λ n. IsSome (s.open_of n)) (λ n. there_or_not (s.open_of n)) 64) [
+  | inl l ↦ inl (
+    l.number,
+    record {
+      of_session = (l.first, l.last);
+      is_open = l.has;
+      least = λ other is less. nothing_there (s.open_of other) (l.least other is.0 less);
+    },
+  )
+  | inr none ↦ inr (λ session is. nothing_there (s.open_of session) (none session is.0 is.1))
+]
+
+-- ---- Schema
+
+module _ (s : State) (session : ℕ) (statement : StatementTree) where
+  module _ (object : Object) (makes : Makes s.store statement object) (none : NoneIsOpen s.store)
+      (accepted : (count : ℕ) × (kept : List Kept) × (bound_meaning (create object) (committed s.store) ≡ Accepted [] count kept)) where
+    in_history : FitsLog s (definition_need statement) → FitsData s (made_need s.store statement object)
+        → (history_bytes s + (entry_size + definition_size statement) ≤ most_of_history) ⊎ (most_of_history < history_bytes s + (entry_size + definition_size statement)) → HasAnswer s session (act.Schema statement)
+    in_history log_room data_room (inl fits) = record {
+      said = answer.Committed ((committed s.store).number + 1);
+      effects = Defines object ∷ [];
+      of_state = tt;
+      says = record { object = object; makes = makes; none_open = none; accepted = accepted; log_room = log_room; data_room = data_room; room = fits; number_is = refl; effects = refl };
+    }
+    in_history log_room data_room (inr full) = record {
+      said = answer.Refused (refusal.HistoryFull (history_bytes s) (entry_size + definition_size statement));
+      effects = [];
+      of_state = tt;
+      says = (record { object = object; makes = makes; none_open = none; accepted = accepted; log_room = log_room; data_room = data_room; need_is = refl; full = record { kept_is = refl; full = full } }, refl);
+    }
+
+    in_data : FitsLog s (definition_need statement)
+        → Within s.opening.data_limit (used_data s + made_need s.store statement object) ⊎ Above s.opening.data_limit (used_data s + made_need s.store statement object) → HasAnswer s session (act.Schema statement)
+    in_data log_room (inl fits) = in_history log_room fits (at_most_or_more (history_bytes s + (entry_size + definition_size statement)) most_of_history)
+    in_data log_room (inr full) = record {
+      said = answer.Refused (refusal.DataFull (used_data s) (made_need s.store statement object));
+      effects = [];
+      of_state = tt;
+      says = (record { object = object; makes = makes; none_open = none; accepted = accepted; log_room = log_room; need_is = refl; full = record { used_is = refl; full = full } }, refl);
+    }
+
+    in_log : HasAnswer s session (act.Schema statement)
+    in_log = elim (within_or_above s.opening.log_limit (s.log.used + reserved s.store s.log + definition_need statement)) [
+      | inl fits ↦ in_data fits (within_or_above s.opening.data_limit (used_data s + made_need s.store statement object))
+      | inr full ↦ record {
+        said = answer.Refused (refusal.LogFull s.log.used (reserved s.store s.log) (definition_need statement));
+        effects = [];
+        of_state = tt;
+        says = (record { object = object; makes = makes; none_open = none; accepted = accepted; need_is = refl; full = record { used_is = refl; reserved_is = refl; full = full } }, refl);
+      }
+    ]
+
+  made : (object : Object) → Makes s.store statement object → HasAnswer s session (act.Schema statement)
+  made object makes = elim (busy_or_none s.store) [
+    | inl (busy, is) ↦ record { said = answer.Refused (refusal.SchemaBusy busy); effects = []; of_state = tt; says = (record { object = object; makes = makes; least = is }, refl) }
+    | inr none ↦ elim (means object (committed s.store)) [
+      | inl accepted ↦ in_log object makes none accepted
+      | inr (why, e) ↦ record { said = answer.Denied why; effects = []; of_state = tt; says = (refused object makes none e, refl) }
+    ]
+  ]
+
+  pub defines_it : IsCreate statement → HasAnswer s session (act.Schema statement)
+  defines_it is = by (bind (schema_of s.store) statement) refl
+    where
+      by : (b : Result BoundTree Refusal) → bind (schema_of s.store) statement ≡ b → HasAnswer s session (act.Schema statement)
+      by (Err why) e = record { said = answer.Denied why; effects = []; of_state = tt; says = (unbound e, refl) }
+      by (Ok what) e =
+          let o = creates (schema_of s.store) statement what is e in
+          made o.0 (record { bound = e ∙ ap (λ (b : BoundTree). Ok b) o.1 })

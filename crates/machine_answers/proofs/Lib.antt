@@ -1,0 +1,15 @@
+pub mod Answering
+pub mod Choosing
+pub mod Cleaning
+pub mod Defining
+pub mod Found
+pub mod Granted
+pub mod Only
+pub mod OnlyAll
+pub mod OnlyDefining
+pub mod OnlyGranted
+pub mod OnlySimple
+pub mod OnlyWaiting
+pub mod Saying
+pub mod Simple
+pub mod Waiting
