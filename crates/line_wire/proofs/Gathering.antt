@@ -131,10 +131,10 @@ gathering_more before long all was size count old mid new left left' g end adds 
           (more before long old.text mid.text (before_lf old.held) all (new.held ++ f.rest) (before_lf_twice old.held) adds (subst (λ (xs : List ℕ). InLine old.text before all xs) ahead g.line));
     }
 
--- no more may be taken
-pub gathering_stops : (before : Bool) (all : List ℕ) (was size : ℕ) (old new : Reading) (left : Option (List ℕ)) → Gathering before all was size old left → before_lf old.held ≡ old.held → new.taken ≡ old.taken → NoLineTaken all was size new left
-gathering_stops before all was size old new left g end taken = record {
-  counted = record { rest = g.counted.rest; tells = g.counted.tells; count = omega (arith, g.counted.count, taken) };
+-- no more is taken
+pub gathering_stops : (before : Bool) (all : List ℕ) (was size : ℕ) (old new : Reading) (left left' : Option (List ℕ)) → Gathering before all was size old left → before_lf old.held ≡ old.held → new.taken ≡ old.taken → ((bytes : List ℕ) → left ≡ Some bytes → left' ≡ Some bytes) → NoLineTaken all was size new left'
+gathering_stops before all was size old new left left' g end taken stays = record {
+  counted = record { rest = g.counted.rest; tells = stays g.counted.rest g.counted.tells; count = omega (arith, g.counted.count, taken) };
   front = g.line.front ++ old.held;
   whole = g.line.whole ∙ sym (append_assoc g.line.front old.held g.counted.rest);
   no_lf = before_lf-append g.line.front old.held g.line.no_end ∙ ap (λ (xs : List ℕ). g.line.front ++ xs) end;

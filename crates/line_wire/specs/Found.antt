@@ -37,8 +37,7 @@ pub record NoLineTaken (ahead : List ℕ) (before size : ℕ) (now : Reading) (l
 
 abbrev pub Found : Result Line LineFault → List ℕ → ℕ → ℕ → Reading → Option (List ℕ) → Type 0
 Found (Ok line) ahead before size now left = FoundLine line ahead before size now left
-Found (Err TooMuch) ahead before size now left = NoLineTaken ahead before size now left
-Found (Err ReadFault) ahead before size now left = Unit {0}
+Found (Err fault) ahead before size now left = NoLineTaken ahead before size now left
 
 -- how many bytes were taken, by what was found
 abbrev pub Took : Result Line LineFault → ℕ → Type 0

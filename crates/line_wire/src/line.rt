@@ -167,6 +167,7 @@ impl LineBuffer {
         requires used { self.old.held ≡ [] }
         requires room { self.old.taken < most_bytes }
         ensures filled { (bytes : List ℕ) → S.left source.old ≡ Some bytes → IfOk result (λ count. Filled bytes count self.old.taken self.new (S.left source.new)) }
+        ensures nothing { (bytes : List ℕ) → S.left source.old ≡ Some bytes → OnErr result (S.left source.new ≡ Some bytes) }
         ensures taken { IfOk result (λ count. self.new.taken ≡ self.old.taken + count) }
         ensures held { IfOk result (λ count. length self.new.held ≡ count) }
         ensures most { self.new.taken ≤ most_bytes }
@@ -207,6 +208,7 @@ fn take_front<S: Source>(source: &mut S, chunk: &mut [u8], room: usize) -> Resul
     requires some { 0 < room }
     ensures count { IfOk result (λ count. count ≤ room) }
     ensures bytes { (bytes : List ℕ) → S.left source.old ≡ Some bytes → IfOk result (λ count. Gives bytes count chunk.new (S.left source.new)) }
+    ensures nothing { (bytes : List ℕ) → S.left source.old ≡ Some bytes → OnErr result (S.left source.new ≡ Some bytes) }
     ensures length { length chunk.new ≡ length chunk.old }
     ensures fault { CountsFault result (S.faults source.old) (S.faults source.new) }
 {
@@ -264,8 +266,8 @@ fn last(text: &[u8], long: bool) -> Line
 
 /// Reads the next line of a source, of which the buffer holds what was taken already.
 ///
-/// `ReadFault` comes only where the source failed, and what was begun of the line is lost then; `TooMuch` exactly
-/// where all the bytes that may be taken were taken and no LF is left among them.
+/// `ReadFault` comes only where the source failed, and what was begun of the line, in which no LF is, is lost then;
+/// `TooMuch` exactly where all the bytes that may be taken were taken and no LF is left among them.
 pub fn read_line<S: Source>(source: &mut S, kept: &mut LineBuffer) -> Result<Line, LineFault>
     // Where the source tells what is left, this is the first line of what is ahead.
     ensures found { (bytes : List ℕ) → S.left source.old ≡ Some bytes → Found result (kept.old.held ++ bytes) kept.old.taken (length bytes) kept.new (S.left source.new) }

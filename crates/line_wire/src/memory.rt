@@ -50,6 +50,7 @@ impl Source for ListSource {
         requires { 0 < length into.old }
         ensures within { IfOk result (λ count. count ≤ length into.new) }
         ensures bytes { (bytes : List ℕ) → ◌≡◌ {A = Option (List ℕ)} (Some (bytes_left self.old)) (Some bytes) → IfOk result (λ count. Gives bytes count into.new (Some (bytes_left self.new))) }
+        ensures nothing { (bytes : List ℕ) → ◌≡◌ {A = Option (List ℕ)} (Some (bytes_left self.old)) (Some bytes) → OnErr result (◌≡◌ {A = Option (List ℕ)} (Some (bytes_left self.new)) (Some bytes)) }
         ensures fault { CountsFault result self.old.faults self.new.faults }
 
         // It fails exactly at the listed calls.

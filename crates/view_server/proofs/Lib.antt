@@ -2,3 +2,4 @@ pub mod Digits
 pub mod Reading
 pub mod Running
 pub mod Serving
+pub mod Apart

@@ -1,6 +1,8 @@
 -- What a run has read and written, by the status with which it ends.
-use Rattle.std.specs.Prelude.{◌≡◌, ◌⊎◌, ◌+◌, ◌<◌, ℕ, List, [], ◌∷◌, ◌++◌, length, map, codes, Option, Some, String, string_bytes}
+use Rattle.std.specs.Prelude.{◌≡◌, ◌≢◌, ◌⊎◌, ◌+◌, ◌<◌, ℕ, List, [], ◌∷◌, ◌++◌, length, map, codes, Option, Some, String, string_bytes}
+use Rattle.std.specs.List.{AllByRecursion}
 use Rattle.iv_types.specs.Faults.{Rose}
+use Rattle.iv_meaning.specs.Lines.{lines_of}
 use Rattle.iv_meaning.specs.Autocommit.{IsScriptOutput, AnswersFirstLines, IsScriptOutputPart}
 use Rattle.line_wire.specs.Wire.{WroteFront, most_bytes}
 use Rattle.view_server.specs.declared.status.Status.{Status}
@@ -13,20 +15,32 @@ IsScript words = map string_bytes words ≡ codes "script" ∷ codes "-" ∷ []
 abbrev pub usage_text : List ℕ
 usage_text = codes "usage: iv init FILE, script FILE, serve FILE, make NUMBER\n"
 
--- What was written for an input: with Done the whole output; with a fault of the source, a want of memory or too much
--- input, the output for the first lines; with a fault of the sink, the front of such an output.
-abbrev pub Answered : Status → List ℕ → List ℕ → Type 0
-Answered Done input out = IsScriptOutput input out
-Answered Usage input out = Unit {0}
-Answered ReadFault input out = AnswersFirstLines input out
-Answered WriteFault input out = IsScriptOutputPart input out
-Answered NoMemory input out = AnswersFirstLines input out
-Answered TooMuch input out = AnswersFirstLines input out
+-- Each whole line that was taken is answered. What else was taken begins a line, and the rest is left.
+pub record AnswersTaken (input : List ℕ) (left : Option (List ℕ)) (out : List ℕ) : Type 0 where
+  pub lines : List ℕ
+  pub begun : List ℕ
+  pub rest : List ℕ
+  pub tells : left ≡ Some rest
+  pub split : input ≡ lines ++ (begun ++ rest)
+  pub apart : lines_of input ≡ lines_of lines ++ lines_of (begun ++ rest)
+  pub no_end : AllByRecursion (λ b. b ≢ 10) begun
+  pub answered : IsScriptOutput lines out
 
-pub record Output (status : Status) (input before : List ℕ) (written : Option (List ℕ)) : Type 0 where
+-- What was written for an input of which this is left: with Done the whole output; with a fault of the source or too much
+-- input, that of the lines that were taken, and with want of memory of some first lines; with a fault of the sink, the front
+-- of such an output.
+abbrev pub Answered : Status → List ℕ → Option (List ℕ) → List ℕ → Type 0
+Answered Done input left out = IsScriptOutput input out
+Answered Usage input left out = Unit {0}
+Answered ReadFault input left out = AnswersTaken input left out
+Answered WriteFault input left out = IsScriptOutputPart input out
+Answered NoMemory input left out = AnswersFirstLines input out
+Answered TooMuch input left out = AnswersTaken input left out
+
+pub record Output (status : Status) (input before : List ℕ) (left written : Option (List ℕ)) : Type 0 where
   pub out : List ℕ
   pub wrote : written ≡ Some (before ++ out)
-  pub answered : Answered status input out
+  pub answered : Answered status input left out
 
 -- all was taken from the source, and it was less than may be taken
 pub record TookAll (input : List ℕ) (left : Option (List ℕ)) : Type 0 where

@@ -135,7 +135,7 @@ fn finish<K: Sink>(sink: &mut K, waiting: &[u8], status: Status) -> Status
 // Answers the lines of a source.
 fn answer_lines<S: Source, K: Sink>(alloc: Global, source: &mut S, sink: &mut K) -> Status
     ensures command { result ≢ Status.Usage }
-    ensures output { (input before : List ℕ) → S.left source.old ≡ Some input → K.written sink.old ≡ Some before → Output result input before (K.written sink.new) }
+    ensures output { (input before : List ℕ) → S.left source.old ≡ Some input → K.written sink.old ≡ Some before → Output result input before (S.left source.new) (K.written sink.new) }
     ensures taken { (input : List ℕ) → S.left source.old ≡ Some input → Taken result input (S.left source.new) }
     ensures source_faults { SourceFaults result (S.faults source.old) (S.faults source.new) }
     ensures sink_faults { SinkFaults result (K.faults sink.old) (K.faults sink.new) }
@@ -191,7 +191,7 @@ pub fn run<S: Source, K: Sink>(
     ensures told { (before : List ℕ) → K.written sink.old ≡ Some before → result ≡ Status.Usage → ToldUsage before (K.written sink.new) (K.faults sink.old) (K.faults sink.new) }
 
     // Where the source tells its bytes and the sink what was written, the output is that of the input.
-    ensures output { (input before : List ℕ) → S.left source.old ≡ Some input → K.written sink.old ≡ Some before → result ≢ Status.Usage → Output result input before (K.written sink.new) }
+    ensures output { (input before : List ℕ) → S.left source.old ≡ Some input → K.written sink.old ≡ Some before → result ≢ Status.Usage → Output result input before (S.left source.new) (K.written sink.new) }
     ensures taken { (input : List ℕ) → S.left source.old ≡ Some input → Taken result input (S.left source.new) }
 
     // A fault is told only where there was one.

@@ -18,7 +18,11 @@ returns-then-gather-clause-found g c = λ bytes e.
 
 pub returns-then-taken-eq-MOST_BYTES-clause-found : goal.returns-then-taken-eq-MOST_BYTES-clause-found
 returns-then-taken-eq-MOST_BYTES-clause-found g c = λ bytes e.
-    gathering_stops c.loop-kept.long _ _ _ c.loop-kept.kept c.gather.new.self _ (c.loop-kept.invariant.gathering bytes e) c.if-gather.ensures.end.0 c.gather.ensures.taken
+    gathering_stops c.loop-kept.long _ _ _ c.loop-kept.kept c.gather.new.self _ _ (c.loop-kept.invariant.gathering bytes e) c.if-gather.ensures.end.0 c.gather.ensures.taken (λ left same. same)
+
+pub returns-in_default-clause-found : goal.returns-in_default-clause-found
+returns-in_default-clause-found g c = λ bytes e.
+    gathering_stops c.loop-kept.long _ _ _ c.loop-kept.kept c.fill.new.self _ _ (c.loop-kept.invariant.gathering bytes e) c.if-gather.ensures.end.0 (c.in_default.ensures.err.1 ∙ c.gather.ensures.taken) c.in_default.ensures.nothing
 
 pub returns-then-count-eq0-clause-found : goal.returns-then-count-eq0-clause-found
 returns-then-count-eq0-clause-found g c = λ bytes e.

@@ -14,7 +14,7 @@ use Rattle.list_engine.specs.declared.engine.ListEngine.{ListEngine}
 use Rattle.list_engine.specs.Engine.{IsIn}
 use Rattle.view_server.specs.Answered.{IsIdle, AnswersLine, IsAnswered, IsRun}
 use Rattle.view_server.proofs.Running.{ran}
-use Rattle.view_server.proofs.Serving.{append_none}
+use Rattle.view_server.proofs.Apart.{append_none}
 use Rattle.view_server.proofs.script.answer.Goals as goal
 
 -- a line that changes nothing

@@ -4,7 +4,7 @@ use Rattle.iv_meaning.specs.Serial.{opened_with}
 use Rattle.line_wire.specs.declared.line.Line.TheVariants.{Text, TooLong, End}
 use Rattle.view_server.specs.Answered.{Finishes}
 use Rattle.view_server.specs.declared.status.Status.TheVariants.{Done, ReadFault, NoMemory, TooMuch}
-use Rattle.view_server.proofs.Serving.{Serving, begun, moved, served, first_lines, whole, front, ended, taken_by, took_all}
+use Rattle.view_server.proofs.Serving.{Serving, begun, moved, served, first_lines, taken_lines, whole, front, ended, taken_by, took_all}
 use Rattle.view_server.proofs.script.answer_lines.Goals as goal
 
 not_end_text : Text ≢ End
@@ -24,13 +24,13 @@ loop-lines-init g c = record {
 pub returns-in-Err-clause-output : goal.returns-in-Err-clause-output
 returns-in-Err-clause-output g c = λ input before e w.
     let s = c.loop-lines.invariant.held.3 input before e w in
-    front _ _ _ _ _ _ _ _ s (c.in-Err.ensures.err (before ++ s.out) s.wrote)
+    front _ _ _ _ _ _ _ _ _ s (c.in-Err.ensures.err (before ++ s.out) s.wrote)
 
 pub returns-in-Ok-End-clause-output : goal.returns-in-Ok-End-clause-output
 returns-in-Ok-End-clause-output g c = λ input before e w.
     let was = c.loop-lines.invariant.held.3 input before e w in
     let s = moved _ _ _ _ _ _ _ _ _ was (c.in_default-flush.ensures.ok (before ++ was.out) was.wrote) in
-    ended Done _ _ _ _ _ _ _ _ _ s (rw c.deref.ensures.value at (c.finish.ensures.written (before ++ s.out) s.wrote))
+    ended Done _ _ _ _ _ _ _ _ _ _ s (rw c.deref.ensures.value at (c.finish.ensures.written (before ++ s.out) s.wrote))
     (whole _ _ _ _ _ _ _ _ _ s (rw c.in-Ok-End.field-0-is at (c.in-Ok-End.ensures.found s.rest s.tells)))
 
 pub returns-in-Ok-End-clause-taken : goal.returns-in-Ok-End-clause-taken
@@ -43,7 +43,7 @@ pub returns-in-Err-answer_line-clause-output : goal.returns-in-Err-answer_line-c
 returns-in-Err-answer_line-clause-output g c = λ input before e w.
     let was = c.loop-lines.invariant.held.3 input before e w in
     let s = moved _ _ _ _ _ _ _ _ _ was (c.in_default-flush.ensures.ok (before ++ was.out) was.wrote) in
-    ended NoMemory _ _ _ _ _ _ _ _ _ s
+    ended NoMemory _ _ _ _ _ _ _ _ _ _ s
     (subst (λ (waits : List ℕ). Finishes NoMemory c.finish-in-Err-answer_line.result (before ++ s.out) waits (g.K.Sink.written c.finish-in-Err-answer_line.new.sink)) c.in-Err-answer_line.ensures.err (rw c.deref-in-Err-answer_line.ensures.value at (c.finish-in-Err-answer_line.ensures.written (before ++ s.out) s.wrote)))
     (first_lines _ _ _ _ _ _ _ s)
 
@@ -71,7 +71,7 @@ pub returns-in-Err-refuse_line-clause-output : goal.returns-in-Err-refuse_line-c
 returns-in-Err-refuse_line-clause-output g c = λ input before e w.
     let was = c.loop-lines.invariant.held.3 input before e w in
     let s = moved _ _ _ _ _ _ _ _ _ was (c.in_default-flush.ensures.ok (before ++ was.out) was.wrote) in
-    ended NoMemory _ _ _ _ _ _ _ _ _ s
+    ended NoMemory _ _ _ _ _ _ _ _ _ _ s
     (subst (λ (waits : List ℕ). Finishes NoMemory c.finish-in-Err-refuse_line.result (before ++ s.out) waits (g.K.Sink.written c.finish-in-Err-refuse_line.new.sink)) c.in-Err-refuse_line.ensures.err (rw c.deref-in-Err-refuse_line.ensures.value at (c.finish-in-Err-refuse_line.ensures.written (before ++ s.out) s.wrote)))
     (first_lines _ _ _ _ _ _ _ s)
 
@@ -98,10 +98,12 @@ pub returns-in-Err-ReadFault-clause-output : goal.returns-in-Err-ReadFault-claus
 returns-in-Err-ReadFault-clause-output g c = λ input before e w.
     let was = c.loop-lines.invariant.held.3 input before e w in
     let s = moved _ _ _ _ _ _ _ _ _ was (c.in_default-flush.ensures.ok (before ++ was.out) was.wrote) in
-    ended ReadFault _ _ _ _ _ _ _ _ _ s (rw c.deref-in-Err-ReadFault.ensures.value at (c.finish-in-Err-ReadFault.ensures.written (before ++ s.out) s.wrote)) (first_lines _ _ _ _ _ _ _ s)
+    ended ReadFault _ _ _ _ _ _ _ _ _ _ s (rw c.deref-in-Err-ReadFault.ensures.value at (c.finish-in-Err-ReadFault.ensures.written (before ++ s.out) s.wrote))
+    (taken_lines _ _ _ _ _ _ _ _ _ s (c.in-Err-ReadFault.ensures.found s.rest s.tells))
 
 pub returns-in-Err-TooMuch-clause-output : goal.returns-in-Err-TooMuch-clause-output
 returns-in-Err-TooMuch-clause-output g c = λ input before e w.
     let was = c.loop-lines.invariant.held.3 input before e w in
     let s = moved _ _ _ _ _ _ _ _ _ was (c.in_default-flush.ensures.ok (before ++ was.out) was.wrote) in
-    ended TooMuch _ _ _ _ _ _ _ _ _ s (rw c.deref-in-Err-TooMuch.ensures.value at (c.finish-in-Err-TooMuch.ensures.written (before ++ s.out) s.wrote)) (first_lines _ _ _ _ _ _ _ s)
+    ended TooMuch _ _ _ _ _ _ _ _ _ _ s (rw c.deref-in-Err-TooMuch.ensures.value at (c.finish-in-Err-TooMuch.ensures.written (before ++ s.out) s.wrote))
+    (taken_lines _ _ _ _ _ _ _ _ _ s (c.in-Err-TooMuch.ensures.found s.rest s.tells))
