@@ -31,3 +31,4 @@ pub mod Damaging
 pub mod Groups
 pub mod Passing
 pub mod Rooming
+pub mod Enlarging

@@ -19,6 +19,8 @@ use Rattle.table_laws.proofs.Tables.{same_table}
 use Rattle.iv_meaning.specs.Schema.{Schema, ViewTree}
 use Rattle.iv_meaning.specs.Database.{Rows, Database}
 use Rattle.txn_machine.specs.Counts.{sum_over}
+use Rattle.txn_machine.specs.KeptLaws.{IsDelta}
+use Rattle.iv_types.specs.declared.lock.GroupDelta.{GroupDelta}
 use Rattle.txn_machine.specs.Deltas.{negated, place_of, columns_of}
 use Rattle.txn_machine.specs.Keeping.{KeptStep, Put, Pay, Open}
 use Rattle.txn_machine.specs.Stored.{ViewRows, add_to, plus, AreStored, IsStoredRow}
@@ -130,33 +132,36 @@ rows_back objects (x ∷ xs) rows stored h = one x.what h.0 (rows_back objects x
 
 -- ---- view rows
 
+width : (objects : Schema) (place : Place) (ms ns : List ℤ) → IsStoredRow objects place ms → IsStoredRow objects place ns → length ms ≡ length ns
+width objects place ms ns a b = a.width ∙ (ap (λ (v : ViewTree). suc (length v.sums)) (same_view a.of b.of (sym a.view_is ∙ b.view_is)) ∙ sym b.width)
+
+-- a delta leaves the width of the row that it is added to
+pub added_entries : (objects : Schema) (stored : ViewRows) (d : GroupDelta) → IsDelta objects d → AreStored objects stored → IsSome (get stored (place_of d)) → view_entries (add_to stored d) ≡ view_entries stored
+added_entries objects stored d delta are = some (get stored (place_of d)) refl
+  where
+    some : (o : Option (List ℤ)) → get stored (place_of d) ≡ o → IsSome o → view_entries (add_to stored d) ≡ view_entries stored
+    some None e h = absurd (false≢true h)
+    some (Some ns) e h =
+        let p : Place = place_of d in
+        let stays : AreStored objects (add_to stored d) = add_stored objects stored d are delta in
+        let ms : List ℤ = plus (unwrap_or (get stored p) []) (columns_of d) in
+        let there : get (add_to stored d) p ≡ Some ms = written_at stored p (Some ms) p refl in
+        let long : length ms ≡ length ns = width objects p ms ns (stays p ms there) (are p ns e) in
+        let moved = wrote_total (λ (q : Place) (xs : List ℤ). view_entry q (length xs)) stored p (Some ms) in
+        let before = ap (λ (o : Option (List ℤ)). option_map_or (λ xs. view_entry p (length xs)) o 0) e in
+        let same = ap (view_entry p) long in
+        omega (arith, moved, before, same)
+
 pub view_back : (objects : Schema) (xs : List Deed) (rows : Rows) (stored : ViewRows) → AllBack xs rows stored → AllDeeds (IsShaped objects) xs → AreStored objects stored → view_entries (all_view_back xs stored) ≡ view_entries stored
 view_back objects [] rows stored h shaped are = refl
 view_back objects (x ∷ xs) rows stored h shaped are = one x.what h.0 shaped.0 (λ later. view_back objects xs (rows_without x.what rows) (view_without x.what stored) h.1 shaped.1 later)
   where
-    width : (place : Place) (ms ns : List ℤ) → IsStoredRow objects place ms → IsStoredRow objects place ns → length ms ≡ length ns
-    width place ms ns a b = a.width ∙ (ap (λ (v : ViewTree). suc (length v.sums)) (same_view a.of b.of (sym a.view_is ∙ b.view_is)) ∙ sym b.width)
-
     one : (w : What) → BackFits rows stored w → IsShaped objects w → (AreStored objects (view_without w stored) → view_entries (all_view_back xs (view_without w stored)) ≡ view_entries (view_without w stored))
         → view_entries (all_view_back xs (view_without w stored)) ≡ view_entries stored
     one (Wrote c) there shape rest = rest are
     one (Added d) there shape rest =
-        let p : Place = place_of d in
-        let after : ViewRows = add_to stored (negated d) in
-        let stays : AreStored objects after = add_stored objects stored (negated d) are (negated_is objects d shape) in
-        rest stays ∙ some (get stored p) refl there.0 stays
-      where
-        some : (o : Option (List ℤ)) → get stored (place_of d) ≡ o → IsSome o → AreStored objects (add_to stored (negated d)) → view_entries (add_to stored (negated d)) ≡ view_entries stored
-        some None e h stays = absurd (false≢true h)
-        some (Some ns) e h stays =
-            let p : Place = place_of d in
-            let ms : List ℤ = plus (unwrap_or (get stored p) []) (columns_of (negated d)) in
-            let there : get (add_to stored (negated d)) p ≡ Some ms = written_at stored p (Some ms) p refl in
-            let long : length ms ≡ length ns = width p ms ns (stays p ms there) (are p ns e) in
-            let moved = wrote_total (λ (q : Place) (xs : List ℤ). view_entry q (length xs)) stored p (Some ms) in
-            let before = ap (λ (o : Option (List ℤ)). option_map_or (λ xs. view_entry p (length xs)) o 0) e in
-            let same = ap (view_entry p) long in
-            omega (arith, moved, before, same)
+        let back : IsDelta objects (negated d) = negated_is objects d shape in
+        rest (add_stored objects stored (negated d) are back) ∙ added_entries objects stored (negated d) back are there.0
 
 -- ---- what each session keeps
 
