@@ -32,3 +32,4 @@ pub mod Groups
 pub mod Passing
 pub mod Rooming
 pub mod Enlarging
+pub mod Defining
