@@ -33,3 +33,4 @@ pub mod Passing
 pub mod Rooming
 pub mod Enlarging
 pub mod Defining
+pub mod Limiting
