@@ -2,7 +2,7 @@
 use Rattle.std.specs.Prelude.{◌≡◌, ◌≢◌, ℕ, zero, suc, ◌+◌, ◌≤◌, ℤ, Bool, true, false, List, [], ◌∷◌, ◌++◌, map, length, drop, Option, Some, None, IsSome, is_some}
 use Rattle.std.specs.List.{sum}
 use Rattle.std.specs.Option.{option_map_or}
-use Rattle.std.specs.FinMap.{get, entries}
+use Rattle.std.specs.FinMap.{get}
 use mathlib.Core.Path.{refl, sym, ap, subst, ◌∙◌}
 use Rattle.std.proofs.Common.{arith}
 use Rattle.iv_types.specs.declared.statement.Mode.{Mode}
@@ -14,24 +14,24 @@ use Rattle.table_laws.specs.Place.{Place}
 use Rattle.table_laws.specs.Table.{write}
 use Rattle.table_laws.proofs.Stored.{by_session}
 use Rattle.iv_meaning.specs.Schema.{Schema}
-use Rattle.iv_meaning.specs.Database.{Row, Rows}
+use Rattle.iv_meaning.specs.Database.{Row}
 use Rattle.iv_meaning.specs.Escrow.{IsSession}
 use Rattle.txn_machine.specs.Acts.{Act}
 use Rattle.txn_machine.specs.Locks.{with_one}
 use Rattle.txn_machine.specs.Deltas.{RowChange, negated, place_of, columns_of, owed}
 use Rattle.txn_machine.specs.Keeping.{KeptStep, Put, Pay, Open, begun, Note}
-use Rattle.txn_machine.specs.Stored.{ViewRows, AreStored, add_to, zeros}
+use Rattle.txn_machine.specs.Stored.{AreStored, zeros}
 use Rattle.txn_machine.specs.Ghosts.{Holds, the_views}
 use Rattle.txn_machine.specs.Counts.{sum_over}
 use Rattle.txn_machine.specs.KeptLaws.{IsDelta}
 use Rattle.txn_machine.specs.Log.{Within, Logged, Log, logs, still_owed, unghosted, row_entries, perhaps_entries, delta_entry, view_entry, view_entries, room_kept, data_bytes, change_need, logged_after, rest, undoes}
 use Rattle.txn_machine.specs.Steps.{with_ghost}
-use Rattle.txn_machine.specs.Store.{Store, committed, schema_of, now, locks_of, change_at, notes_before, paid_first, undone, Effect, Opens, Takes, Notes, Writes, Pays, Ghosts, Undoes, Loses, Ends, Commits, Cleans, Prunes, does}
+use Rattle.txn_machine.specs.Store.{Store, committed, schema_of, now, change_at, notes_before, paid_first, undone, Effect, Opens, Takes, Notes, Writes, Pays, Ghosts, Undoes, Loses, Ends, Commits, does}
 use Rattle.txn_machine.proofs.Agreeing.{written_at}
 use Rattle.txn_machine.proofs.Basics.{one_same, one_other, holds_more}
 use Rattle.txn_machine.proofs.Good.{the_open}
 use Rattle.txn_machine.proofs.Rings.{other_opens}
-use Rattle.txn_machine.proofs.LogSums.{sum_one, sum_same, sum_first}
+use Rattle.txn_machine.proofs.LogSums.{sum_one, sum_first}
 use Rattle.txn_machine.proofs.LogRoom.{within_less, IsThere, stay_there, logs_logged}
 use Rattle.txn_machine.proofs.Parting.{Leaves, stays_there}
 use Rattle.txn_machine.proofs.Shapes.{negated_is}

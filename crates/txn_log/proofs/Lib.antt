@@ -34,3 +34,4 @@ pub mod Rooming
 pub mod Enlarging
 pub mod Defining
 pub mod Limiting
+pub mod Staying

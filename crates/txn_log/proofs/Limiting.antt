@@ -1,7 +1,6 @@
 -- Over every run of the machine, the bytes of data stay within the limit.
 use Rattle.std.specs.Prelude.{◌≡◌, ℕ, zero, suc, ◌+◌, ◌≤◌, ℤ, List, [], ◌∷◌, ◌++◌, map, length, drop, Option, Some, None, IsSome}
 use Rattle.std.specs.List.{Contains, sum}
-use Rattle.std.specs.Option.{option_map_or}
 use Rattle.std.specs.FinMap.{get}
 use mathlib.Core.Path.{refl, sym, ap, subst, ◌∙◌}
 use mathlib.Core.Logic.{inl, inr}
@@ -9,7 +8,7 @@ use Rattle.std.proofs.Common.{arith}
 use Rattle.iv_types.specs.declared.session.Sessions.{Sessions}
 use Rattle.iv_types.specs.declared.session.Cycle.{Cycle}
 use Rattle.iv_types.specs.declared.statement.Mode.{Mode}
-use Rattle.iv_types.specs.declared.statement.Mode.TheVariants.{Serial, Snapshot}
+use Rattle.iv_types.specs.declared.statement.Mode.TheVariants.{Serial}
 use Rattle.iv_types.specs.declared.lock.GroupDelta.{GroupDelta}
 use Rattle.iv_types.specs.declared.lock.LockMode.TheVariants.{Increment}
 use Rattle.iv_types.specs.declared.lock.Want.{Want}
@@ -34,11 +33,11 @@ use Rattle.txn_machine.specs.Fresh.{fresh, made_of}
 use Rattle.txn_machine.specs.Ghosts.{Holds, the_views}
 use Rattle.txn_machine.specs.KeptLaws.{IsDelta}
 use Rattle.txn_machine.specs.ViewLaws.{AreSound}
-use Rattle.txn_machine.specs.Log.{Within, Logged, Log, Opening, logs, log_all, still_owed, view_entry, view_entries, definition_entries, made_entries, room_kept, data_bytes}
-use Rattle.txn_machine.specs.Store.{Store, committed, schema_of, now, changes_by, locks_of, change_at, Effect, Opens, Takes, Notes, Writes, Pays, Ghosts, Undoes, Loses, Ends, Commits, Defines, Cleans, Prunes, does, run}
+use Rattle.txn_machine.specs.Log.{Within, Logged, Log, logs, log_all, still_owed, view_entry, view_entries, definition_entries, made_entries, room_kept, data_bytes}
+use Rattle.txn_machine.specs.Store.{Store, committed, schema_of, now, changes_by, locks_of, change_at, Effect, Opens, Takes, Notes, Writes, Pays, Undoes, Loses, Ends, Commits, Defines, Cleans, Prunes, does, run}
 use Rattle.txn_machine.specs.State.{State}
 use Rattle.txn_machine.specs.May.{IsOpenIn, MayAct, Owes}
-use Rattle.txn_machine.specs.Steps.{NoneIsOpen, CommitsAs, Says, Does, with_ghost, log_after, definitions_after, texts_of, MayWait, MakesGhost, data_need, made_need}
+use Rattle.txn_machine.specs.Steps.{NoneIsOpen, CommitsAs, Says, Does, with_ghost, log_after, definitions_after, texts_of, MayWait, MakesGhost, data_need}
 use Rattle.txn_machine.proofs.Basics.{one_same, one_other}
 use Rattle.txn_machine.proofs.Agreeing.{written_at}
 use Rattle.txn_machine.proofs.Good.{PaysOn, stored_sound}
@@ -46,7 +45,6 @@ use Rattle.txn_machine.proofs.Holding.{contains_here}
 use Rattle.txn_machine.proofs.Looking.{view_laws}
 use Rattle.txn_machine.proofs.LogRoom.{within_less, IsThere, stay_there, logs_logged}
 use Rattle.txn_machine.proofs.LogSums.{sum_same, sum_none}
-use Rattle.txn_machine.proofs.Moving.{may_of}
 use Rattle.txn_machine.proofs.Parting.{stays_there}
 use Rattle.txn_machine.proofs.Reached.{may_define}
 use Rattle.txn_machine.proofs.Runs.{CanDefine, committed_after, defined, rows_are}

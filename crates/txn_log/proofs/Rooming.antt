@@ -28,20 +28,17 @@ use Rattle.txn_machine.specs.Log.{Log, row_entries, perhaps_entries, growth_back
 use Rattle.txn_machine.specs.Store.{Store, schema_of, now}
 use Rattle.txn_machine.proofs.Agreeing.{by_place, written_at, written_other}
 use Rattle.txn_machine.proofs.Good.{the_open}
-use Rattle.txn_machine.proofs.LogRoom.{within_less}
 use Rattle.txn_machine.proofs.LogSums.{sum_first, sum_same, sum_none}
 use Rattle.txn_machine.proofs.Shapes.{add_stored, negated_is, same_view}
 use Rattle.txn_log.specs.Replay.{What, Wrote, Added, Deed, Pages, Reading, Stored, recovered, own, rows_without, view_without, all_rows_back, all_view_back}
 use Rattle.txn_log.specs.Fitting.{AllDeeds, AllBack, BackFits}
 use Rattle.txn_log.specs.Appended.{written, AllSay}
-use Rattle.txn_log.specs.Moments.{Disk, At, opened_world, left_by, IsRight}
+use Rattle.txn_log.specs.Moments.{Disk, At, opened_world, left_by}
 use Rattle.txn_log.specs.Laws.{ReadingLaw}
-use Rattle.txn_log.specs.Refused.{data_left}
-use Rattle.txn_log.specs.Room.{rows_bytes, DataRoomLaw, WithinLaw}
+use Rattle.txn_log.specs.Room.{rows_bytes, DataRoomLaw}
 use Rattle.txn_log.proofs.Memory.{Memory, reading_of}
 use Rattle.txn_log.proofs.Following.{PrintsAgain}
-use Rattle.txn_log.proofs.Happening.{IsFollowed, crash, good_run, good_opened}
-use Rattle.txn_log.proofs.Refusing.{right_fine}
+use Rattle.txn_log.proofs.Happening.{IsFollowed, good_run, good_opened}
 use Rattle.txn_log.proofs.Finding.{by_number}
 use Rattle.txn_log.proofs.Owning.{own_this, own_other}
 use Rattle.txn_log.proofs.Reversing.{by_owner, own_tail, not_nothing}
@@ -276,10 +273,3 @@ data_room printed once p was opening s d run r read texts =
     }) read in
     subst (λ (x : Reading). rows_bytes (recovered x).db.schema (recovered x).db.rows + view_entries (recovered x).view + sum (map definition_entries texts) ≤ data_bytes s.store s.log texts) same
     (data_now s.store s.log d is texts)
-
-pub within_fine : PrintsAgain → ReadingLaw → WithinLaw
-within_fine printed once p was opening s d run i placed few many texts same within =
-    let right : IsRight s.store (left_by (At s d) 0) d.acknowledged = crash printed p was opening (At s d) run 0 in
-    let room = data_room printed once p was opening s d run right.reading right.is_read texts in
-    right_fine s.store (left_by (At s d) 0) d.acknowledged right i placed
-    (within_less i.data_limit (data_bytes s.store s.log texts) (data_left i (recovered right.reading)) within (omega (arith, room, same))) few many

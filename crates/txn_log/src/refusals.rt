@@ -38,7 +38,7 @@ pub fn undo_law()
     ensures { UndoLaw }
 {}
 
-/// Where the machine's count of data lies within the limit, an image of all records between two steps is not refused.
+/// Where an engine was opened with its data within the limit, an image of all records between two steps is not refused.
 pub fn within_law()
     ensures { WithinLaw }
 {}
