@@ -35,3 +35,4 @@ pub mod Enlarging
 pub mod Defining
 pub mod Limiting
 pub mod Staying
+pub mod Staging

@@ -96,7 +96,7 @@ module _ (limit : Option ℕ) (texts : List (List ℕ)) (s : Store) (l : Log) (i
       (let moved = wrote_total (λ (p : Place) (xs : List ℤ). view_entry p (length xs)) s.view q None in omega (arith, moved))
 
   -- a definition, with its text
-  defines_it : Good' s → Stored' s → (o : Object) → CanDefine the_views fresh view_laws s o → (later : List (List ℕ)) (text : ℕ) → sum (map definition_entries later) ≡ sum (map definition_entries texts) + text
+  pub defines_it : Good' s → Stored' s → (o : Object) → CanDefine the_views fresh view_laws s o → (later : List (List ℕ)) (text : ℕ) → sum (map definition_entries later) ≡ sum (map definition_entries texts) + text
       → Within limit (data_bytes s l texts + (text + made_entries (schema_of s) (committed s).rows o)) → Ample limit later (does the_views s i (Defines o)) (logs s i a (Defines o) l)
   defines_it g shape o can later text more room =
       let t : Store = does the_views s i (Defines o) in
@@ -140,7 +140,7 @@ module _ (s : Store) (g : Good' s) (shape : Stored' s) (i : ℕ) (is : IsSession
 -- ---- answers
 
 -- a transaction that goes on stands for its session
-open_now : (s : Store) (i : ℕ) (t : Open) → s.open_of i ≡ Some t → s.open_of i ≡ Some (now s i)
+pub open_now : (s : Store) (i : ℕ) (t : Open) → s.open_of i ≡ Some t → s.open_of i ≡ Some (now s i)
 open_now s i t e = e ∙ ap Some (sym (now_is view_laws s i t e))
 
 abbrev first_or : GroupDelta → List GroupDelta → GroupDelta
@@ -279,7 +279,7 @@ module _ (s : State) (i : ℕ) (g : Good' s.store) (shape : Stored' s.store) (r 
       ]
 
   -- one text more
-  text_more : (text : List ℕ) → sum (map definition_entries (s.opening.definitions ++ (s.definitions ++ text ∷ []))) ≡ sum (map definition_entries texts) + definition_entries text
+  pub text_more : (text : List ℕ) → sum (map definition_entries (s.opening.definitions ++ (s.definitions ++ text ∷ []))) ≡ sum (map definition_entries texts) + definition_entries text
   text_more text =
       let all = sum_append definition_entries s.opening.definitions (s.definitions ++ text ∷ []) in
       let new = sum_append definition_entries s.definitions (text ∷ []) in

@@ -32,8 +32,8 @@ use Rattle.txn_machine.proofs.LogSums.{sum_first, sum_same, sum_none}
 use Rattle.txn_machine.proofs.Shapes.{add_stored, negated_is, same_view}
 use Rattle.txn_log.specs.Replay.{What, Wrote, Added, Deed, Pages, Reading, Stored, recovered, own, rows_without, view_without, all_rows_back, all_view_back}
 use Rattle.txn_log.specs.Fitting.{AllDeeds, AllBack, BackFits}
-use Rattle.txn_log.specs.Appended.{written, AllSay}
-use Rattle.txn_log.specs.Moments.{Disk, At, opened_world, left_by}
+use Rattle.txn_log.specs.Appended.{written, AllSay, IsRead}
+use Rattle.txn_log.specs.Moments.{Disk, image_of, At, opened_world}
 use Rattle.txn_log.specs.Laws.{ReadingLaw}
 use Rattle.txn_log.specs.Room.{rows_bytes, DataRoomLaw}
 use Rattle.txn_log.proofs.Memory.{Memory, reading_of}
@@ -219,7 +219,8 @@ open_room objects (Some t) ghosted = kept_room objects t ghosted t.kept
 
 -- ---- all of it
 
-module _ (s : Store) (l : Log) (d : Disk) (is : IsFollowed s l d) (texts : List (List ℕ)) where
+-- The log that tells which owed deltas had their Ghost may be any.
+module _ (s : Store) (l : Log) (d : Disk) (is : IsFollowed s l d) (any : Log) (texts : List (List ℕ)) where
   abbrev m : Memory
   m = is.memory
 
@@ -238,21 +239,21 @@ module _ (s : Store) (l : Log) (d : Disk) (is : IsFollowed s l d) (texts : List 
   all_back : AllBack st.live st.db.rows st.view
   all_back = back_now s m is.sound.good tied
 
-  enlarged : whats_growth (schema_of s) (whats_of st.live) ≤ sum_over 64 (λ j. room_kept (schema_of s) (s.open_of j) (l.logged j).ghosted)
+  enlarged : whats_growth (schema_of s) (whats_of st.live) ≤ sum_over 64 (λ j. room_kept (schema_of s) (s.open_of j) (any.logged j).ghosted)
   enlarged =
       let all = growth_all (schema_of s) (λ j. (m.txn_of j).id) st.live
       (λ i j k n differ same. by_number (m.txn_of i).id 0
       (λ z. ap (λ a. own a st.live) z ∙ tied.carried.of_none)
       (λ z. absurd (tied.apart.apart i j k n differ (omega arith) same)))
       tied.carried.others in
-      let each = sum_most 64 (λ j. whats_growth (schema_of s) (whats_of (own (m.txn_of j).id st.live))) (λ j. room_kept (schema_of s) (s.open_of j) (l.logged j).ghosted)
+      let each = sum_most 64 (λ j. whats_growth (schema_of s) (whats_of (own (m.txn_of j).id st.live))) (λ j. room_kept (schema_of s) (s.open_of j) (any.logged j).ghosted)
       (λ j js.
       let kept : whats_of (own (m.txn_of j).id st.live) ≡ whats_in (now s j).kept = ap whats_of (tied.carried.each j js) ∙ tied.whats j js in
-      let room = open_room (schema_of s) (s.open_of j) (l.logged j).ghosted in
-      subst (λ (ws : List What). whats_growth (schema_of s) ws ≤ room_kept (schema_of s) (s.open_of j) (l.logged j).ghosted) (sym kept) room) in
+      let room = open_room (schema_of s) (s.open_of j) (any.logged j).ghosted in
+      subst (λ (ws : List What). whats_growth (schema_of s) ws ≤ room_kept (schema_of s) (s.open_of j) (any.logged j).ghosted) (sym kept) room) in
       omega (arith, all, each)
 
-  pub data_now : rows_bytes st.db.schema (all_rows_back st.live st.db.rows) + view_entries (all_view_back st.live st.view) + sum (map definition_entries texts) ≤ data_bytes s l texts
+  pub data_now : rows_bytes st.db.schema (all_rows_back st.live st.db.rows) + view_entries (all_view_back st.live st.view) + sum (map definition_entries texts) ≤ data_bytes s any texts
   data_now =
       let rows = rows_back (schema_of s) st.live st.db.rows st.view all_back in
       let same = ap (λ objects. rows_bytes objects (all_rows_back st.live st.db.rows)) schema_is in
@@ -262,14 +263,19 @@ module _ (s : Store) (l : Log) (d : Disk) (is : IsFollowed s l d) (texts : List 
       let room = enlarged in
       omega (arith, rows, same, before, views, stored_views, room)
 
-pub data_room : PrintsAgain → ReadingLaw → DataRoomLaw
-data_room printed once p was opening s d run r read texts =
-    let is : IsFollowed s.store s.log d = good_run printed (opened_world opening p) (At s d) run (good_opened printed opening p was) in
+-- what an image of all records leaves
+pub room_left : ReadingLaw → (s : Store) (l : Log) (d : Disk) → IsFollowed s l d → (any : Log) (r : Reading) → IsRead (image_of d d.waiting) r → (texts : List (List ℕ))
+    → rows_bytes (recovered r).db.schema (recovered r).db.rows + view_entries (recovered r).view + sum (map definition_entries texts) ≤ data_bytes s any texts
+room_left once s l d is any r read texts =
     let reading : Reading = reading_of is.memory is.memory.waiting in
-    let same : reading ≡ r = once (left_by (At s d) 0) reading r (record {
+    let same : reading ≡ r = once (image_of d d.waiting) reading r (record {
       pages = is.follows.pages;
       carried = ap (map written) (sym is.follows.carried);
       after = subst (λ (q : Pages). AllSay q.db.schema (d.waiting ++ d.flushed) (is.memory.waiting ++ is.memory.flushed)) is.follows.pages is.follows.say;
     }) read in
-    subst (λ (x : Reading). rows_bytes (recovered x).db.schema (recovered x).db.rows + view_entries (recovered x).view + sum (map definition_entries texts) ≤ data_bytes s.store s.log texts) same
-    (data_now s.store s.log d is texts)
+    subst (λ (x : Reading). rows_bytes (recovered x).db.schema (recovered x).db.rows + view_entries (recovered x).view + sum (map definition_entries texts) ≤ data_bytes s any texts) same
+    (data_now s l d is any texts)
+
+pub data_room : PrintsAgain → ReadingLaw → DataRoomLaw
+data_room printed once p was opening s d run r read texts =
+    room_left once s.store s.log d (good_run printed (opened_world opening p) (At s d) run (good_opened printed opening p was)) s.log r read texts

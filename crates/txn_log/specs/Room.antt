@@ -1,7 +1,7 @@
 -- No clause of `run` rests on this module: it serves contracts between crates.
 --
 -- The bytes of data: they stay within their limit, also where what open transactions keep is taken back.
-use Rattle.std.specs.Prelude.{◌≡◌, ℕ, ◌+◌, ◌≤◌, List, map}
+use Rattle.std.specs.Prelude.{◌≡◌, ℕ, ◌+◌, ◌≤◌, List, map, length, take}
 use Rattle.std.specs.List.{sum}
 use Rattle.std.specs.FinMap.{entries}
 use Rattle.iv_meaning.specs.Schema.{Schema}
@@ -15,7 +15,7 @@ use Rattle.txn_log.specs.Replay.{Pages, Reading, recovered}
 use Rattle.txn_log.specs.Appended.{IsRead}
 use Rattle.txn_log.specs.Stored.{parts_entries}
 use Rattle.txn_log.specs.Refused.{PlacedImage, IsPlaced, IsFine, AreSmall, texts_in}
-use Rattle.txn_log.specs.Moments.{Disk, At, Run, opened_world, left_by}
+use Rattle.txn_log.specs.Moments.{Disk, World, At, Amid, Halted, Run, opened_world, left_by}
 
 -- the bytes of the entries of rows, in all indexes
 abbrev pub rows_bytes : Schema → Rows → ℕ
@@ -43,3 +43,21 @@ WithinLaw = (p : Pages) → IsOpened p.db p.view → (opening : Opening) → Ope
     → (i : PlacedImage) → IsPlaced i (left_by (At s d) 0) → AreSmall (left_by (At s d) 0).carried → AreSmall (left_by (At s d) 0).after
     → i.data_limit ≡ opening.data_limit → sum (map parts_entries i.texts) + sum (map definition_entries (texts_in i.after)) ≡ sum (map definition_entries (texts_of s))
     → IsFine i
+
+-- the state between two steps, or that the step will leave
+abbrev pub state_of : World → State
+state_of (At s d) = s
+state_of (Amid after session a s l es d) = after
+state_of (Halted s next d) = s
+
+-- the texts of the definitions on pages: the first of those that the state has
+abbrev pub texts_on : Pages → State → List (List ℕ)
+texts_on p s = take (length p.db.schema) (texts_of s)
+
+-- And so is every image that a crash may leave at any moment, without the latest of the waiting records. Its pages' texts take the bytes
+-- of those that the state has of their definitions; and the opening has a text for each definition that was there.
+abbrev pub WithinAlwaysLaw : Type 0
+WithinAlwaysLaw = (p : Pages) → IsOpened p.db p.view → (opening : Opening) → OpensWithin opening p → length opening.definitions ≡ length p.db.schema
+    → (w : World) → Run (opened_world opening p) w → (k : ℕ)
+    → (i : PlacedImage) → IsPlaced i (left_by w k) → AreSmall (left_by w k).carried → AreSmall (left_by w k).after
+    → i.data_limit ≡ opening.data_limit → sum (map parts_entries i.texts) ≡ sum (map definition_entries (texts_on i.pages (state_of w))) → IsFine i
