@@ -36,3 +36,4 @@ pub mod Defining
 pub mod Limiting
 pub mod Staying
 pub mod Staging
+pub mod Lasting

@@ -68,7 +68,7 @@ data_limit s r within = stays_within r.db r.view r.opening r.was_opened within s
 -- ---- with the log
 
 -- between two steps, and after the step that is on its way
-abbrev IsAmpleWorld : Opening → World → Type 0
+abbrev pub IsAmpleWorld : Opening → World → Type 0
 IsAmpleWorld opening (At s d) = IsAmple s × (s.opening ≡ opening)
 IsAmpleWorld opening (Amid after i a s l es d) = IsAmple after × (after.opening ≡ opening)
 IsAmpleWorld opening (Halted s next d) = Unit {0}
@@ -78,7 +78,7 @@ same_world opening (At s e) d h = h
 same_world opening (Amid after i a s l es e) d h = h
 same_world opening (Halted s next e) d h = h
 
-ample_move : (opening : Opening) (v w : World) → Moves v w → IsGoodWorld v → IsAmpleWorld opening v → IsAmpleWorld opening w
+pub ample_move : (opening : Opening) (v w : World) → Moves v w → IsGoodWorld v → IsAmpleWorld opening v → IsAmpleWorld opening w
 ample_move opening v w (begins s disk i a said after may d f) is h =
     (ample_does s i a said after is.sound.good is.sound.shape (may_of s i a d.runs may.1) d h.0, ap (λ (x : State). x.opening) d.left ∙ h.1)
 ample_move opening v w (acts after i a s l e es disk) is h = h
@@ -97,10 +97,13 @@ ample_world : PrintsAgain → (opening : Opening) (u w : World) → moments.Run 
 ample_world printed opening u w (here x) is h = h
 ample_world printed opening u w (then_move a v b r move) is h = ample_move opening v w move (good_run printed u v r is) (ample_world printed opening u v r is h)
 
+pub opened_world_ample : (p : Pages) (opening : Opening) → OpensWithin opening p → IsAmpleWorld opening (opened_world opening p)
+opened_world_ample p opening within = (record { there = λ j js. tt; fits = within }, refl)
+
 -- the bytes of data between two steps
 pub within_now : PrintsAgain → (p : Pages) → IsOpened p.db p.view → (opening : Opening) → OpensWithin opening p → (s : State) (d : Disk) → moments.Run (opened_world opening p) (At s d) → Within opening.data_limit (used_data s)
 within_now printed p was opening within s d run =
-    let h = ample_world printed opening (opened_world opening p) (At s d) run (good_opened printed opening p was) (record { there = λ j js. tt; fits = within }, refl) in
+    let h = ample_world printed opening (opened_world opening p) (At s d) run (good_opened printed opening p was) (opened_world_ample p opening within) in
     subst (λ (x : Opening). Within x.data_limit (used_data s)) h.1 h.0.fits
 
 pub within_fine : PrintsAgain → ReadingLaw → WithinLaw
