@@ -100,9 +100,13 @@ drop_more n d ds = ap (λ m. drop m (d ∷ ds)) (plus_one n)
     plus_one : (n : ℕ) → n + 1 ≡ suc n
     plus_one n = omega arith
 
-abbrev first_or : GroupDelta → List GroupDelta → GroupDelta
+abbrev pub first_or : GroupDelta → List GroupDelta → GroupDelta
 first_or d [] = d
 first_or d (x ∷ xs) = x
+
+-- what is known of transactions stays where an effect says nothing of them
+pub same_logged : (s : Store) (i : ℕ) (a : Act) (e : Effect) (l : Log) → ◌≡◌ {A = ℕ → Logged} (logs s i a e l).logged (with_one l.logged i (l.logged i)) → (j : ℕ) → (logs s i a e l).logged j ≡ l.logged j
+same_logged s i a e l is j = ap (λ (f : ℕ → Logged). f j) is ∙ by_session j i (λ h. one_same l.logged i (l.logged i) j h ∙ ap l.logged (sym h)) (λ n. one_other l.logged i (l.logged i) j n)
 
 -- ---- effects of a session's transaction
 
@@ -283,12 +287,9 @@ module _ (limit : Option ℕ) (texts : List (List ℕ)) (s : Store) (l : Log) (i
           let free = go (l.logged i).ghosted never in
           ghost_done (does the_views s i e) (logs s i a e l) (λ j. refl) refl (λ q x. stays_there s i e q tt x)
           (ap is_some (written_at s.view p (Some row) p refl))
-          (λ j. ap (λ (f : ℕ → Logged). f j) (logs_logged s i a e l) ∙ same_logged j)
+          (same_logged s i a e l (logs_logged s i a e l))
           (omega (arith, moved, before, long, free))
         where
-          same_logged : (j : ℕ) → with_one l.logged i (l.logged i) j ≡ l.logged j
-          same_logged j = by_session j i (λ h. one_same l.logged i (l.logged i) j h ∙ ap l.logged (sym h)) (λ n. one_other l.logged i (l.logged i) j n)
-
           go : (g : Bool) → (g ≡ true → ⊥) → delta_entry d + owed_room true (d ∷ ds) ≤ owed_room g (d ∷ ds)
           go true n = absurd (n refl)
           go false n = (let one = ghost_room d ds in omega (arith, one))

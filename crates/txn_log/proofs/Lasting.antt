@@ -28,14 +28,14 @@ use Rattle.txn_log.specs.Replay.{Deed, Pages, Reading, recovered}
 use Rattle.txn_log.specs.Appended.{Numbered, IsRead}
 use Rattle.txn_log.specs.Laws.{ReadingLaw}
 use Rattle.txn_log.specs.Stored.{parts_entries}
-use Rattle.txn_log.specs.Refused.{Placed, PlacedImage, text_in, text_at, texts_in, data_left}
+use Rattle.txn_log.specs.Refused.{Placed, text_in, text_at, texts_in, data_left}
 use Rattle.txn_log.specs.Moments.{Disk, image_of, with_record, flushed_all, pages_now, published, opened_disk, World, At, Amid, Halted, store_of, disk_of, with_disk, Keeps, Writes, Moves, begins, acts, ends, flushes, acknowledges, publishes, fails_commit, fails_define, fails_before, fails_after, told, told_halted, Run, here, then_move, opened_world, left_by, IsRight}
 use Rattle.txn_log.specs.Room.{rows_bytes, OpensWithin, state_of, texts_on, WithinAlwaysLaw}
 use Rattle.txn_log.proofs.Defining.{sum_append}
 use Rattle.txn_log.proofs.Enlarging.{Ample, commits_it}
 use Rattle.txn_log.proofs.Following.{PrintsAgain}
 use Rattle.txn_log.proofs.Happening.{IsFollowed, IsGoodWorld, good_run, good_opened, crash}
-use Rattle.txn_log.proofs.Limiting.{IsAmple, defines_it}
+use Rattle.txn_log.proofs.Limiting.{defines_it}
 use Rattle.txn_log.proofs.Refusing.{right_fine}
 use Rattle.txn_log.proofs.Rooming.{room_left}
 use Rattle.txn_log.proofs.Staging.{texts_with, text_said, texts_said, texts_long, AreStaged, staged_more, staged_now, are_staged}
@@ -188,8 +188,7 @@ module _ (printed : PrintsAgain) (once : ReadingLaw) (opening : Opening) where
   bounded_move v w (acts after i a s l e es disk) was is r q h =
       let t : Store = does the_views s i e in
       let later : List (List ℕ) = texts_with a e h.0 in
-      let fits = staged_now most i a after t (logs s i a e l) later es h.2.1 in
-      (
+      let fits = staged_now most i a after t (logs s i a e l) later es h.2.1 in (
         later,
         with_bounded most s t disk h.0 later (texts_of after) (record_of s i a l e) l.next h.1 (texts_said s i a l e h.0) (texts_long s i a e h.0 h.1.long)
             (all_left most once t (logs s i a e l) (with_record (record_of s i a l e) l.next disk) is.0 fits.0 later fits.1),
@@ -205,8 +204,7 @@ module _ (printed : PrintsAgain) (once : ReadingLaw) (opening : Opening) where
       let o : Option Record = record_of s.store i act.Commit s.log Commits in
       let m : Log = logs s.store i act.Commit Commits s.log in
       let ample : Ample s.opening.data_limit (texts_of s) t m = commits_it s.opening.data_limit (texts_of s) s.store s.log i act.Commit (of_session s.store i (may_of s i act.Commit d.runs may.1)) r.0
-      (ap (λ (db : Database). db.schema) (committed_after the_views fresh view_laws s.store i)) in
-      (
+      (ap (λ (db : Database). db.schema) (committed_after the_views fresh view_laws s.store i)) in (
         texts_of s,
         same_texts s stopped t (with_record o s.log.next disk) (texts_of s) (ap texts_of d.left)
             (with_bounded most s.store t disk (texts_of s) (texts_of s) (texts_of s) o s.log.next h (texts_said s.store i act.Commit s.log Commits (texts_of s)) (texts_long s.store i act.Commit Commits (texts_of s) h.long)

@@ -24,7 +24,6 @@ use Rattle.txn_machine.specs.Acts as act
 use Rattle.txn_machine.specs.Acts.{Act}
 use Rattle.txn_machine.specs.Answers as answer
 use Rattle.txn_machine.specs.Answers.{Answer}
-use Rattle.txn_machine.specs.Locks.{with_one}
 use Rattle.txn_machine.specs.Deltas.{RowChange, place_of}
 use Rattle.txn_machine.specs.Keeping.{KeptStep, Put, Pay, changes_of, Note, Open}
 use Rattle.txn_machine.specs.Stored.{add_all}
@@ -54,7 +53,7 @@ use Rattle.txn_machine.proofs.Telling.{Good'}
 use Rattle.txn_log.specs.Room.{rows_bytes}
 use Rattle.txn_log.proofs.Rooming.{wrote_total}
 use Rattle.txn_log.proofs.Defining.{sum_append, made_more}
-use Rattle.txn_log.proofs.Enlarging.{Ample, opens, takes_wants, notes_it, loses, writes, pays, undoes_put, undoes_pay, ends_it, commits_it, ghost_absent, ghost_present}
+use Rattle.txn_log.proofs.Enlarging.{Ample, first_or, same_logged, opens, takes_wants, notes_it, loses, writes, pays, undoes_put, undoes_pay, ends_it, commits_it, ghost_absent, ghost_present}
 use Rattle.txn_log.proofs.Tying.{some_of}
 
 -- the same is known of transactions
@@ -66,10 +65,6 @@ same_ample limit texts s l m same r = record {
       (λ j lo hi. ap (λ (x : Logged). room_kept (schema_of s) (s.open_of j) x.ghosted) (same j)) in
       within_less limit (data_bytes s l texts) (data_bytes s m texts) r.fits (omega (arith, rooms));
 }
-
--- what an effect that no transaction makes leaves of the log
-same_logged : (s : Store) (i : ℕ) (a : Act) (e : Effect) (l : Log) → ◌≡◌ {A = ℕ → Logged} (logs s i a e l).logged (with_one l.logged i (l.logged i)) → (j : ℕ) → (logs s i a e l).logged j ≡ l.logged j
-same_logged s i a e l is j = ap (λ (f : ℕ → Logged). f j) is ∙ by_session j i (λ h. one_same l.logged i (l.logged i) j h ∙ ap l.logged (sym h)) (λ n. one_other l.logged i (l.logged i) j n)
 
 -- ---- effects that no transaction makes
 
@@ -142,10 +137,6 @@ module _ (s : Store) (g : Good' s) (shape : Stored' s) (i : ℕ) (is : IsSession
 -- a transaction that goes on stands for its session
 pub open_now : (s : Store) (i : ℕ) (t : Open) → s.open_of i ≡ Some t → s.open_of i ≡ Some (now s i)
 open_now s i t e = e ∙ ap Some (sym (now_is view_laws s i t e))
-
-abbrev first_or : GroupDelta → List GroupDelta → GroupDelta
-first_or d [] = d
-first_or d (x ∷ xs) = x
 
 module _ (s : State) (i : ℕ) (g : Good' s.store) (shape : Stored' s.store) (r : Ample s.opening.data_limit (texts_of s) s.store s.log) where
   abbrev limit : Option ℕ
@@ -279,7 +270,7 @@ module _ (s : State) (i : ℕ) (g : Good' s.store) (shape : Stored' s.store) (r 
       ]
 
   -- one text more
-  pub text_more : (text : List ℕ) → sum (map definition_entries (s.opening.definitions ++ (s.definitions ++ text ∷ []))) ≡ sum (map definition_entries texts) + definition_entries text
+  text_more : (text : List ℕ) → sum (map definition_entries (s.opening.definitions ++ (s.definitions ++ text ∷ []))) ≡ sum (map definition_entries texts) + definition_entries text
   text_more text =
       let all = sum_append definition_entries s.opening.definitions (s.definitions ++ text ∷ []) in
       let new = sum_append definition_entries s.definitions (text ∷ []) in

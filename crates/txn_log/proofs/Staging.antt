@@ -1,17 +1,15 @@
 -- Before each effect of a step and after the last, the bytes of data lie within the limit.
-use Rattle.std.specs.Prelude.{◌≡◌, ◌⊎◌, ℕ, zero, suc, ◌+◌, List, [], ◌∷◌, ◌++◌, map, length, cond, Bool, true, false, Option, Some, None}
+use Rattle.std.specs.Prelude.{◌≡◌, ℕ, zero, suc, List, [], ◌∷◌, ◌++◌, length, cond, Bool, true, false, Option, Some, None}
 use mathlib.Core.Path.{refl, sym, ap, subst, ◌∙◌}
 use mathlib.Core.Logic.{inl, inr}
 use Rattle.std.proofs.Common.{arith, append_assoc, append-nil}
 use Rattle.std.proofs.lemmas.List.{length-append}
 use Rattle.iv_types.specs.declared.session.Sessions.{Sessions}
-use Rattle.iv_types.specs.declared.statement.Mode.{Mode}
-use Rattle.iv_types.specs.declared.statement.Mode.TheVariants.{Serial, Snapshot}
+use Rattle.iv_types.specs.declared.statement.Mode.TheVariants.{Serial}
 use Rattle.iv_types.specs.declared.lock.GroupDelta.{GroupDelta}
 use Rattle.iv_types.specs.declared.lock.Want.{Want}
 use Rattle.iv_types.specs.declared.refusal.EngineRefusal.TheVariants as refusal
 use Rattle.iv_types.specs.Printing.{statement_text}
-use Rattle.iv_meaning.specs.Schema.{Schema}
 use Rattle.iv_meaning.specs.Database.{Database}
 use Rattle.iv_meaning.specs.Escrow.{IsSession}
 use Rattle.txn_machine.specs.Acts as act
@@ -23,15 +21,15 @@ use Rattle.txn_machine.specs.Keeping.{KeptStep, Put, Pay}
 use Rattle.txn_machine.specs.Fresh.{fresh}
 use Rattle.txn_machine.specs.Ghosts.{the_views}
 use Rattle.txn_machine.specs.Records.{Record, Abort}
-use Rattle.txn_machine.specs.Log.{Within, Log, Logged, logs, text_of, record_of, pay_record, undo_record, data_bytes}
+use Rattle.txn_machine.specs.Log.{Within, Log, logs, text_of, record_of, pay_record, undo_record, data_bytes}
 use Rattle.txn_machine.specs.Store.{Store, schema_of, now, changes_by, paid_first, undone, Effect, Opens, Takes, Notes, Writes, Pays, Ghosts, Undoes, Loses, Ends, Commits, Defines, Cleans, Prunes, does, run}
 use Rattle.txn_machine.specs.State.{State}
 use Rattle.txn_machine.specs.May.{IsOpenIn, MayAct}
-use Rattle.txn_machine.specs.Steps.{CommitsAs, Says, Does, definitions_after, texts_of, MayWait}
+use Rattle.txn_machine.specs.Steps.{CommitsAs, Says, Does, definitions_after, texts_of}
 use Rattle.txn_machine.proofs.Looking.{view_laws}
 use Rattle.txn_machine.proofs.Runs.{committed_after, defined}
 use Rattle.txn_log.specs.Refused.{text_in}
-use Rattle.txn_log.proofs.Enlarging.{Ample, takes_wants}
+use Rattle.txn_log.proofs.Enlarging.{takes_wants}
 use Rattle.txn_log.proofs.Limiting.{IsAmple, open_now}
 
 -- ---- texts
@@ -159,8 +157,8 @@ module _ (s : State) (i : ℕ) where
   lost (act.Schema statement) c = refl
   lost _ c = refl
 
-  going : (mode : Mode) → (h : IsOpenIn s.store i mode) → s.store.open_of i ≡ Some (now s.store i)
-  going mode h = open_now s.store i h.transaction h.is_open
+  going : (h : IsOpenIn s.store i Serial) → s.store.open_of i ≡ Some (now s.store i)
+  going h = open_now s.store i h.transaction h.is_open
 
   committed_it : (es : List Effect) (number : ℕ) (cs : List RowChange) → CommitsAs s.store i cs number es → IsShort s i act.Commit (answer.Committed number) es
   committed_it es number [] h = single Ends h.1 refl
@@ -174,15 +172,15 @@ module _ (s : State) (i : ℕ) where
   short (act.Begin mode) (answer.Refused (refusal.LogFull used reserved need)) es may h = none h.0 refl
   short (act.Begin mode) (answer.Refused (refusal.HistoryFull kept need)) es may h = none h.3 refl
   short act.Defs (answer.Defs objects) es may h = none h.1 refl
-  short (act.Fetch number interval mode) (answer.Rows rows) es may h = double _ (Notes _) h.effects refl refl may.0.goes_on.of_session (going Serial may.0.goes_on)
+  short (act.Fetch number interval mode) (answer.Rows rows) es may h = double _ (Notes _) h.effects refl refl may.0.goes_on.of_session (going may.0.goes_on)
   short (act.Fetch number interval mode) (answer.Refused (refusal.TxnFull kept need)) es may h = none h.1 refl
   short (act.Peek number interval) (answer.Rows rows) es may h = none h.1 refl
-  short (act.Put number key new) (answer.Changed before deltas) es may h = double _ (Writes (number, key) new) h.effects refl refl may.0.goes_on.of_session (going Serial may.0.goes_on)
+  short (act.Put number key new) (answer.Changed before deltas) es may h = double _ (Writes (number, key) new) h.effects refl refl may.0.goes_on.of_session (going may.0.goes_on)
   short (act.Put number key new) (answer.Refused (refusal.TxnFull kept need)) es may h = none h.1 refl
   short (act.Put number key new) (answer.Refused (refusal.LogFull used reserved need)) es may h = none h.1 refl
   short (act.Put number key new) (answer.Refused (refusal.DataFull used need)) es may h = none h.1 refl
   short (act.Put number key new) (answer.Refused (refusal.HistoryFull kept need)) es may h = none h.1 refl
-  short act.Pay (answer.Paid left) es may h = double _ Pays h.effects refl refl may.goes_on.of_session (going Serial may.goes_on)
+  short act.Pay (answer.Paid left) es may h = double _ Pays h.effects refl refl may.goes_on.of_session (going may.goes_on)
   short act.Pay answer.NeedsGhost es may h = single (Takes _) h.effects refl
   short act.Pay (answer.Refused (refusal.Escrow column low high)) es may h = single (Takes _) h.effects refl
   short act.Ghost answer.Ghosted es may h = elim h.effects [
