@@ -1,16 +1,18 @@
 -- Over every run the bytes of data stay within the limit, and so an image of all records is refused for nothing.
-use Rattle.std.specs.Prelude.{◌≡◌, ℕ, Option, List, [], ◌∷◌, ◌++◌}
+use Rattle.std.specs.Prelude.{◌≡◌, ℕ, Option, List, [], ◌∷◌, ◌++◌, map}
+use Rattle.std.specs.List.{sum}
 use mathlib.Core.Path.{refl, sym, ap, subst, ◌∙◌}
 use mathlib.Core.Logic.{inl, inr}
-use Rattle.std.proofs.Common.{arith}
+use Rattle.std.proofs.Common.{arith, append-nil}
 use Rattle.iv_meaning.specs.Database.{Database}
 use Rattle.txn_machine.specs.Stored.{ViewRows}
-use Rattle.txn_machine.specs.Log.{Opening, Within}
+use Rattle.txn_machine.specs.Log.{Opening, Within, definition_entries}
 use Rattle.txn_machine.specs.Store.{opened}
 use Rattle.txn_machine.specs.State.{State, opened_state}
 use Rattle.txn_machine.specs.Steps.{Did, Step, Run, texts_of, used_data}
 use Rattle.txn_machine.specs.Laws.{IsOpened, IsReached}
 use Rattle.txn_machine.proofs.LogRoom.{within_less}
+use Rattle.txn_machine.proofs.LogSums.{sum_none}
 use Rattle.txn_machine.proofs.Moving.{may_of}
 use Rattle.txn_machine.proofs.Reached.{reached}
 use Rattle.txn_machine.proofs.Shapes.{stored_row_law}
@@ -19,7 +21,7 @@ use Rattle.txn_log.specs.Laws.{ReadingLaw}
 use Rattle.txn_log.specs.Moments as moments
 use Rattle.txn_log.specs.Moments.{Disk, World, At, Amid, Halted, Moves, begins, acts, ends, flushes, acknowledges, publishes, fails_commit, fails_define, fails_before, fails_after, told, told_halted, here, then_move, with_disk, opened_world, left_by, IsRight}
 use Rattle.txn_log.specs.Refused.{data_left}
-use Rattle.txn_log.specs.Room.{OpensWithin, DataLimitLaw, WithinLaw}
+use Rattle.txn_log.specs.Room.{OpensWithin, OpensWithinLaw, DataLimitLaw, WithinLaw}
 use Rattle.txn_log.proofs.Following.{PrintsAgain}
 use Rattle.txn_log.proofs.Happening.{IsGoodWorld, good_run, good_opened, crash}
 use Rattle.txn_log.proofs.Limiting.{IsAmple, ample_does}
@@ -112,3 +114,13 @@ within_fine printed once p was opening opens s d run i placed few many limits sa
     let room = data_room printed once p was opening s d run right.reading right.is_read (texts_of s) in
     let within : Within i.data_limit (used_data s) = subst (λ (x : Option ℕ). Within x (used_data s)) (sym limits) (within_now printed p was opening opens s d run) in
     right_fine s.store (left_by (At s d) 0) d.acknowledged right i placed (within_less i.data_limit (used_data s) (data_left i (recovered right.reading)) within (omega (arith, room, same))) few many
+
+-- ---- what an image leaves
+
+pub opens_within : OpensWithinLaw
+opens_within i f opening limits texts =
+    let p : Pages = recovered f.reading in
+    let s : State = opened_state opening (opened p.db p.view) in
+    let none = sum_none 64 (λ j. 0) (λ j lo hi. refl) in
+    let same = ap (λ (x : List (List ℕ)). sum (map definition_entries x)) (append-nil opening.definitions) in
+    within_less opening.data_limit (data_left i p) (used_data s) (subst (λ (x : Option ℕ). Within x (data_left i p)) (sym limits) f.sound.within) (omega (arith, none, same, texts))

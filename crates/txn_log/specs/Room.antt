@@ -25,8 +25,13 @@ rows_bytes objects rows = sum (map (λ e. row_entries objects e.0 e.1) (entries 
 abbrev pub OpensWithin : Opening → Pages → Type 0
 OpensWithin opening p = Within opening.data_limit (used_data (opened_state opening (opened p.db p.view)))
 
--- Then its data stay within it, with the room that open transactions keep, whatever steps it does, and also where a fault of the disk
--- stopped it. So Pay, Ghost, UndoOne, End and Commit find their room.
+-- So it is on what an image leaves that is refused for nothing, with that limit and texts that take the bytes of the image's.
+abbrev pub OpensWithinLaw : Type 0
+OpensWithinLaw = (i : PlacedImage) (f : IsFine i) (opening : Opening) → opening.data_limit ≡ i.data_limit
+    → sum (map definition_entries opening.definitions) ≡ sum (map parts_entries i.texts) + sum (map definition_entries (texts_in i.after)) → OpensWithin opening (recovered f.reading)
+
+-- Where it is opened so, its data stay within the limit, with the room that open transactions keep, whatever steps it does, and also
+-- where a fault of the disk stopped it. So Pay, Ghost, UndoOne, End and Commit find their room.
 abbrev pub DataLimitLaw : Type 0
 DataLimitLaw = (s : State) → (r : IsReached s) → OpensWithin r.opening (record { db = r.db; view = r.view }) → Within r.opening.data_limit (used_data s)
 
