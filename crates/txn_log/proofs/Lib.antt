@@ -31,3 +31,9 @@ pub mod Damaging
 pub mod Groups
 pub mod Passing
 pub mod Rooming
+pub mod Enlarging
+pub mod Defining
+pub mod Limiting
+pub mod Staying
+pub mod Staging
+pub mod Lasting

@@ -19,6 +19,8 @@ use Rattle.table_laws.proofs.Tables.{same_table}
 use Rattle.iv_meaning.specs.Schema.{Schema, ViewTree}
 use Rattle.iv_meaning.specs.Database.{Rows, Database}
 use Rattle.txn_machine.specs.Counts.{sum_over}
+use Rattle.txn_machine.specs.KeptLaws.{IsDelta}
+use Rattle.iv_types.specs.declared.lock.GroupDelta.{GroupDelta}
 use Rattle.txn_machine.specs.Deltas.{negated, place_of, columns_of}
 use Rattle.txn_machine.specs.Keeping.{KeptStep, Put, Pay, Open}
 use Rattle.txn_machine.specs.Stored.{ViewRows, add_to, plus, AreStored, IsStoredRow}
@@ -26,20 +28,17 @@ use Rattle.txn_machine.specs.Log.{Log, row_entries, perhaps_entries, growth_back
 use Rattle.txn_machine.specs.Store.{Store, schema_of, now}
 use Rattle.txn_machine.proofs.Agreeing.{by_place, written_at, written_other}
 use Rattle.txn_machine.proofs.Good.{the_open}
-use Rattle.txn_machine.proofs.LogRoom.{within_less}
 use Rattle.txn_machine.proofs.LogSums.{sum_first, sum_same, sum_none}
 use Rattle.txn_machine.proofs.Shapes.{add_stored, negated_is, same_view}
 use Rattle.txn_log.specs.Replay.{What, Wrote, Added, Deed, Pages, Reading, Stored, recovered, own, rows_without, view_without, all_rows_back, all_view_back}
 use Rattle.txn_log.specs.Fitting.{AllDeeds, AllBack, BackFits}
-use Rattle.txn_log.specs.Appended.{written, AllSay}
-use Rattle.txn_log.specs.Moments.{Disk, At, opened_world, left_by, IsRight}
+use Rattle.txn_log.specs.Appended.{written, AllSay, IsRead}
+use Rattle.txn_log.specs.Moments.{Disk, image_of, At, opened_world}
 use Rattle.txn_log.specs.Laws.{ReadingLaw}
-use Rattle.txn_log.specs.Refused.{data_left}
-use Rattle.txn_log.specs.Room.{rows_bytes, DataRoomLaw, WithinLaw}
+use Rattle.txn_log.specs.Room.{rows_bytes, DataRoomLaw}
 use Rattle.txn_log.proofs.Memory.{Memory, reading_of}
 use Rattle.txn_log.proofs.Following.{PrintsAgain}
-use Rattle.txn_log.proofs.Happening.{IsFollowed, crash, good_run, good_opened}
-use Rattle.txn_log.proofs.Refusing.{right_fine}
+use Rattle.txn_log.proofs.Happening.{IsFollowed, good_run, good_opened}
 use Rattle.txn_log.proofs.Finding.{by_number}
 use Rattle.txn_log.proofs.Owning.{own_this, own_other}
 use Rattle.txn_log.proofs.Reversing.{by_owner, own_tail, not_nothing}
@@ -130,33 +129,36 @@ rows_back objects (x ∷ xs) rows stored h = one x.what h.0 (rows_back objects x
 
 -- ---- view rows
 
+width : (objects : Schema) (place : Place) (ms ns : List ℤ) → IsStoredRow objects place ms → IsStoredRow objects place ns → length ms ≡ length ns
+width objects place ms ns a b = a.width ∙ (ap (λ (v : ViewTree). suc (length v.sums)) (same_view a.of b.of (sym a.view_is ∙ b.view_is)) ∙ sym b.width)
+
+-- a delta leaves the width of the row that it is added to
+pub added_entries : (objects : Schema) (stored : ViewRows) (d : GroupDelta) → IsDelta objects d → AreStored objects stored → IsSome (get stored (place_of d)) → view_entries (add_to stored d) ≡ view_entries stored
+added_entries objects stored d delta are = some (get stored (place_of d)) refl
+  where
+    some : (o : Option (List ℤ)) → get stored (place_of d) ≡ o → IsSome o → view_entries (add_to stored d) ≡ view_entries stored
+    some None e h = absurd (false≢true h)
+    some (Some ns) e h =
+        let p : Place = place_of d in
+        let stays : AreStored objects (add_to stored d) = add_stored objects stored d are delta in
+        let ms : List ℤ = plus (unwrap_or (get stored p) []) (columns_of d) in
+        let there : get (add_to stored d) p ≡ Some ms = written_at stored p (Some ms) p refl in
+        let long : length ms ≡ length ns = width objects p ms ns (stays p ms there) (are p ns e) in
+        let moved = wrote_total (λ (q : Place) (xs : List ℤ). view_entry q (length xs)) stored p (Some ms) in
+        let before = ap (λ (o : Option (List ℤ)). option_map_or (λ xs. view_entry p (length xs)) o 0) e in
+        let same = ap (view_entry p) long in
+        omega (arith, moved, before, same)
+
 pub view_back : (objects : Schema) (xs : List Deed) (rows : Rows) (stored : ViewRows) → AllBack xs rows stored → AllDeeds (IsShaped objects) xs → AreStored objects stored → view_entries (all_view_back xs stored) ≡ view_entries stored
 view_back objects [] rows stored h shaped are = refl
 view_back objects (x ∷ xs) rows stored h shaped are = one x.what h.0 shaped.0 (λ later. view_back objects xs (rows_without x.what rows) (view_without x.what stored) h.1 shaped.1 later)
   where
-    width : (place : Place) (ms ns : List ℤ) → IsStoredRow objects place ms → IsStoredRow objects place ns → length ms ≡ length ns
-    width place ms ns a b = a.width ∙ (ap (λ (v : ViewTree). suc (length v.sums)) (same_view a.of b.of (sym a.view_is ∙ b.view_is)) ∙ sym b.width)
-
     one : (w : What) → BackFits rows stored w → IsShaped objects w → (AreStored objects (view_without w stored) → view_entries (all_view_back xs (view_without w stored)) ≡ view_entries (view_without w stored))
         → view_entries (all_view_back xs (view_without w stored)) ≡ view_entries stored
     one (Wrote c) there shape rest = rest are
     one (Added d) there shape rest =
-        let p : Place = place_of d in
-        let after : ViewRows = add_to stored (negated d) in
-        let stays : AreStored objects after = add_stored objects stored (negated d) are (negated_is objects d shape) in
-        rest stays ∙ some (get stored p) refl there.0 stays
-      where
-        some : (o : Option (List ℤ)) → get stored (place_of d) ≡ o → IsSome o → AreStored objects (add_to stored (negated d)) → view_entries (add_to stored (negated d)) ≡ view_entries stored
-        some None e h stays = absurd (false≢true h)
-        some (Some ns) e h stays =
-            let p : Place = place_of d in
-            let ms : List ℤ = plus (unwrap_or (get stored p) []) (columns_of (negated d)) in
-            let there : get (add_to stored (negated d)) p ≡ Some ms = written_at stored p (Some ms) p refl in
-            let long : length ms ≡ length ns = width p ms ns (stays p ms there) (are p ns e) in
-            let moved = wrote_total (λ (q : Place) (xs : List ℤ). view_entry q (length xs)) stored p (Some ms) in
-            let before = ap (λ (o : Option (List ℤ)). option_map_or (λ xs. view_entry p (length xs)) o 0) e in
-            let same = ap (view_entry p) long in
-            omega (arith, moved, before, same)
+        let back : IsDelta objects (negated d) = negated_is objects d shape in
+        rest (add_stored objects stored (negated d) are back) ∙ added_entries objects stored (negated d) back are there.0
 
 -- ---- what each session keeps
 
@@ -217,7 +219,8 @@ open_room objects (Some t) ghosted = kept_room objects t ghosted t.kept
 
 -- ---- all of it
 
-module _ (s : Store) (l : Log) (d : Disk) (is : IsFollowed s l d) (texts : List (List ℕ)) where
+-- The log that tells which owed deltas had their Ghost may be any.
+module _ (s : Store) (l : Log) (d : Disk) (is : IsFollowed s l d) (any : Log) (texts : List (List ℕ)) where
   abbrev m : Memory
   m = is.memory
 
@@ -236,21 +239,21 @@ module _ (s : Store) (l : Log) (d : Disk) (is : IsFollowed s l d) (texts : List 
   all_back : AllBack st.live st.db.rows st.view
   all_back = back_now s m is.sound.good tied
 
-  enlarged : whats_growth (schema_of s) (whats_of st.live) ≤ sum_over 64 (λ j. room_kept (schema_of s) (s.open_of j) (l.logged j).ghosted)
+  enlarged : whats_growth (schema_of s) (whats_of st.live) ≤ sum_over 64 (λ j. room_kept (schema_of s) (s.open_of j) (any.logged j).ghosted)
   enlarged =
       let all = growth_all (schema_of s) (λ j. (m.txn_of j).id) st.live
       (λ i j k n differ same. by_number (m.txn_of i).id 0
       (λ z. ap (λ a. own a st.live) z ∙ tied.carried.of_none)
       (λ z. absurd (tied.apart.apart i j k n differ (omega arith) same)))
       tied.carried.others in
-      let each = sum_most 64 (λ j. whats_growth (schema_of s) (whats_of (own (m.txn_of j).id st.live))) (λ j. room_kept (schema_of s) (s.open_of j) (l.logged j).ghosted)
+      let each = sum_most 64 (λ j. whats_growth (schema_of s) (whats_of (own (m.txn_of j).id st.live))) (λ j. room_kept (schema_of s) (s.open_of j) (any.logged j).ghosted)
       (λ j js.
       let kept : whats_of (own (m.txn_of j).id st.live) ≡ whats_in (now s j).kept = ap whats_of (tied.carried.each j js) ∙ tied.whats j js in
-      let room = open_room (schema_of s) (s.open_of j) (l.logged j).ghosted in
-      subst (λ (ws : List What). whats_growth (schema_of s) ws ≤ room_kept (schema_of s) (s.open_of j) (l.logged j).ghosted) (sym kept) room) in
+      let room = open_room (schema_of s) (s.open_of j) (any.logged j).ghosted in
+      subst (λ (ws : List What). whats_growth (schema_of s) ws ≤ room_kept (schema_of s) (s.open_of j) (any.logged j).ghosted) (sym kept) room) in
       omega (arith, all, each)
 
-  pub data_now : rows_bytes st.db.schema (all_rows_back st.live st.db.rows) + view_entries (all_view_back st.live st.view) + sum (map definition_entries texts) ≤ data_bytes s l texts
+  pub data_now : rows_bytes st.db.schema (all_rows_back st.live st.db.rows) + view_entries (all_view_back st.live st.view) + sum (map definition_entries texts) ≤ data_bytes s any texts
   data_now =
       let rows = rows_back (schema_of s) st.live st.db.rows st.view all_back in
       let same = ap (λ objects. rows_bytes objects (all_rows_back st.live st.db.rows)) schema_is in
@@ -260,21 +263,19 @@ module _ (s : Store) (l : Log) (d : Disk) (is : IsFollowed s l d) (texts : List 
       let room = enlarged in
       omega (arith, rows, same, before, views, stored_views, room)
 
-pub data_room : PrintsAgain → ReadingLaw → DataRoomLaw
-data_room printed once p was opening s d run r read texts =
-    let is : IsFollowed s.store s.log d = good_run printed (opened_world opening p) (At s d) run (good_opened printed opening p was) in
+-- what an image of all records leaves
+pub room_left : ReadingLaw → (s : Store) (l : Log) (d : Disk) → IsFollowed s l d → (any : Log) (r : Reading) → IsRead (image_of d d.waiting) r → (texts : List (List ℕ))
+    → rows_bytes (recovered r).db.schema (recovered r).db.rows + view_entries (recovered r).view + sum (map definition_entries texts) ≤ data_bytes s any texts
+room_left once s l d is any r read texts =
     let reading : Reading = reading_of is.memory is.memory.waiting in
-    let same : reading ≡ r = once (left_by (At s d) 0) reading r (record {
+    let same : reading ≡ r = once (image_of d d.waiting) reading r (record {
       pages = is.follows.pages;
       carried = ap (map written) (sym is.follows.carried);
       after = subst (λ (q : Pages). AllSay q.db.schema (d.waiting ++ d.flushed) (is.memory.waiting ++ is.memory.flushed)) is.follows.pages is.follows.say;
     }) read in
-    subst (λ (x : Reading). rows_bytes (recovered x).db.schema (recovered x).db.rows + view_entries (recovered x).view + sum (map definition_entries texts) ≤ data_bytes s.store s.log texts) same
-    (data_now s.store s.log d is texts)
+    subst (λ (x : Reading). rows_bytes (recovered x).db.schema (recovered x).db.rows + view_entries (recovered x).view + sum (map definition_entries texts) ≤ data_bytes s any texts) same
+    (data_now s l d is any texts)
 
-pub within_fine : PrintsAgain → ReadingLaw → WithinLaw
-within_fine printed once p was opening s d run i placed few many texts same within =
-    let right : IsRight s.store (left_by (At s d) 0) d.acknowledged = crash printed p was opening (At s d) run 0 in
-    let room = data_room printed once p was opening s d run right.reading right.is_read texts in
-    right_fine s.store (left_by (At s d) 0) d.acknowledged right i placed
-    (within_less i.data_limit (data_bytes s.store s.log texts) (data_left i (recovered right.reading)) within (omega (arith, room, same))) few many
+pub data_room : PrintsAgain → ReadingLaw → DataRoomLaw
+data_room printed once p was opening s d run r read texts =
+    room_left once s.store s.log d (good_run printed (opened_world opening p) (At s d) run (good_opened printed opening p was)) s.log r read texts

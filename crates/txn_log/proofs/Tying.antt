@@ -141,7 +141,7 @@ whats_present view [] = Unit {0}
 whats_present view (Wrote c ∷ ws) = whats_present view ws
 whats_present view (Added d ∷ ws) = IsSome (get view (place_of d)) × whats_present view ws
 
-some_of : {X : Type 0} (o : Option X) → (o ≡ None → ⊥) → IsSome o
+pub some_of : {X : Type 0} (o : Option X) → (o ≡ None → ⊥) → IsSome o
 some_of None h = absurd (h refl)
 some_of (Some x) h = refl
 

@@ -1,6 +1,6 @@
 //! Laws of the entries of stored pages. Each function is there for its contract.
 ghost use Rattle.txn_log.specs.Damaged.{OneDamageLaw};
-ghost use Rattle.txn_log.specs.Room.{DataRoomLaw};
+ghost use Rattle.txn_log.specs.Room.{DataLimitLaw, DataRoomLaw, OpensWithinLaw};
 ghost use Rattle.txn_log.specs.Stored.{OneStoredLaw, ProperLaw};
 
 /// Entries, with the texts of their definitions, stand for one database and its view rows.
@@ -21,4 +21,14 @@ pub fn one_damage_law()
 /// What all records leave takes no more bytes of data than the machine counts as used.
 pub fn data_room_law()
     ensures { DataRoomLaw }
+{}
+
+/// Where an engine is opened with its data within the limit, they stay within it, with the room that open transactions keep.
+pub fn data_limit_law()
+    ensures { DataLimitLaw }
+{}
+
+/// What an image leaves that is refused for nothing is opened with its data within the limit.
+pub fn opens_within_law()
+    ensures { OpensWithinLaw }
 {}

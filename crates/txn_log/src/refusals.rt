@@ -1,5 +1,5 @@
 //! Laws of the images that are refused. Each function is there for its contract.
-ghost use Rattle.txn_log.specs.Room.{WithinLaw};
+ghost use Rattle.txn_log.specs.Room.{WithinAlwaysLaw, WithinLaw};
 ghost use Rattle.txn_log.specs.Reversals.{ReversalLaw, UndoLaw};
 ghost use Rattle.txn_log.specs.Refused.{EitherLaw, NeverBothLaw, NotRefusedLaw, OneRefusalLaw, WrongViewLaw};
 
@@ -38,7 +38,12 @@ pub fn undo_law()
     ensures { UndoLaw }
 {}
 
-/// Where the machine's count of data lies within the limit, an image of all records between two steps is not refused.
+/// Where an engine was opened with its data within the limit, an image of all records between two steps is not refused.
 pub fn within_law()
     ensures { WithinLaw }
+{}
+
+/// And no image that a crash may leave at any moment, also without the latest of the waiting records.
+pub fn within_always_law()
+    ensures { WithinAlwaysLaw }
 {}

@@ -1,6 +1,6 @@
 use Rattle.txn_log.proofs.Printed.{one_statement, prints_again}
 use Rattle.txn_log.proofs.Once.{reading_once}
-use Rattle.txn_log.proofs.Rooming.{within_fine}
+use Rattle.txn_log.proofs.Staying.{within_fine}
 use Rattle.txn_log.proofs.refusals.within_law.Goals as goal
 
 pub returns : goal.returns
