@@ -8,7 +8,8 @@ pub fn answered_law()
     ensures { AnsweredLaw }
 {}
 
-/// A step has only one such answer, but for how a set or a cycle of sessions is written down, and leaves one state.
+/// A step has only one such answer, but for how a set or a cycle of sessions is written down, and leaves one store; the same answer leaves
+/// one state.
 pub fn only_law()
     ensures { OnlyLaw }
 {}

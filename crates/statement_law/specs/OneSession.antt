@@ -26,7 +26,7 @@ use Rattle.script_law.specs.Sessions.{programs_of}
 use Rattle.statement_law.specs.Telling.{tell}
 use Rattle.statement_law.specs.Statements.{the_works}
 
--- a line with a statement of this session, `checkpoint`, or a line of nobody
+-- a line `N: ..` of this session, `checkpoint`, a remark, or a line that has no form or is too long
 abbrev pub IsOfOne : ℕ → Said → Type 0
 IsOfOne session nothing = Unit {0}
 IsOfOne session too_long = Unit {0}
@@ -61,7 +61,7 @@ abbrev pub OneSerialLaw : Type 0
 OneSerialLaw = (db : Database) (session : ℕ) (lines : List Said) → AllByRecursion (IsOfOne session) lines → (out other : List ℕ)
     → IsUnhindered out → IsUnhindered other → IsSerialFrom (opened_with db) lines out → IsSerialFrom (opened_with db) lines other → out ≡ other
 
--- so a script of one session, run over the machine, prints one output only
+-- so a script of such lines, run over the machine, prints one such output only
 abbrev pub OneOutputLaw : Type 0
 OneOutputLaw = (db : Database) (stored : ViewRows) (opening : Opening) → IsOpened db stored → (session : ℕ) (lines : List Said) → AllByRecursion (IsOfOne session) lines
     → (out other : List ℕ) (after last : Story) → IsUnhindered out → IsUnhindered other

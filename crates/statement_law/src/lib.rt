@@ -57,12 +57,13 @@ pub fn never_blocked_law()
     ensures { NeverBlockedLaw }
 {}
 
-/// There is one serial output at most for the lines of one session, where nobody is told to wait or refused by the engine.
+/// There is one serial output at most for lines `N: ..` of one session and `checkpoint`, where nobody is told to wait or refused by the
+/// engine.
 pub fn one_serial_law()
     ensures { OneSerialLaw }
 {}
 
-/// So a script of one session prints one output only.
+/// So a script of such lines prints one such output only.
 pub fn one_output_law()
     ensures { OneOutputLaw }
 {}
