@@ -9,12 +9,12 @@ use Rattle.iv_types.specs.declared.expression.Expr.{Expr}
 use Rattle.iv_types.specs.declared.refusal.Refusal.TheVariants.{WrongType}
 use Rattle.iv_types.specs.Syntax.{Tree}
 use Rattle.iv_types.specs.Trees.{perhaps_tree, trees}
-use Rattle.iv_meaning.specs.Schema.{Object, as_index, object_columns}
+use Rattle.iv_meaning.specs.Schema.{Object, as_index, object_columns, primary_of}
 use Rattle.iv_meaning.specs.Bound.{set_tree}
 use Rattle.iv_meaning.specs.Shape.{is_aggregate, is_empty, is_grouped, repeats, same_place}
 use Rattle.iv_meaning.specs.Types.{family, is_of, is_truth, is_value}
 use Rattle.iv_meaning.specs.Typing.{condition_typed, item_typed, set_typed, sources_of, tuple_typed}
-use Rattle.iv_meaning.specs.Tests.{Test, is_many_to_one, is_table, primary_of, rule}
+use Rattle.iv_meaning.specs.Tests.{Test, is_many_to_one, is_table, rule}
 use Rattle.iv_types.specs.declared.expression.ColumnAt.{ColumnAt}
 use Rattle.bind_resolve.specs.declared.resolved.NamedItem.{NamedItem}
 use Rattle.bind_resolve.specs.declared.resolved.ResolvedQuery.{ResolvedQuery}

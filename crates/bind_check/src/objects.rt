@@ -1,10 +1,10 @@
 //! What is known of an object.
 ghost use Rattle.std.specs.Prelude.{◌≡◌, is_some, length};
 ghost use Rattle.std.specs.Option.{option_copied};
-ghost use Rattle.iv_meaning.specs.Schema.{object_columns, as_table, as_index, as_view};
+ghost use Rattle.iv_meaning.specs.Schema.{object_columns, as_table, as_index, as_view, primary_of};
 ghost use Rattle.iv_meaning.specs.Objects.{object_of};
 ghost use Rattle.iv_meaning.specs.Shape.{object_number};
-ghost use Rattle.iv_meaning.specs.Tests.{is_table, primary_of};
+ghost use Rattle.iv_meaning.specs.Tests.{is_table};
 
 use iv_types::{Definition, TableDef};
 

@@ -3,7 +3,8 @@ ghost use Rattle.std.specs.Prelude.{◌≡◌, ◌<◌, ◌^◌, ◌++◌, [], m
 ghost use Rattle.std.specs.Option.{option_map_or};
 ghost use Rattle.iv_types.specs.Trees.{set_tree};
 ghost use Rattle.iv_meaning.specs.Names.{columns_named};
-ghost use Rattle.iv_meaning.specs.Shape.{places_of, primary_places};
+ghost use Rattle.iv_meaning.specs.Schema.{primary_of};
+ghost use Rattle.iv_meaning.specs.Shape.{places_of};
 ghost use Rattle.bind_names.specs.Seeing.{names_in, visible_of};
 ghost use Rattle.bind_shape.specs.Places.{column_places, named_place};
 
@@ -84,7 +85,7 @@ pub fn set_names(alloc: Global, sets: &[Set]) -> Result<Vec<&Bytes>, NoMemory>
 
 /// The columns of the primary key, of which what is no table has none.
 pub fn primary_of<'a>(relation: &Visible<'a>) -> &'a [u32]
-    ensures { result.now ≡ primary_places (visible_of relation.now) }
+    ensures { result.now ≡ primary_of (visible_of relation.now).object }
 {
     match relation.object {
         Some(Definition::Table(table)) => table.primary.as_slice(),

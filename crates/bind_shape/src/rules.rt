@@ -5,7 +5,8 @@ ghost use Rattle.std.specs.Prelude.{◌≡◌, ◌<◌, ◌^◌, ◌++◌, ◌&&
 ghost use Rattle.std.specs.List.{list_any, list_all};
 ghost use Rattle.iv_types.specs.Trees.{tree, trees, perhaps_tree, query_tree, set_tree};
 ghost use Rattle.iv_meaning.specs.Objects.{schema_of};
-ghost use Rattle.iv_meaning.specs.Shape.{is_empty, is_order, is_table, places_of, primary_places};
+ghost use Rattle.iv_meaning.specs.Schema.{primary_of};
+ghost use Rattle.iv_meaning.specs.Shape.{is_empty, is_order, is_table, places_of};
 ghost use Rattle.iv_meaning.specs.Binding.{shape_faults};
 ghost use Rattle.bind_names.specs.Checks.{Checks};
 ghost use Rattle.bind_names.specs.Seeing.{names_in, visible_of, scope_seen};

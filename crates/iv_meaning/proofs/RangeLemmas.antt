@@ -12,21 +12,15 @@ use Rattle.iv_types.specs.declared.value.Kind.{Kind}
 use Rattle.iv_types.specs.declared.value.Kind.TheVariants.{Int, Huge, Text}
 use Rattle.iv_types.specs.declared.value.Value.{Value}
 use Rattle.iv_types.specs.declared.value.Value.TheVariants.{Number, Word}
-use Rattle.iv_types.specs.Encoding.{IsHuge, Fits}
-use Rattle.iv_meaning.specs.Values.{Outcome, number, word, refused, is_huge, ranged, outcome_of, value_of, lies_outside}
+use Rattle.iv_types.specs.Encoding.{Fits, is_huge}
+use Rattle.iv_types.proofs.Fitting.{int_is}
+use Rattle.iv_meaning.specs.Values.{Outcome, number, word, refused, ranged, outcome_of, value_of, lies_outside}
 
 -- ---- values that fit
 
-pub huge_is : (n : ℤ) → IsHuge n → is_huge n ≡ true
-huge_is (pos n) h = let f = h.0.sfits in le-leb n (2 ^ 127 - 1) (omega (arith, f))
-huge_is (negsuc n) h =
-    let f = h.0.sfits in
-    let le : n ≤ 2 ^ 127 - 2 = elim (leb_tells n (2 ^ 127 - 2)) [ inl t ↦ t.1 | inr g ↦ absurd (h.1 (ap negsuc (let l = g.1 in omega (arith, f, l)))) ] in
-    ap (λ b. b && true) (le-leb n (2 ^ 127 - 2) le)
-
-int_is : (n : ℤ) → FitsSigned w64 n → is_huge n ≡ true
-int_is (pos n) h = let f = h.sfits in le-leb n (2 ^ 127 - 1) (omega (arith, f))
-int_is (negsuc n) h = let f = h.sfits in ap (λ b. b && true) (le-leb n (2 ^ 127 - 2) (omega (arith, f)))
+int_huge : (n : ℤ) → FitsSigned w64 n → is_huge n ≡ true
+int_huge (pos n) h = let f = h.sfits in le-leb n (2 ^ 127 - 1) (omega (arith, f))
+int_huge (negsuc n) h = let f = h.sfits in ap (λ b. b && true) (le-leb n (2 ^ 127 - 2) (omega (arith, f)))
 
 -- the value as an expression sees it where it lies in the range
 abbrev pub seen : Value → Outcome
@@ -34,12 +28,12 @@ seen (Number n) = number n
 seen (Word w) = word w
 
 pub seen_is : (k : Kind) (v : Value) → Fits k v → outcome_of (Some v) ≡ seen v
-seen_is Int (Number n) f = ap (λ b. cond b (number n) refused) (int_is n f)
-seen_is Huge (Number n) f = ap (λ b. cond b (number n) refused) (huge_is n f)
+seen_is Int (Number n) f = ap (λ b. cond b (number n) refused) (int_huge n (int_is n f))
+seen_is Huge (Number n) f = ap (λ b. cond b (number n) refused) f
 seen_is Text (Word w) f = refl
-seen_is Int (Word w) f = absurd f
-seen_is Huge (Word w) f = absurd f
-seen_is Text (Number n) f = absurd f
+seen_is Int (Word w) f = absurd (cc)
+seen_is Huge (Word w) f = absurd (cc)
+seen_is Text (Number n) f = absurd (cc)
 
 pub value_seen : (k : Kind) (v : Value) → Fits k v → value_of (outcome_of (Some v)) ≡ Some v
 value_seen k v f = ap value_of (seen_is k v f) ∙ again v
@@ -49,12 +43,12 @@ value_seen k v f = ap value_of (seen_is k v f) ∙ again v
     again (Word b) = refl
 
 pub none_outside : (k : Kind) (v : Value) → Fits k v → lies_outside v ≡ false
-none_outside Int (Number n) f = ap not (int_is n f)
-none_outside Huge (Number n) f = ap not (huge_is n f)
+none_outside Int (Number n) f = ap not (int_huge n (int_is n f))
+none_outside Huge (Number n) f = ap not f
 none_outside Text (Word w) f = refl
-none_outside Int (Word w) f = absurd f
-none_outside Huge (Word w) f = absurd f
-none_outside Text (Number n) f = absurd f
+none_outside Int (Word w) f = absurd (cc)
+none_outside Huge (Word w) f = absurd (cc)
+none_outside Text (Number n) f = absurd (cc)
 
 -- ---- values that were seen
 

@@ -12,12 +12,12 @@ use Rattle.iv_types.specs.Syntax as s
 use Rattle.iv_types.specs.Syntax.{Tree, SetTree, StatementTree}
 use Rattle.iv_types.specs.Printing.{statement_size}
 use Rattle.iv_meaning.specs.Schema as schema
-use Rattle.iv_meaning.specs.Schema.{Schema, Object, named, object_columns, object_kinds, kind_at, as_table, as_index, items_at}
+use Rattle.iv_meaning.specs.Schema.{Schema, Object, named, object_columns, object_kinds, kind_at, as_table, as_index, items_at, primary_of}
 use Rattle.iv_meaning.specs.Names.{Visible, name_faults, seen_as, bound, object_unknown, object_taken, expression_faults, condition_faults, columns_unknown, set_faults, taken}
 use Rattle.iv_meaning.specs.Types as types
 use Rattle.iv_meaning.specs.Types.{family, is_of, set_typed, kind_named}
 use Rattle.iv_meaning.specs.Shape as shape
-use Rattle.iv_meaning.specs.Shape.{Bounded, object_number, repeats, places_of, primary_places, width, key_width, row_width, at_most}
+use Rattle.iv_meaning.specs.Shape.{Bounded, object_number, repeats, places_of, width, key_width, row_width, at_most}
 use Rattle.iv_meaning.specs.Binding as old
 use Rattle.iv_meaning.specs.Binding.{unless}
 use Rattle.iv_meaning.specs.Statement as made
@@ -73,7 +73,7 @@ abbrev index_limits : Schema → Visible → List (List ℕ) → ℕ → List Bo
 index_limits objects v columns size =
     at_most 6 32 (length columns)
     ∷ at_most 9 64 (length (filter_map as_index objects) + 1)
-    ∷ at_most 12 1024 (width key_width (items_at v.kinds (places_of v.columns columns ++ primary_places v)))
+    ∷ at_most 12 1024 (width key_width (items_at v.kinds (places_of v.columns columns ++ primary_of v.object)))
     ∷ at_most 15 4096 size
     ∷ []
 
@@ -93,7 +93,7 @@ index_found objects name target columns size o places zip =
     (together _ _ _ _ refl
     (together _ _ _ _ (ap (λ n. (nat_lt 32 n, Limit 6 (pos 32))) (zip_length (PlaceIs (object_columns o)) columns places zip))
     (together _ _ _ _ refl
-    (together _ _ _ _ (ap (λ ps. (nat_lt 1024 (width key_width (items_at v.kinds (ps ++ primary_places v))), Limit 12 (pos 1024))) are) refl)))))
+    (together _ _ _ _ (ap (λ ps. (nat_lt 1024 (width key_width (items_at v.kinds (ps ++ primary_of v.object))), Limit 12 (pos 1024))) are) refl)))))
     refl
     (λ none. ap (λ ps. made.create (schema.index (record { number = length objects + 1; name = name; table = object_number o; columns = ps }))) are)
 
@@ -183,7 +183,7 @@ repeats_map (x ∷ xs) = ap (λ t. t || repeats (λ (a b : SetTree). bytes_eq a.
 
 abbrev update_rules : Visible → List SetTree → List (ℕ × Bool)
 update_rules v ss =
-    (3, list_any (λ place. list_any (λ key. key == place) (primary_places v)) (places_of v.columns (map (λ x. x.name) ss)))
+    (3, list_any (λ place. list_any (λ key. key == place) (primary_of v.object)) (places_of v.columns (map (λ x. x.name) ss)))
     ∷ (4, repeats bytes_eq (map (λ x. x.name) ss))
     ∷ (5, not (shape.is_table v))
     ∷ []
@@ -201,7 +201,7 @@ update_found objects target size o ss bs condition zip =
     same_passes (list_all (typing.set_typed (v.kinds ∷ [])) bs && typing.condition_typed (v.kinds ∷ []) where_) (list_all (set_typed v) ss && types.condition_typed (v ∷ []) condition)
     (tests objects size (new.update o bs where_)) [] (update_rules v ss) [] [] _ _
     (ap (λ t. t && typing.condition_typed (v.kinds ∷ []) where_) (sets_typed v ss bs zip) ∙ ap (λ t. list_all (set_typed v) ss && t) (typed_condition (v ∷ []) condition))
-    (together _ _ _ _ (ap (rule 3) (set_keys v (primary_places v) ss bs zip))
+    (together _ _ _ _ (ap (rule 3) (set_keys v (primary_of v.object) ss bs zip))
     (together _ _ _ _ (ap (rule 4) (sym (repeats_zip (SetIs v) (λ a b. bytes_eq a.name b.name) (λ a b. a.column == b.column) (λ x y a b p q. same_places v.columns x.name y.name a.column b.column p.0 q.0) ss bs zip) ∙ repeats_map ss))
     refl))
     refl

@@ -80,6 +80,11 @@ abbrev pub kinds_of_table : Option Object → List Kind
 kinds_of_table (Some (table t)) = kinds_of t
 kinds_of_table _ = []
 
+-- the places of the columns of a table's primary key, and none of another object
+abbrev pub primary_of : Option Object → List ℕ
+primary_of (Some (table t)) = t.primary
+primary_of _ = []
+
 -- the tables that a view reads
 abbrev pub sources_of : ViewTree → List ℕ
 sources_of v = v.first ∷ elim v.second [ None ↦ [] | Some second ↦ second.table ∷ [] ]

@@ -15,7 +15,7 @@ use Rattle.iv_types.specs.Syntax as s
 use Rattle.iv_types.specs.Syntax.{Tree, ItemTree, QueryTree, JoinTree, SetTree, StatementTree, create_table, create_index, create_view, insert, update, delete, select}
 use Rattle.iv_types.specs.Printing.{statement_size}
 use Rattle.iv_types.specs.Encoding.{kinds_of}
-use Rattle.iv_meaning.specs.Schema.{Schema, Object, as_table, as_index, as_view, table, index, view, items_at, kind_at, sources_of}
+use Rattle.iv_meaning.specs.Schema.{Schema, Object, as_table, as_index, as_view, table, index, view, primary_of, items_at, kind_at, sources_of}
 use Rattle.iv_meaning.specs.Query.{BoundItem, count, sum, plain}
 use Rattle.iv_meaning.specs.Names.{Visible, seen_as, scope_of, resolve, bound, columns_named, how_many}
 
@@ -195,10 +195,6 @@ view_rules scope query =
     ∷ (11, list_any is_view scope)
     ∷ []
 
--- the columns of a table's primary key
-abbrev pub primary_places : Visible → List ℕ
-primary_places v = option_map_or (λ t. t.primary) (table_of v) []
-
 abbrev pub rules_of : Schema → StatementTree → List (ℕ × Bool)
 rules_of objects (create_table name columns primary) = (1, repeats bytes_eq primary) ∷ []
 rules_of objects (create_index name target columns) = (1, repeats bytes_eq columns) ∷ (5, not (is_table (seen_as objects target target))) ∷ []
@@ -210,7 +206,7 @@ rules_of objects (insert target tuples) =
     (2, is_table v && not (list_all (λ tuple. length tuple == length v.columns) tuples)) ∷ (5, not (is_table v)) ∷ []
 rules_of objects (update target ss condition) =
     let v : Visible = seen_as objects target target in
-    (3, list_any (λ place. list_any (λ key. key == place) (primary_places v)) (places_of v.columns (map (λ x. x.name) ss)))
+    (3, list_any (λ place. list_any (λ key. key == place) (primary_of v.object)) (places_of v.columns (map (λ x. x.name) ss)))
     ∷ (4, repeats bytes_eq (map (λ x. x.name) ss))
     ∷ (5, not (is_table v))
     ∷ []
@@ -275,7 +271,7 @@ limits_of objects (create_index name target columns) =
     let v : Visible = seen_as objects target target in
     at_most 6 32 (length columns)
     ∷ at_most 9 64 (length (filter_map as_index objects) + 1)
-    ∷ at_most 12 1024 (width key_width (items_at v.kinds (places_of v.columns columns ++ primary_places v)))
+    ∷ at_most 12 1024 (width key_width (items_at v.kinds (places_of v.columns columns ++ primary_of v.object)))
     ∷ at_most 15 4096 (statement_size (create_index name target columns))
     ∷ []
 limits_of objects (create_view name query) =

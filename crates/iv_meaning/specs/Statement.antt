@@ -1,23 +1,20 @@
 -- What a bound statement means on a database: it is refused, or it lists rows, counts rows and keeps changes.
-use Rattle.std.specs.Prelude.{ℕ, pos, neg_ℤ, ◌+◌, ◌==◌, ◌^◌, ◌-◌, ◌&&◌, int_le, nat_le, not, Bool, false, List, [], ◌∷◌, ◌++◌, map, filter, length, is_some, Option, Some, None, if◌then◌else◌}
+use Rattle.std.specs.Prelude.{ℕ, ◌+◌, ◌==◌, not, Bool, List, [], ◌∷◌, ◌++◌, map, filter, length, is_some, Option, Some, None, if◌then◌else◌}
 use Rattle.std.specs.Option.{option_to_list, option_map, option_and_then}
 use Rattle.std.specs.FinMap.{get}
 use Rattle.std.specs.Ordering.{eq_by_cmp}
 use Rattle.iv_types.specs.declared.value.Kind.{Kind}
-use Rattle.iv_types.specs.declared.value.Kind.TheVariants.{Int, Huge, Text}
 use Rattle.iv_types.specs.declared.value.Value.{Value}
-use Rattle.iv_types.specs.declared.value.Value.TheVariants.{Number, Word}
 use Rattle.iv_types.specs.declared.catalog.TableDef.{TableDef}
 use Rattle.iv_types.specs.declared.refusal.Refusal.{Refusal}
 use Rattle.iv_types.specs.declared.refusal.Refusal.TheVariants.{DuplicateKey, NumberRange}
 use Rattle.iv_types.specs.Syntax.{Tree}
-use Rattle.std.specs.Str.{is_utf8}
-use Rattle.iv_types.specs.Encoding.{row_cmp, longest_text, kinds_of}
+use Rattle.iv_types.specs.Encoding.{row_cmp, fits, kinds_of}
 use Rattle.table_laws.specs.Place.{Place}
 use Rattle.table_laws.specs.Table.{Change}
 use Rattle.iv_meaning.specs.Schema.{Object, view, numbered, as_table}
 use Rattle.iv_meaning.specs.Database.{Row, Rows, Database, rows_of, key_of, set_row}
-use Rattle.iv_meaning.specs.Values.{Outcome, meaning, value_of, is_huge}
+use Rattle.iv_meaning.specs.Values.{Outcome, meaning, value_of}
 use Rattle.iv_meaning.specs.Query.{BoundQuery, chosen, conjunction}
 use Rattle.iv_meaning.specs.Grouping.{all_of}
 use Rattle.iv_meaning.specs.View.{whole_view, select_answer}
@@ -47,13 +44,6 @@ pub data Meaning : Type 0 where
   Accepted : (listed : List Row) (count : ℕ) (kept : List Kept) → Meaning
 
 -- ---- stored values
-
--- the value lies inside the column's type
-abbrev pub fits : Kind → Value → Bool
-fits Int (Number n) = int_le (neg_ℤ (pos (2 ^ 63))) n && int_le n (pos (2 ^ 63 - 1))
-fits Huge (Number n) = is_huge n
-fits Text (Word bytes) = nat_le (length bytes) longest_text && is_utf8 bytes
-fits _ _ = false
 
 abbrev pub if_fitting : Kind → Value → Option Value
 if_fitting kind v = if fits kind v then Some v else None

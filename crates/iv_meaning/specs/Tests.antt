@@ -12,7 +12,7 @@ use Rattle.iv_types.specs.declared.statement.Order.{Order}
 use Rattle.iv_types.specs.declared.statement.OrderKey.{OrderKey}
 use Rattle.iv_types.specs.declared.statement.OrderKey.TheVariants.{Place, Name}
 use Rattle.iv_types.specs.declared.catalog.TableDef.{TableDef}
-use Rattle.iv_meaning.specs.Schema.{Schema, Object, as_table, as_index, as_view, items_at, kind_at, object_columns, object_kinds}
+use Rattle.iv_meaning.specs.Schema.{Schema, Object, as_table, as_index, as_view, primary_of, items_at, kind_at, object_columns, object_kinds}
 use Rattle.iv_meaning.specs.Names.{how_many}
 use Rattle.iv_meaning.specs.Query.{BoundOrder}
 use Rattle.iv_meaning.specs.Shape.{NamedItem, same_place, repeats, is_aggregate, is_grouped, joins_tables, is_view_list, has_arithmetic, is_named, is_empty, terms, key_width, row_width, width, readers, object_number, sums_in}
@@ -34,9 +34,6 @@ at_most which most n = (nat_lt most n, Limit which (pos most))
 
 abbrev pub is_table : Object → Bool
 is_table object = is_some (as_table object)
-
-abbrev pub primary_of : Object → List ℕ
-primary_of object = option_map_or (λ t. t.primary) (as_table object) []
 
 -- one relation, or two tables of which the second is joined by its whole primary key
 abbrev pub is_many_to_one : Object → List Joined → Bool
@@ -101,7 +98,7 @@ tests objects size (index name target columns) =
     ∷ rule 5 (not (is_table target))
     ∷ at_most 6 32 (length columns)
     ∷ at_most 9 64 (length (filter_map as_index objects) + 1)
-    ∷ at_most 12 1024 (width key_width (items_at (object_kinds objects target) (columns ++ primary_of target)))
+    ∷ at_most 12 1024 (width key_width (items_at (object_kinds objects target) (columns ++ primary_of (Some target))))
     ∷ at_most 15 4096 size
     ∷ []
 tests objects size (view name query) =
@@ -118,7 +115,7 @@ tests objects size (insert target tuples) =
     ∷ rule 5 (not (is_table target))
     ∷ []
 tests objects size (update target sets condition) =
-    rule 3 (list_any (λ a. list_any (λ key. key == a.column) (primary_of target)) sets)
+    rule 3 (list_any (λ a. list_any (λ key. key == a.column) (primary_of (Some target))) sets)
     ∷ rule 4 (repeats (λ a b. a.column == b.column) sets)
     ∷ rule 5 (not (is_table target))
     ∷ []

@@ -1,16 +1,18 @@
 -- Rows and keys in bytes. All numbers are big-endian.
-use Rattle.std.specs.Prelude.{◌≢◌, ℕ, ℤ, pos, neg_ℤ, ◌+ℤ◌, ◌^◌, ◌≤◌, ◌==◌, List, [], ◌∷◌, ◌++◌, map, length, if◌then◌else◌}
+use Rattle.std.specs.Prelude.{◌≢◌, ℕ, ℤ, pos, neg_ℤ, ◌+ℤ◌, ◌^◌, ◌-◌, ◌==◌, ◌&&◌, int_le, nat_le, not, Bool, true, false, IsTrue, List, [], ◌∷◌, ◌++◌, map, length, if◌then◌else◌}
 use Rattle.std.specs.List.{flat_map}
+use Rattle.std.specs.Option.{option_map_or}
 use Rattle.std.specs.Int.{w64, w128, cast_unsigned, bytes_high_first}
 use Rattle.std.specs.Int.RustNames.{FitsSigned}
-use Rattle.std.specs.Str.{IsUtf8}
+use Rattle.std.specs.Str.{is_utf8}
 use Rattle.std.specs.declared.cmp.Ordering.{Ordering}
 use Rattle.std.specs.declared.cmp.Ordering.TheVariants.{Less, Greater}
-use Rattle.std.specs.Ordering.{int_cmp, nat_cmp}
+use Rattle.std.specs.Ordering.{int_cmp, nat_cmp, is_gt, is_lt}
 use Rattle.std.specs.Cmp.Lexicographic.{slice_cmp}
 use Rattle.iv_types.specs.declared.catalog.TableDef.{TableDef}
 use Rattle.iv_types.specs.declared.value.Kind.{Kind}
 use Rattle.iv_types.specs.declared.value.Kind.TheVariants.{Int, Huge, Text}
+use Rattle.iv_types.specs.declared.value.Interval.{Interval}
 use Rattle.iv_types.specs.declared.value.Value.{Value}
 use Rattle.iv_types.specs.declared.value.Value.TheVariants.{Number, Word}
 
@@ -28,12 +30,18 @@ longest_text = 200
 abbrev pub IsHuge : ℤ → Type 0
 IsHuge n = FitsSigned w128 n × (n ≢ neg_ℤ (pos (2 ^ 127)))
 
+abbrev pub is_huge : ℤ → Bool
+is_huge n = int_le (neg_ℤ (pos (2 ^ 127 - 1))) n && int_le n (pos (2 ^ 127 - 1))
+
 -- the value is of the type's family and inside it
+abbrev pub fits : Kind → Value → Bool
+fits Int (Number n) = int_le (neg_ℤ (pos (2 ^ 63))) n && int_le n (pos (2 ^ 63 - 1))
+fits Huge (Number n) = is_huge n
+fits Text (Word bytes) = nat_le (length bytes) longest_text && is_utf8 bytes
+fits _ _ = false
+
 abbrev pub Fits : Kind → Value → Type 0
-Fits Int (Number n) = FitsSigned w64 n
-Fits Huge (Number n) = IsHuge n
-Fits Text (Word bytes) = (length bytes ≤ longest_text) × IsUtf8 bytes
-Fits _ _ = ⊥
+Fits kind value = IsTrue (fits kind value)
 
 -- one value for each type, each inside it
 abbrev pub FitAll : List Kind → List Value → Type 0
@@ -85,3 +93,7 @@ value_cmp (Word a) (Number n) = Greater
 -- the first column that differs decides
 abbrev pub row_cmp : List Value → List Value → Ordering
 row_cmp = slice_cmp value_cmp
+
+-- the key is at or after the low end, and before the high end if there is one
+abbrev pub lies_in : List ℕ → Interval → Bool
+lies_in key interval = not (is_gt (slice_cmp nat_cmp interval.low key)) && option_map_or (λ high. is_lt (slice_cmp nat_cmp key high)) interval.high true

@@ -1,11 +1,12 @@
 -- No clause of `run` rests on this module: it serves contracts between crates.
 --
 -- Ranges of encoded keys.
-use Rattle.std.specs.Prelude.{◌≡◌, ◌≢◌, ℕ, ◌+◌, ◌==◌, List, [], ◌∷◌, ◌++◌, Option, Some, None, IfSome, if◌then◌else◌}
+use Rattle.std.specs.Prelude.{◌≡◌, ◌≢◌, ℕ, ◌+◌, ◌==◌, IsTrue, List, [], ◌∷◌, ◌++◌, Option, Some, None, if◌then◌else◌}
 use Rattle.std.specs.declared.cmp.Ordering.TheVariants.{Less, Greater}
 use Rattle.std.specs.Ordering.{nat_cmp}
 use Rattle.std.specs.Cmp.Lexicographic.{slice_cmp}
 use Rattle.iv_types.specs.declared.value.Interval.{Interval}
+use Rattle.iv_types.specs.Encoding.{lies_in}
 
 -- lexicographic order of bytes
 abbrev pub IsBelow : List ℕ → List ℕ → Type 0
@@ -14,9 +15,8 @@ IsBelow a b = slice_cmp nat_cmp a b ≡ Less
 abbrev pub IsAtMost : List ℕ → List ℕ → Type 0
 IsAtMost a b = slice_cmp nat_cmp a b ≢ Greater
 
--- the key is at or after the low end, and before the high end if there is one
 abbrev pub LiesIn : List ℕ → Interval → Type 0
-LiesIn key interval = IsAtMost interval.low key × IfSome interval.high (λ high. IsBelow key high)
+LiesIn key interval = IsTrue (lies_in key interval)
 
 -- the bytes without the bytes 255 at their end, and the last one left made one greater; none where none is left
 abbrev pub next : List ℕ → Option (List ℕ)

@@ -8,7 +8,7 @@ use Rattle.std.proofs.Common.{arith}
 use mathlib.Core.Path.{refl, sym, ap, ◌∙◌}
 use Rattle.iv_types.specs.declared.value.Interval.{Interval}
 use Rattle.iv_meaning.specs.Database.{Row}
-use Rattle.iv_meaning.specs.View.{lies_in}
+use Rattle.iv_types.specs.Encoding.{lies_in}
 use Rattle.query_laws.proofs.Rising.{key_cmp, key_total}
 use Rattle.list_store.specs.Keys.{IsPlace}
 

@@ -13,7 +13,8 @@ use Rattle.iv_meaning.specs.Schema.{Object, table, index, view, ViewTree, number
 use Rattle.iv_meaning.specs.Objects.{schema_of}
 use Rattle.iv_meaning.specs.Database.{Row, Database, rows_of, key_of}
 use Rattle.iv_meaning.specs.Query.{answer}
-use Rattle.iv_meaning.specs.View.{whole_view, query_of, read, object_rows, lies_in, rows_between, view_key}
+use Rattle.iv_types.specs.Encoding.{lies_in}
+use Rattle.iv_meaning.specs.View.{whole_view, query_of, read, object_rows, rows_between, view_key}
 use Rattle.iv_meaning.specs.Autocommit.{is_refused_whole}
 use Rattle.query_laws.specs.Laws.{Rises}
 use Rattle.query_laws.proofs.Rising.{between_rising}

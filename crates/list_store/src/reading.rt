@@ -1,9 +1,9 @@
 //! Rows of an interval of keys.
 ghost use Rattle.std.specs.Prelude.{◌≡◌, ◌≤◌, length, filter, take, drop, ℕ, List, Some, None, IfOk};
-ghost use Rattle.iv_types.specs.Encoding.{key_bytes};
+ghost use Rattle.iv_types.specs.Encoding.{key_bytes, lies_in};
 ghost use Rattle.iv_meaning.specs.Objects.{schema_of, view_tree};
 ghost use Rattle.iv_meaning.specs.Database.{key_of};
-ghost use Rattle.iv_meaning.specs.View.{lies_in, view_key};
+ghost use Rattle.iv_meaning.specs.View.{view_key};
 ghost use Rattle.query_laws.specs.Laws.{Rises};
 ghost use Rattle.list_store.specs.Keys.{key_by, IsPlace};
 

@@ -19,7 +19,7 @@ use Rattle.table_laws.specs.Place.{Place, place_cmp}
 use Rattle.table_laws.proofs.Place.{place_cmp_total, place_cmp-IsAntisymmetric}
 use Rattle.table_laws.proofs.Tables.{Contains-entries}
 use Rattle.iv_meaning.specs.Escrow.{IsSession}
-use Rattle.iv_meaning.specs.View.{lies_in}
+use Rattle.iv_types.specs.Encoding.{lies_in}
 use Rattle.txn_machine.specs.Acts as act
 use Rattle.txn_machine.specs.Answers as answer
 use Rattle.txn_machine.specs.Deltas.{is_for}
@@ -32,7 +32,7 @@ use Rattle.txn_machine.specs.Log.{Within, Above, reserved}
 use Rattle.txn_machine.specs.State.{State}
 use Rattle.txn_machine.proofs.Holding.{by_contains, contains_here, contains_next, contains_none}
 use Rattle.txn_machine.proofs.Playing.{some_of}
-use Rattle.txn_machine.proofs.Testing.{is_true, holds, left_one, right_one, some_in, some_is, lies_is, lies_so}
+use Rattle.txn_machine.proofs.Testing.{is_true, holds, left_one, right_one, some_in, some_is}
 use Rattle.machine_answers.proofs.Saying.{HasAnswer}
 use Rattle.machine_answers.proofs.Choosing.{so_or_not, same_or_not, there_or_not, within_or_above, each_session_or_not}
 
@@ -64,7 +64,7 @@ increment_or_not Share = inr (λ e. cc)
 increment_or_not Exclusive = inr (λ e. cc)
 
 lies_or_not : (key : List ℕ) (lock : Want) → LiesIn key lock.interval ⊎ (LiesIn key lock.interval → ⊥)
-lies_or_not key lock = elim (so_or_not (lies_in key lock.interval)) [ inl so ↦ inl (lies_is key lock.interval so) | inr lacks ↦ inr (λ l. lacks (lies_so key lock.interval l)) ]
+lies_or_not key lock = elim (so_or_not (lies_in key lock.interval)) [ inl so ↦ inl (is_true (lies_in key lock.interval) so) | inr lacks ↦ inr (λ l. lacks (holds (lies_in key lock.interval) l)) ]
 
 abbrev Covers : Place → Want → Type 0
 Covers place lock = (lock.mode ≡ Increment) × (lock.index ≡ place.0) × LiesIn place.1 lock.interval

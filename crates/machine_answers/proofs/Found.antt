@@ -6,14 +6,14 @@ use mathlib.Core.Path.{refl, sym, ap, subst, ◌∙◌}
 use Rattle.std.proofs.Common.{eqb-true}
 use Rattle.iv_types.specs.declared.value.Interval.{Interval}
 use Rattle.iv_types.specs.declared.value.Value.TheVariants.{Number}
-use Rattle.iv_types.specs.Encoding.{FitAll, key_bytes}
+use Rattle.iv_types.specs.Encoding.{FitAll, key_bytes, lies_in}
 use Rattle.table_laws.specs.Place.{Place}
 use Rattle.table_laws.specs.Table.{rows_where}
 use Rattle.table_laws.proofs.Place.{place_cmp_total, place_cmp-IsAntisymmetric}
 use Rattle.table_laws.proofs.Tables.{Contains-rows_where}
 use Rattle.iv_meaning.specs.Schema.{Schema, Object, table, index, view, ViewTree, numbered, group_kinds}
 use Rattle.iv_meaning.specs.Database.{Row}
-use Rattle.iv_meaning.specs.View.{lies_in, read}
+use Rattle.iv_meaning.specs.View.{read}
 use Rattle.txn_machine.specs.Stored.{IsStoredRow, IsShown, is_shown, first_numbers}
 use Rattle.txn_machine.specs.Store.{schema_of}
 use Rattle.txn_machine.specs.State.{State}

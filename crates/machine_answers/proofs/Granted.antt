@@ -7,11 +7,10 @@ use Rattle.iv_types.specs.declared.lock.LockMode.{LockMode}
 use Rattle.iv_types.specs.declared.lock.Want.{Want}
 use Rattle.iv_types.specs.declared.value.Interval.{Interval}
 use Rattle.iv_types.specs.declared.refusal.EngineRefusal.TheVariants as refusal
-use Rattle.iv_types.specs.Encoding.{IsHuge}
+use Rattle.iv_types.specs.Encoding.{IsHuge, is_huge}
 use Rattle.iv_meaning.specs.Database.{Row}
 use Rattle.iv_meaning.specs.Escrow.{Account, IsAllowed, with_increment, paid, inf, sup}
-use Rattle.iv_meaning.specs.Values.{is_huge}
-use Rattle.iv_meaning.proofs.RangeLemmas.{huge_is as is_huge_of}
+use Rattle.iv_types.proofs.Fitting.{huge_so as is_huge_of}
 use Rattle.txn_machine.specs.Acts as act
 use Rattle.txn_machine.specs.Acts.{Act}
 use Rattle.txn_machine.specs.Answers as answer
@@ -26,7 +25,7 @@ use Rattle.txn_machine.specs.May.{Owes}
 use Rattle.txn_machine.specs.Steps.{asked, IsFree, Finds, FitsTransaction, FitsLog, FitsData, note_of, put_owed, put_need, log_need, data_need, used_data, history_bytes, IsAllowedIn, AllAllow, PaysFirst}
 use Rattle.txn_machine.proofs.Looking.{view_laws}
 use Rattle.txn_machine.proofs.Stepping.{now_is}
-use Rattle.txn_machine.proofs.Testing.{holds, huge_is}
+use Rattle.txn_machine.proofs.Testing.{holds, in_range}
 use Rattle.machine_answers.proofs.Saying.{HasAnswer}
 use Rattle.machine_answers.proofs.Choosing.{so_or_not, some_or_none, at_most_or_more, within_or_above, FirstWithout, all_or_first}
 
@@ -118,7 +117,7 @@ module _ (s : State) (session : ℕ) where
   -- ---- Pay
 
   huge_or_not : (n : ℤ) → IsHuge n ⊎ (IsHuge n → ⊥)
-  huge_or_not n = elim (so_or_not (is_huge n)) [ inl so ↦ inl (huge_is n so) | inr lacks ↦ inr (λ h. lacks (holds (is_huge n) (is_huge_of n h))) ]
+  huge_or_not n = elim (so_or_not (is_huge n)) [ inl so ↦ inl (in_range n so) | inr lacks ↦ inr (λ h. lacks (holds (is_huge n) (is_huge_of n h))) ]
 
   allowed_or_not : (a : Account) (d : ℤ) → IsAllowed a session d ⊎ (IsAllowed a session d → ⊥)
   allowed_or_not a d = by (huge_or_not (inf (with_increment a session d))) (huge_or_not (sup (with_increment a session d))) (huge_or_not (paid (d ∷ a.kept session)))

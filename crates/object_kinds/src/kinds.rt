@@ -46,8 +46,12 @@ pub fn kind_at(kinds: &[KindList], place: ColumnAt) -> Option<Kind>
     }
 }
 
-// The kinds of a table's columns, and none for what is no table.
-fn kinds_of_table(alloc: Global, catalog: &Catalog, number: u32) -> Result<KindList, NoMemory>
+/// The kinds of a table's columns, and none for what is no table.
+///
+/// # Errors
+///
+/// Where there is no memory for them.
+pub fn kinds_of_table(alloc: Global, catalog: &Catalog, number: u32) -> Result<KindList, NoMemory>
     ensures { IfOk result (λ kinds. kinds ≡ kinds_of_table (numbered (schema_of catalog.now) number)) }
 {
     match numbered(catalog, number) {

@@ -16,7 +16,7 @@ use Rattle.iv_meaning.specs.Query.{Combination, combinations, conjunction, chose
 use Rattle.iv_meaning.specs.Shape.{terms}
 use Rattle.iv_meaning.specs.Plan.{lies_within, goes_on}
 use Rattle.iv_meaning.specs.Reading.{extended}
-use Rattle.query_laws.proofs.Fitting.{first, second}
+use Rattle.iv_types.proofs.Fitting.{first_true as first, second_true as second}
 use Rattle.query_laws.proofs.TermLemmas.{get_front}
 
 -- ---- what is false is not chosen

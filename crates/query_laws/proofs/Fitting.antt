@@ -11,45 +11,9 @@ use Rattle.iv_types.specs.declared.value.Kind.{Kind}
 use Rattle.iv_types.specs.declared.value.Kind.TheVariants.{Int, Huge, Text}
 use Rattle.iv_types.specs.declared.value.Value.{Value}
 use Rattle.iv_types.specs.declared.value.Value.TheVariants.{Number, Word}
-use Rattle.iv_types.specs.Encoding.{IsHuge, Fits, FitAll, longest_text}
+use Rattle.iv_types.specs.Encoding.{IsHuge, Fits, FitAll, longest_text, is_huge, fits}
 use Rattle.iv_meaning.specs.Schema.{items_at}
-use Rattle.iv_meaning.specs.Statement.{fits}
-use Rattle.iv_meaning.specs.Values.{is_huge, lies_outside}
-
-pub first : (a b : Bool) → a && b ≡ true → a ≡ true
-first true b h = refl
-first false b h = absurd (cc)
-
-pub second : (a b : Bool) → a && b ≡ true → b ≡ true
-second true b h = h
-second false b h = absurd (cc)
-
--- ---- the test
-
-huge_pos : (n : ℕ) → nat_le n (2 ^ 127 - 1) ≡ true → IsHuge (pos n)
-huge_pos n e = let le : n ≤ 2 ^ 127 - 1 = leb-true n (2 ^ 127 - 1) e in (record { sfits = omega arith }, λ f. absurd (cc))
-
-huge_neg : (n : ℕ) → nat_le n (2 ^ 127 - 2) ≡ true → IsHuge (negsuc n)
-huge_neg n e =
-    let le : n ≤ 2 ^ 127 - 2 = leb-true n (2 ^ 127 - 2) e in
-    (record { sfits = omega arith }, λ f. let g : n ≡ 2 ^ 127 - 1 = cc in omega (arith, g))
-
-pub huge_fits : (n : ℤ) → is_huge n ≡ true → IsHuge n
-huge_fits (pos n) e = huge_pos n e
-huge_fits (negsuc n) e = huge_neg n (first (nat_le n (2 ^ 127 - 2)) true e)
-
-int_fits : (n : ℤ) → fits Int (Number n) ≡ true → FitsSigned w64 n
-int_fits (pos n) e = let le : n ≤ 2 ^ 63 - 1 = leb-true n (2 ^ 63 - 1) e in record { sfits = omega arith }
-int_fits (negsuc n) e = let le : n ≤ 2 ^ 63 - 1 = leb-true n (2 ^ 63 - 1) (first (nat_le n (2 ^ 63 - 1)) true e) in record { sfits = omega arith }
-
-pub fitting : (k : Kind) (v : Value) → fits k v ≡ true → Fits k v
-fitting Int (Number n) e = int_fits n e
-fitting Huge (Number n) e = huge_fits n e
-fitting Text (Word w) e =
-    (leb-true (length w) longest_text (first (nat_le (length w) longest_text) _ e), IsUtf8-from_is_utf8 w (second (nat_le (length w) longest_text) _ e))
-fitting Int (Word w) e = absurd (cc)
-fitting Huge (Word w) e = absurd (cc)
-fitting Text (Number n) e = absurd (cc)
+use Rattle.iv_meaning.specs.Values.{lies_outside}
 
 -- ---- values of which numbers of a HUGE column may have any size
 
@@ -76,7 +40,7 @@ all_are_of (k ∷ ks) (v ∷ vs) f = (fits_is_of k v f.0, all_are_of ks vs f.1)
 
 pub inside_fits : (k : Kind) (v : Value) → IsOf k v → lies_outside v ≡ false → Fits k v
 inside_fits Int v f e = f
-inside_fits Huge (Number n) f e = huge_fits n (not_outside (is_huge n) e)
+inside_fits Huge (Number n) f e = not_outside (is_huge n) e
   where
     not_outside : (b : Bool) → not b ≡ false → b ≡ true
     not_outside true e = refl

@@ -13,13 +13,13 @@ use Rattle.std.specs.Cmp.{tied_itself, upto}
 use Rattle.iv_types.specs.declared.value.Kind.{Kind}
 use Rattle.iv_types.specs.declared.value.Value.{Value}
 use Rattle.iv_types.specs.declared.value.Interval.{Interval}
-use Rattle.iv_types.specs.Encoding.{FitAll, key_bytes, row_cmp}
+use Rattle.iv_types.specs.Encoding.{FitAll, key_bytes, row_cmp, lies_in}
 use Rattle.iv_types.proofs.Orders.{row_cmp_total, row_cmp_exact}
 use Rattle.row_codec.proofs.Columns.{fit_lengths}
 use Rattle.row_codec.proofs.KeyOrders.{key_order}
 use Rattle.iv_meaning.specs.Database.{Row}
 use Rattle.iv_meaning.specs.Schema.{items_at}
-use Rattle.iv_meaning.specs.View.{lies_in, rows_between}
+use Rattle.iv_meaning.specs.View.{rows_between}
 use Rattle.iv_meaning.specs.Query.{put_by, sorted_by}
 use Rattle.iv_meaning.specs.Reading.{by_columns}
 use Rattle.query_laws.specs.Laws.{Rises}

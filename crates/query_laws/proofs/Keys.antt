@@ -1,5 +1,5 @@
 -- Keys in bytes: the order of keys that begin alike, and what lies between ends that are keys.
-use Rattle.std.specs.Prelude.{◌≡◌, ◌≢◌, ℕ, ◌+◌, ◌<◌, ◌==◌, ◌/◌, ◌^◌, ◌&&◌, pos, ◌+ℤ◌, true, false, cond, List, [], ◌∷◌, ◌++◌, Option, Some, None, IfSome}
+use Rattle.std.specs.Prelude.{◌≡◌, ◌≢◌, ℕ, ◌+◌, ◌<◌, ◌==◌, ◌/◌, ◌^◌, ◌&&◌, pos, ◌+ℤ◌, true, false, cond, List, [], ◌∷◌, ◌++◌, Option, Some, None, IfSome, not}
 use Rattle.std.specs.List.{flat_map}
 use Rattle.std.specs.Option.{option_map_or}
 use mathlib.Core.Path.{refl, sym, ap, subst, ◌∙◌}
@@ -18,7 +18,7 @@ use Rattle.iv_types.specs.declared.value.Kind.TheVariants.{Int, Huge, Text}
 use Rattle.iv_types.specs.declared.value.Value.{Value}
 use Rattle.iv_types.specs.declared.value.Value.TheVariants.{Number, Word}
 use Rattle.iv_types.specs.declared.value.Interval.{Interval}
-use Rattle.iv_types.specs.Encoding.{Fits, FitAll, key_byte, key_value_bytes, key_bytes, value_cmp}
+use Rattle.iv_types.specs.Encoding.{Fits, FitAll, key_byte, key_value_bytes, key_bytes, value_cmp, lies_in}
 use Rattle.iv_types.specs.Intervals.{IsBelow, IsAtMost, LiesIn, next, prefix_interval}
 use Rattle.iv_types.proofs.Orders.{value_antisymm, value_cmp_exact, value_cmp_total}
 use Rattle.row_codec.specs.Ranges.{AreBytes, BeginsWith}
@@ -26,8 +26,7 @@ use Rattle.iv_types.proofs.ByteNumbers.{IsBytes, IsBytes-rest, bytes_of_number}
 use Rattle.row_codec.proofs.KeyFormat.{key_format}
 use Rattle.row_codec.proofs.KeyOrders.{key_order}
 use Rattle.row_codec.proofs.RangeLaws.{begun}
-use Rattle.iv_meaning.specs.View.{lies_in}
-use Rattle.query_laws.proofs.Fitting.{first, second}
+use Rattle.iv_types.proofs.Fitting.{first_true as first, second_true as second, lies_is, lies_so, text_is}
 use Rattle.query_laws.proofs.Each.{each_append}
 use Rattle.query_laws.proofs.Rising.{key_cmp, key_total, less_is}
 
@@ -72,10 +71,10 @@ word_bytes (b ∷ w) h = each_append (λ b. b < 256) (key_byte b) (flat_map key_
 column_bytes : (k : Kind) (v : Value) → Fits k v → AreBytes (key_value_bytes k v)
 column_bytes Int (Number n) f = from_index (key_value_bytes Int (Number n)) (bytes_of_number 8 (cast_unsigned w64 (n +ℤ pos (2 ^ 63))))
 column_bytes Huge (Number n) f = from_index (key_value_bytes Huge (Number n)) (bytes_of_number 16 (cast_unsigned w128 (n +ℤ pos (2 ^ 127))))
-column_bytes Text (Word w) f = each_append (λ b. b < 256) (flat_map key_byte w) (0 ∷ 0 ∷ []) (word_bytes w (text_bytes w f.1)) (omega arith, (omega arith, tt))
-column_bytes Int (Word w) f = absurd f
-column_bytes Huge (Word w) f = absurd f
-column_bytes Text (Number n) f = absurd f
+column_bytes Text (Word w) f = each_append (λ b. b < 256) (flat_map key_byte w) (0 ∷ 0 ∷ []) (word_bytes w (text_bytes w (text_is w f).1)) (omega arith, (omega arith, tt))
+column_bytes Int (Word w) f = absurd (cc)
+column_bytes Huge (Word w) f = absurd (cc)
+column_bytes Text (Number n) f = absurd (cc)
 
 pub key_are_bytes : (ks : List Kind) (vs : List Value) → FitAll ks vs → AreBytes (key_bytes ks vs)
 key_are_bytes [] vs f = tt
@@ -162,7 +161,7 @@ abbrev pub IsUpTo : List ℕ → Option (List ℕ) → Type 0
 IsUpTo key high = option_map_or (λ end. is_lt (key_cmp key end)) high true ≡ true
 
 pub lies : (key : List ℕ) (interval : Interval) → IsFrom interval.low key → IsUpTo key interval.high → lies_in key interval ≡ true
-lies key interval f u = ap (λ b. cond b false true && option_map_or (λ end. is_lt (key_cmp key end)) interval.high true) f ∙ u
+lies key interval f u = ap (λ b. not b && option_map_or (λ end. is_lt (key_cmp key end)) interval.high true) f ∙ u
 
 not_greater : (o : Ordering) → o ≢ Greater → is_gt o ≡ false
 not_greater Less h = refl
@@ -182,7 +181,7 @@ is_up_to key (Some end) h = ap is_lt h
 -- the keys that begin so
 pub from_prefix : (prefix key : List ℕ) → AreBytes key → BeginsWith prefix key → IsFrom prefix key × IsUpTo key (next prefix)
 from_prefix prefix key bytes b =
-    let inside : LiesIn key (prefix_interval prefix) = (begun prefix key bytes).1 b in
+    let inside = lies_is key (prefix_interval prefix) ((begun prefix key bytes).1 b) in
     (is_from prefix key inside.0, is_up_to key (next prefix) inside.1)
 
 nil_first : (rest : List ℕ) → is_gt (key_cmp [] rest) ≡ false
@@ -236,7 +235,7 @@ module _ (prefix : List ℕ) (prefix_bytes : AreBytes prefix) (k : Kind) (x v : 
           | Equal ↦ λ q. refl
           | Greater ↦ λ q.
               let below : IsBelow whole n = key_total.antisymm whole n ∙ ap ordering_reverse q in
-              let inside : LiesIn whole (prefix_interval end) = (at_most end whole least, subst (λ o. IfSome o (λ high. IsBelow whole high)) (sym p) below) in
+              let inside : LiesIn whole (prefix_interval end) = lies_so whole (prefix_interval end) (at_most end whole least) (subst (λ o. IfSome o (λ high. IsBelow whole high)) (sym p) below) in
               absurd (not_begun e ((begun end whole whole_bytes).0 inside))
         ] refl
       ] refl
@@ -250,7 +249,7 @@ module _ (prefix : List ℕ) (prefix_bytes : AreBytes prefix) (k : Kind) (x v : 
   pub up_to_at_most : is_gt (value_cmp x v) ≡ false → IsUpTo whole (next end)
   up_to_at_most h = elim (value_cmp x v) as (λ o. value_cmp x v ≡ o → is_gt o ≡ false → IsUpTo whole (next end)) [
     | Less ↦ λ e g.
-        let inside : LiesIn end (prefix_interval end) = (begun end end end_bytes).1 ([], sym (append-nil end)) in
+        let inside = lies_is end (prefix_interval end) ((begun end end end_bytes).1 ([], sym (append-nil end))) in
         is_up_to whole (next end) (through (next end) (below_is (up_to_less e)) inside.1)
     | Equal ↦ λ e g.
         let same : whole ≡ end ++ rest = ap (λ (y : Value). prefix ++ (key_value_bytes k y ++ rest)) (value_cmp_exact x v e) ∙ sym (append_assoc prefix (key_value_bytes k v) rest) in

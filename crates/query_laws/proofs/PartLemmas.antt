@@ -13,14 +13,13 @@ use Rattle.iv_types.specs.declared.value.Value.{Value}
 use Rattle.iv_types.specs.declared.value.Interval.{Interval}
 use Rattle.iv_types.specs.declared.expression.Op.{Op}
 use Rattle.iv_types.specs.declared.expression.Op.TheVariants as op
-use Rattle.iv_types.specs.Encoding.{Fits, FitAll, key_bytes, key_value_bytes, value_cmp}
+use Rattle.iv_types.specs.Encoding.{Fits, FitAll, key_bytes, key_value_bytes, value_cmp, lies_in}
 use Rattle.iv_types.specs.Intervals.{next}
 use Rattle.row_codec.specs.Ranges.{AreBytes}
 use Rattle.iv_meaning.specs.Database.{Row}
 use Rattle.iv_meaning.specs.Schema.{items_at}
 use Rattle.iv_meaning.specs.Query.{Combination}
 use Rattle.iv_meaning.specs.Values.{holds, lies_outside}
-use Rattle.iv_meaning.specs.View.{lies_in}
 use Rattle.iv_meaning.specs.Plan.{Equal as TermEqual, Range, Term, equals, ranges, ColumnTerm, equals_of, ranges_of, on_column, first_equal, Part, part_by, greater, lesser, equal_value, low_end, high_end, low_of, high_of, interval_behind, all_keys, interval_of}
 use Rattle.query_laws.proofs.Each.{each_append}
 use Rattle.query_laws.proofs.Rising.{key_cmp, less_is}

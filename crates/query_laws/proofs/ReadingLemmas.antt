@@ -9,11 +9,11 @@ use Rattle.iv_types.specs.declared.value.Kind.{Kind}
 use Rattle.iv_types.specs.declared.value.Interval.{Interval}
 use Rattle.iv_types.specs.declared.statement.Mode.{Mode}
 use Rattle.iv_types.specs.Syntax.{Tree}
-use Rattle.iv_types.specs.Encoding.{key_bytes}
+use Rattle.iv_types.specs.Encoding.{key_bytes, lies_in}
 use Rattle.iv_meaning.specs.Schema.{numbered, items_at}
 use Rattle.iv_meaning.specs.Database.{Row, Database}
 use Rattle.iv_meaning.specs.Query.{Combination, BoundQuery, combinations, chosen, conjunction, listed, ordered}
-use Rattle.iv_meaning.specs.View.{relation_rows, lies_in, read}
+use Rattle.iv_meaning.specs.View.{relation_rows, read}
 use Rattle.iv_meaning.specs.Statement.{select_meaning}
 use Rattle.iv_meaning.specs.Shape.{terms}
 use Rattle.iv_meaning.specs.Sound.{IsSound}

@@ -15,16 +15,16 @@ use Rattle.iv_types.specs.declared.statement.Mode.TheVariants.{Serial, Snapshot}
 use Rattle.iv_types.specs.declared.statement.ColumnDef.{ColumnDef}
 use Rattle.iv_types.specs.declared.catalog.TableDef.{TableDef}
 use Rattle.iv_types.specs.declared.catalog.IndexDef.{IndexDef}
-use Rattle.iv_types.specs.Encoding.{kinds_of, FitAll, key_bytes}
+use Rattle.iv_types.specs.Encoding.{kinds_of, FitAll, key_bytes, lies_in}
 use Rattle.row_codec.proofs.Columns.{fit_lengths}
-use Rattle.iv_meaning.specs.Schema.{Schema, Object, table, index, view, ViewTree, numbered, as_index, indexes_of, items_at, kinds_of_table, sources_of, group_kinds, object_kinds}
+use Rattle.iv_meaning.specs.Schema.{Schema, Object, table, index, view, ViewTree, numbered, as_index, indexes_of, items_at, kinds_of_table, sources_of, group_kinds, object_kinds, primary_of}
 use Rattle.iv_meaning.specs.Database.{Row, Database, rows_of, key_of}
 use Rattle.iv_meaning.specs.Values.{is_true}
 use Rattle.iv_meaning.specs.Query.{Combination, combinations, conjunction, sorted_by}
-use Rattle.iv_meaning.specs.View.{conditions_of, counted_combinations, view_rows, relation_rows, lies_in, rows_between, index_key, index_rows, view_key, object_rows, read}
+use Rattle.iv_meaning.specs.View.{conditions_of, counted_combinations, view_rows, relation_rows, rows_between, index_key, index_rows, view_key, object_rows, read}
 use Rattle.iv_meaning.specs.Sound.{IsSound, IsView, IsTable, AreColumns}
 use Rattle.iv_meaning.specs.Plan.{KeyIndex, first_columns, read_by, Part, kinds_for}
-use Rattle.iv_meaning.specs.Reading.{Source, by_columns, in_key_order, source_by, source_of, kinds_at, primary_at}
+use Rattle.iv_meaning.specs.Reading.{Source, by_columns, in_key_order, source_by, source_of}
 use Rattle.query_laws.specs.Laws.{Rises, IsRelation}
 use Rattle.query_laws.proofs.Each.{each_to, each_filtered}
 use Rattle.query_laws.proofs.Rising.{between_rising}
@@ -152,13 +152,13 @@ module _ (db : Database) (sound : IsSound db) where
           columns_in = have i.columns columns;
           more_in = have t.primary primary_in;
           part_is = λ part e. ap (λ o. (source_by db.schema part o).part) (object_is part.index m (index i) (e ∙ o.0) there);
-          kinds_are = λ part e. ap (λ o. (source_by db.schema part o).kinds) (object_is part.index m (index i) (e ∙ o.0) there) ∙ ap (λ x. kinds_at x i.columns) its_table;
+          kinds_are = λ part e. ap (λ o. (source_by db.schema part o).kinds) (object_is part.index m (index i) (e ∙ o.0) there) ∙ ap (λ x. items_at (kinds_of_table x) i.columns) its_table;
           lists_are = λ part e interval.
               let at : numbered db.schema part.index ≡ Some (index i) = object_is part.index m (index i) (e ∙ o.0) there in
               let found : rows part.index interval ≡ rows_between (index_key t i) interval (rows_of db.rows t.number) =
               told_of part.index (index i) interval at ∙ ap (λ x. index_rows db i x interval) its_table in
               ap (λ x. in_key_order (source_by db.schema part x).key (rows part.index interval)) at
-              ∙ (ap (λ x. in_key_order (primary_at x) (rows part.index interval)) its_table
+              ∙ (ap (λ x. in_key_order (Some (primary_of x)) (rows part.index interval)) its_table
               ∙ (ap (sorted_by (by_columns t.primary)) found
               ∙ sorted_between (kinds_of t) i.columns t.primary columns primary_in (rows_of db.rows t.number) fits (rises_by (kinds_of t) t.primary primary_in (rows_of db.rows t.number) fits rises) interval));
         }

@@ -11,7 +11,8 @@ use Rattle.std.specs.Cmp.{IsTotalOrder}
 use Rattle.std.specs.Cmp.Lexicographic.{slice_cmp, nat_list_cmp_total}
 use Rattle.iv_types.specs.declared.value.Interval.{Interval}
 use Rattle.iv_meaning.specs.Database.{Row}
-use Rattle.iv_meaning.specs.View.{lies_in, rows_between}
+use Rattle.iv_types.specs.Encoding.{lies_in}
+use Rattle.iv_meaning.specs.View.{rows_between}
 use Rattle.query_laws.specs.Laws.{IsBefore, Rises}
 
 -- the order of keys

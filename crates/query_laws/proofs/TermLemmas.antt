@@ -18,17 +18,18 @@ use Rattle.iv_types.specs.declared.expression.Op.TheVariants as op
 use Rattle.iv_types.specs.declared.expression.ColumnAt.{ColumnAt}
 use Rattle.iv_types.specs.Syntax as s
 use Rattle.iv_types.specs.Syntax.{Tree}
-use Rattle.iv_types.specs.Encoding.{Fits, FitAll, value_cmp}
+use Rattle.iv_types.specs.Encoding.{Fits, FitAll, value_cmp, fits}
 use Rattle.iv_types.proofs.Orders.{value_cmp_exact}
 use Rattle.iv_meaning.specs.Database.{Row}
 use Rattle.iv_meaning.specs.Query.{Combination}
 use Rattle.iv_meaning.specs.Values.{Outcome, number, word, truth, refused, compared, holds, combined, is_false, meaning, outcome_of, value_at, lies_outside}
 use Rattle.iv_meaning.specs.Shape.{same_kind, both_kinds}
-use Rattle.iv_meaning.specs.Statement.{fits}
-use Rattle.iv_meaning.specs.Plan.{Equal as TermEqual, literal, column, Range, Term, equals, ranges, ColumnTerm, turned, literal_of, against, column_of, earlier_of, kind_in, side_terms, term_terms, equal_value, lies_within}
+use Rattle.iv_meaning.specs.Schema.{kind_at}
+use Rattle.iv_meaning.specs.Plan.{Equal as TermEqual, literal, column, Range, Term, equals, ranges, ColumnTerm, turned, literal_of, against, column_of, earlier_of, side_terms, term_terms, equal_value, lies_within}
 use Rattle.query_laws.proofs.Each.{each_append}
 use Rattle.iv_meaning.proofs.RangeLemmas.{seen, seen_is}
-use Rattle.query_laws.proofs.Fitting.{first, second, fitting, IsOf, AreOf, inside_fits, Column, inside}
+use Rattle.iv_types.proofs.Fitting.{first_true as first, second_true as second}
+use Rattle.query_laws.proofs.Fitting.{IsOf, AreOf, inside_fits, Column, inside}
 
 -- ---- rows that fit the relations' kinds
 
@@ -88,12 +89,12 @@ compared_fitting : (kind : Kind) (x v : Value) (test : Ordering → Bool) → Fi
 compared_fitting Int (Number m) (Number n) test f g = refl
 compared_fitting Huge (Number m) (Number n) test f g = refl
 compared_fitting Text (Word a) (Word b) test f g = refl
-compared_fitting Int (Word a) v test f g = absurd f
-compared_fitting Int (Number m) (Word b) test f g = absurd g
-compared_fitting Huge (Word a) v test f g = absurd f
-compared_fitting Huge (Number m) (Word b) test f g = absurd g
-compared_fitting Text (Number m) v test f g = absurd f
-compared_fitting Text (Word a) (Number n) test f g = absurd g
+compared_fitting Int (Word a) v test f g = absurd (cc)
+compared_fitting Int (Number m) (Word b) test f g = absurd (cc)
+compared_fitting Huge (Word a) v test f g = absurd (cc)
+compared_fitting Huge (Number m) (Word b) test f g = absurd (cc)
+compared_fitting Text (Number m) v test f g = absurd (cc)
+compared_fitting Text (Word a) (Number n) test f g = absurd (cc)
 
 not_false : (b : Bool) → not b ≡ false → b ≡ true
 not_false true e = refl
@@ -228,7 +229,7 @@ module _ (before : List (List Kind)) (ks : List Kind) (after : List (List Kind))
   own_kinds : slice_get kinds source ≡ Some ks
   own_kinds = ap (slice_get kinds) (rows_lengths before rows before_are) ∙ get_behind before after ks
 
-  own_kind : (place : ℕ) (kind : Kind) → kind_in kinds (record { source = source; column = place }) ≡ Some kind → slice_get ks place ≡ Some kind
+  own_kind : (place : ℕ) (kind : Kind) → kind_at kinds (record { source = source; column = place }) ≡ Some kind → slice_get ks place ≡ Some kind
   own_kind place kind e = sym (ap (option_and_then (λ (l : List Kind). slice_get l place)) own_kinds) ∙ e
 
   own_row : slice_get extended_rows source ≡ Some row
@@ -308,7 +309,7 @@ module _ (before : List (List Kind)) (ks : List Kind) (after : List (List Kind))
   kind_of place kind is c = let same : Some kind ≡ Some c.kind = sym is ∙ c.kind_is in cc
 
   fitting_at : (place : ℕ) (kind : Kind) → slice_get ks place ≡ Some kind → (v : Value) → fits kind v ≡ true → (c : Column ks row place) → Fits c.kind v
-  fitting_at place kind is v f c = subst (λ k. Fits k v) (kind_of place kind is c) (fitting kind v f)
+  fitting_at place kind is v f c = subst (λ k. Fits k v) (kind_of place kind is c) f
 
   against_holds : (o : Op) (a b : Tree) (place : ℕ) (v : Value) → IsNotFalse o a b → (meaning a extended_rows ≡ outcome_of (slice_get row place)) → (lies_within (length extended_rows) a ≡ true)
       → literal_of b ≡ Some v → compares o ≡ true → (c : Column ks row place) → Fits c.kind v → holds o (value_cmp c.value v) ≡ true
@@ -354,7 +355,7 @@ module _ (before : List (List Kind)) (ks : List Kind) (after : List (List Kind))
   one_kind None l e = absurd (cc)
 
   equal_said : (a b : Tree) (place : ℕ) (p : ColumnAt) → IsNotFalse op.Equal a b → column_of source a ≡ Some place → earlier_of source b ≡ Some p
-      → both_kinds (kind_in kinds (record { source = source; column = place })) (kind_in kinds p) ≡ true → IsSaidOf place (equals (column p))
+      → both_kinds (kind_at kinds (record { source = source; column = place })) (kind_at kinds p) ≡ true → IsSaidOf place (equals (column p))
   equal_said a b place p h ca eb same c inside_p =
       let k = one_kind _ _ same in
       let kind_is : k.0 ≡ c.kind = kind_of place k.0 (own_kind place k.0 k.1) c in
@@ -368,25 +369,25 @@ module _ (before : List (List Kind)) (ks : List Kind) (after : List (List Kind))
 
   -- what is said of a column
   abbrev literal_terms : Op → Tree → ℕ → List ColumnTerm
-  literal_terms o b place = flat_map (λ k. flat_map (against k o place) (option_to_list (literal_of b))) (option_to_list (kind_in kinds (record { source = source; column = place })))
+  literal_terms o b place = flat_map (λ k. flat_map (against k o place) (option_to_list (literal_of b))) (option_to_list (kind_at kinds (record { source = source; column = place })))
 
   abbrev joined_terms : Tree → ℕ → List ColumnTerm
   joined_terms b place =
-      flat_map (λ other. if both_kinds (kind_in kinds (record { source = source; column = place })) (kind_in kinds other) then record { column = place; term = equals (column other) } ∷ [] else []) (option_to_list (earlier_of source b))
+      flat_map (λ other. if both_kinds (kind_at kinds (record { source = source; column = place })) (kind_at kinds other) then record { column = place; term = equals (column other) } ∷ [] else []) (option_to_list (earlier_of source b))
 
   abbrev column_terms : Op → Tree → ℕ → List ColumnTerm
   column_terms o b place = literal_terms o b place ++ elim o [ op.Equal ↦ joined_terms b place | _ ↦ [] ]
 
   literal_said : (o : Op) (a b : Tree) (place : ℕ) → IsNotFalse o a b → column_of source a ≡ Some place → AllByRecursion IsSaid (literal_terms o b place)
   literal_said o a b place h ca =
-      each_some IsSaid (λ k. flat_map (against k o place) (option_to_list (literal_of b))) (kind_in kinds (record { source = source; column = place }))
+      each_some IsSaid (λ k. flat_map (against k o place) (option_to_list (literal_of b))) (kind_at kinds (record { source = source; column = place }))
       (λ kind e. each_some IsSaid (against kind o place) (literal_of b)
       (λ v l. let own = own_column a place ca in against_said o a b place kind (own_kind place kind e) v h own.0 own.1 l))
 
   joined_said : (o : Op) (a b : Tree) (place : ℕ) → IsNotFalse o a b → column_of source a ≡ Some place → AllByRecursion IsSaid (elim o [ op.Equal ↦ joined_terms b place | _ ↦ [] ])
   joined_said op.Equal a b place h ca =
-      each_some IsSaid (λ other. if both_kinds (kind_in kinds (record { source = source; column = place })) (kind_in kinds other) then record { column = place; term = equals (column other) } ∷ [] else []) (earlier_of source b)
-      (λ p eb. each_if IsSaid (both_kinds (kind_in kinds (record { source = source; column = place })) (kind_in kinds p)) (record { column = place; term = equals (column p) })
+      each_some IsSaid (λ other. if both_kinds (kind_at kinds (record { source = source; column = place })) (kind_at kinds other) then record { column = place; term = equals (column other) } ∷ [] else []) (earlier_of source b)
+      (λ p eb. each_if IsSaid (both_kinds (kind_at kinds (record { source = source; column = place })) (kind_at kinds p)) (record { column = place; term = equals (column p) })
       (λ same. equal_said a b place p h ca eb same))
   joined_said op.Or a b place h ca = tt
   joined_said op.And a b place h ca = tt

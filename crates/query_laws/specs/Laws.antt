@@ -9,12 +9,12 @@ use Rattle.std.specs.FinMap.{get}
 use Rattle.iv_types.specs.declared.value.Interval.{Interval}
 use Rattle.iv_types.specs.declared.statement.Mode.{Mode}
 use Rattle.iv_types.specs.declared.catalog.TableDef.{TableDef}
-use Rattle.iv_types.specs.Encoding.{kinds_of, FitAll}
+use Rattle.iv_types.specs.Encoding.{kinds_of, FitAll, lies_in}
 use Rattle.iv_types.specs.Syntax.{StatementTree}
 use Rattle.iv_meaning.specs.Schema.{Schema, Object, table, view, ViewTree, numbered}
 use Rattle.iv_meaning.specs.Database.{Row, Rows, Database, rows_of, key_of, set_row}
 use Rattle.iv_meaning.specs.Query.{BoundQuery}
-use Rattle.iv_meaning.specs.View.{lies_in, rows_between, read}
+use Rattle.iv_meaning.specs.View.{rows_between, read}
 use Rattle.iv_meaning.specs.Statement.{create, select, bound_meaning, keep, defines}
 use Rattle.iv_meaning.specs.Binding.{bind}
 use Rattle.iv_meaning.specs.Reading.{Program, done, fetch, program, sources_for, replies_by, replies_of}

@@ -1,6 +1,8 @@
 -- One column after the other.
 use Rattle.std.proofs.Common.{◌≡◌, ◌≢◌, ℕ, zero, suc, ◌+◌, ◌-◌, ◌<◌, ◌≤◌, Bool, false, ◌==◌, List, [], ◌∷◌, ◌++◌, length, get_or, take, drop, refl, sym, ap, subst, ◌∙◌, append_assoc, arith}
-use Rattle.std.specs.Prelude.{IsTrue, ◌↔◌}
+use Rattle.std.specs.Prelude.{IsTrue, ◌↔◌, true}
+use Rattle.std.specs.Str.{IsUtf8, is_utf8}
+use Rattle.std.proofs.lemmas.Str.{IsUtf8-from_is_utf8, is_utf8-from_IsUtf8}
 use Rattle.std.proofs.lemmas.List.{append-nil, length-append, length-drop, length-map, get_or-map, drop_more, drop_all, take_more, take_all, take-append-drop}
 use Rattle.iv_types.specs.declared.value.Kind.{Kind}
 use Rattle.iv_types.specs.declared.value.Value.{Value}
@@ -199,3 +201,9 @@ count_kinds table columns is = length-map table.columns (λ (x : ColumnDef). x.k
 pub some_left : (n : ℕ) (test : Bool) → test ≡ (n == 0) → test ≡ false → 0 < n
 some_left zero test is left = absurd (cc (is, left))
 some_left (suc n) test is left = omega arith
+
+-- ---- texts
+
+pub same_test : (bytes : List ℕ) (b : Bool) → (IsTrue b ↔ IsUtf8 bytes) → b ≡ is_utf8 bytes
+same_test bytes true h = sym (is_utf8-from_IsUtf8 bytes (h.0 refl))
+same_test bytes false h = elim (is_utf8 bytes) as (λ t. is_utf8 bytes ≡ t → false ≡ t) [ true ↦ λ e. h.1 (IsUtf8-from_is_utf8 bytes e) | false ↦ λ e. refl ] refl

@@ -15,6 +15,7 @@ use Rattle.iv_types.specs.Encoding.{IsHuge, Fits, key_byte, key_value_bytes}
 use Rattle.iv_types.specs.BadRow.{Rule, Early, LeastHuge, LongText, NotUtf8, LeftOver, LoneZero, rule_number, KeyBreaks}
 use Rattle.row_codec.specs.Columns.{IsStop, IsBroken}
 use Rattle.row_codec.proofs.Numbers.{number_is, long_enough}
+use Rattle.iv_types.proofs.Fitting.{int_is, huge_is, text_is}
 use Rattle.row_codec.proofs.Shifts.{shift, shifted_split}
 use Rattle.row_codec.proofs.Formats.{IsFormat}
 
@@ -204,8 +205,8 @@ whole_front text r = record { parts = append_assoc (flat_map key_byte text) (0 �
 
 whole_text : (text : List ℕ) (rule : Rule) (r : List ℕ) → Fits Text (Word text) → KeyBreaks Text rule (key_value_bytes Text (Word text) ++ r) → ⊥
 whole_text text Early r f b = not_early (key_value_bytes Text (Word text) ++ r) text r (whole_front text r) b
-whole_text text LongText r f b = omega (arith, f.0, ended_long (key_value_bytes Text (Word text) ++ r) text r (whole_front text r) b)
-whole_text text NotUtf8 r f b = ended_not_utf8 (key_value_bytes Text (Word text) ++ r) text r (whole_front text r) b f.1
+whole_text text LongText r f b = omega (arith, (text_is text f).0, ended_long (key_value_bytes Text (Word text) ++ r) text r (whole_front text r) b)
+whole_text text NotUtf8 r f b = ended_not_utf8 (key_value_bytes Text (Word text) ++ r) text r (whole_front text r) b (text_is text f).1
 whole_text text LoneZero r f b = ended_lone (key_value_bytes Text (Word text) ++ r) text r (whole_front text r) b
 whole_text text LeastHuge r f b = b
 whole_text text LeftOver r f b = b
@@ -231,25 +232,25 @@ whole_huge n LeastHuge r f b = huge_is_not_least n r f b
 whole_huge n rule r f b = b
 
 split_key : (k : Kind) (v w : Value) (r s : List ℕ) → Fits k v → Fits k w → key_value_bytes k v ++ r ≡ key_value_bytes k w ++ s → (v ≡ w) × (r ≡ s)
-split_key Int (Number m) (Number n) r s fv fw e = let p = shifted_split w64 8 (2 ^ 63) refl m n r s fv.sfits fw.sfits e in (ap Number p.0, p.1)
-split_key Huge (Number m) (Number n) r s fv fw e = let p = shifted_split w128 16 (2 ^ 127) refl m n r s fv.0.sfits fw.0.sfits e in (ap Number p.0, p.1)
+split_key Int (Number m) (Number n) r s fv fw e = let p = shifted_split w64 8 (2 ^ 63) refl m n r s (int_is m fv).sfits (int_is n fw).sfits e in (ap Number p.0, p.1)
+split_key Huge (Number m) (Number n) r s fv fw e = let p = shifted_split w128 16 (2 ^ 127) refl m n r s (huge_is m fv).0.sfits (huge_is n fw).0.sfits e in (ap Number p.0, p.1)
 split_key Text (Word a) (Word b) r s fv fw e =
     let p = same_front (key_value_bytes Text (Word a) ++ r) a (0 ∷ 0 ∷ r) b (0 ∷ 0 ∷ s) (whole_front a r) (end_is_stop s) (e ∙ append_assoc (flat_map key_byte b) (0 ∷ 0 ∷ []) s) in
     (ap Word p.0, cc p.1)
-split_key Int (Number m) (Word b) r s fv fw e = absurd fw
-split_key Int (Word a) w r s fv fw e = absurd fv
-split_key Huge (Number m) (Word b) r s fv fw e = absurd fw
-split_key Huge (Word a) w r s fv fw e = absurd fv
-split_key Text (Word a) (Number n) r s fv fw e = absurd fw
-split_key Text (Number m) w r s fv fw e = absurd fv
+split_key Int (Number m) (Word b) r s fv fw e = absurd (cc)
+split_key Int (Word a) w r s fv fw e = absurd (cc)
+split_key Huge (Number m) (Word b) r s fv fw e = absurd (cc)
+split_key Huge (Word a) w r s fv fw e = absurd (cc)
+split_key Text (Word a) (Number n) r s fv fw e = absurd (cc)
+split_key Text (Number m) w r s fv fw e = absurd (cc)
 
 whole_key : (k : Kind) (v : Value) (rule : Rule) (r : List ℕ) → Fits k v → KeyBreaks k rule (key_value_bytes k v ++ r) → ⊥
 whole_key Int (Number n) rule r f b = whole_int n rule r b
-whole_key Huge (Number n) rule r f b = whole_huge n rule r f b
+whole_key Huge (Number n) rule r f b = whole_huge n rule r (huge_is n f) b
 whole_key Text (Word text) rule r f b = whole_text text rule r f b
-whole_key Int (Word text) rule r f b = f
-whole_key Huge (Word text) rule r f b = f
-whole_key Text (Number n) rule r f b = f
+whole_key Int (Word text) rule r f b = cc
+whole_key Huge (Word text) rule r f b = cc
+whole_key Text (Number n) rule r f b = cc
 
 pub key_format : IsFormat key_value_bytes KeyBreaks
 key_format = record { split = split_key; whole = whole_key }

@@ -10,6 +10,7 @@ use Rattle.iv_types.specs.declared.value.Kind.TheVariants.{Int, Huge, Text}
 use Rattle.iv_types.specs.declared.value.Value.{Value}
 use Rattle.iv_types.specs.declared.value.Value.TheVariants.{Number, Word}
 use Rattle.iv_types.specs.Encoding.{Fits, key_byte, key_value_bytes, key_bytes, value_cmp}
+use Rattle.iv_types.proofs.Fitting.{int_is, huge_is}
 use Rattle.row_codec.specs.Laws.{KeyOrder}
 use Rattle.row_codec.proofs.KeyFormat.{key_byte_front}
 use Rattle.row_codec.proofs.Shifts.{shift}
@@ -61,17 +62,17 @@ order_text (x ∷ a) (y ∷ b) r s =
     ∙ order_byte x y p q ∙ ap (ordering_then (nat_cmp x y)) (order_text a b r s) ∙ sym (then_assoc (nat_cmp x y) (slice_cmp nat_cmp a b) (slice_cmp nat_cmp r s))
 
 order_column : (k : Kind) (v w : Value) (r s : List ℕ) → Fits k v → Fits k w → slice_cmp nat_cmp (key_value_bytes k v ++ r) (key_value_bytes k w ++ s) ≡ ordering_then (value_cmp v w) (slice_cmp nat_cmp r s)
-order_column Int (Number m) (Number n) r s fv fw = order_shifted w64 8 (2 ^ 63) refl m n r s fv.sfits fw.sfits
-order_column Huge (Number m) (Number n) r s fv fw = order_shifted w128 16 (2 ^ 127) refl m n r s fv.0.sfits fw.0.sfits
+order_column Int (Number m) (Number n) r s fv fw = order_shifted w64 8 (2 ^ 63) refl m n r s (int_is m fv).sfits (int_is n fw).sfits
+order_column Huge (Number m) (Number n) r s fv fw = order_shifted w128 16 (2 ^ 127) refl m n r s (huge_is m fv).0.sfits (huge_is n fw).0.sfits
 order_column Text (Word a) (Word b) r s fv fw =
     ap (λ (l : List ℕ). slice_cmp nat_cmp l ((flat_map key_byte b ++ 0 ∷ 0 ∷ []) ++ s)) (append_assoc (flat_map key_byte a) (0 ∷ 0 ∷ []) r)
     ∙ ap (slice_cmp nat_cmp (flat_map key_byte a ++ 0 ∷ 0 ∷ r)) (append_assoc (flat_map key_byte b) (0 ∷ 0 ∷ []) s) ∙ order_text a b r s
-order_column Int (Number m) (Word b) r s fv fw = absurd fw
-order_column Int (Word a) w r s fv fw = absurd fv
-order_column Huge (Number m) (Word b) r s fv fw = absurd fw
-order_column Huge (Word a) w r s fv fw = absurd fv
-order_column Text (Word a) (Number n) r s fv fw = absurd fw
-order_column Text (Number m) w r s fv fw = absurd fv
+order_column Int (Number m) (Word b) r s fv fw = absurd (cc)
+order_column Int (Word a) w r s fv fw = absurd (cc)
+order_column Huge (Number m) (Word b) r s fv fw = absurd (cc)
+order_column Huge (Word a) w r s fv fw = absurd (cc)
+order_column Text (Word a) (Number n) r s fv fw = absurd (cc)
+order_column Text (Number m) w r s fv fw = absurd (cc)
 
 pub key_order : KeyOrder
 key_order [] [] [] fv fw = refl

@@ -8,6 +8,7 @@ use Rattle.std.specs.Ordering.{nat_cmp, ordering_then, ordering_reverse}
 use Rattle.std.specs.Cmp.Lexicographic.{slice_cmp}
 use Rattle.iv_types.specs.declared.value.Interval.{Interval}
 use Rattle.iv_types.specs.Intervals.{IsBelow, IsAtMost, LiesIn, next, point, prefix_interval, HaveCommonKey}
+use Rattle.iv_types.proofs.Fitting.{lies_is, lies_so}
 use Rattle.row_codec.specs.Ranges.{AreBytes, BeginsWith, IsGreater}
 use Rattle.row_codec.proofs.Orders.{cmp_less, cmp_equal, cmp_greater}
 
@@ -69,7 +70,10 @@ below_longer [] = refl
 below_longer (a ∷ key) = below_same a key (key ++ 0 ∷ []) (below_longer key)
 
 pub alone : (key k : List ℕ) → LiesIn k (point key) ↔ (k ≡ key)
-alone key k = (λ h. between key k h.0 h.1, λ e. subst (λ (l : List ℕ). LiesIn l (point key)) (sym e) (at_most_itself key, below_longer key))
+alone key k = (
+  λ h. let in_it = lies_is k (point key) h in between key k in_it.0 in_it.1,
+  λ e. subst (λ (l : List ℕ). LiesIn l (point key)) (sym e) (lies_so key (point key) (at_most_itself key) (below_longer key)),
+)
 
 -- ---- the interval of a prefix
 
@@ -123,8 +127,8 @@ below_next (b ∷ prefix) rest =
 
 pub begun : (prefix k : List ℕ) → AreBytes k → LiesIn k (prefix_interval prefix) ↔ BeginsWith prefix k
 begun prefix k bytes = (
-  λ h. begins prefix k bytes h.0 h.1,
-  λ b. subst (λ (l : List ℕ). LiesIn l (prefix_interval prefix)) (sym b.1) (at_most_longer prefix b.0, below_next prefix b.0),
+  λ h. let in_it = lies_is k (prefix_interval prefix) h in begins prefix k bytes in_it.0 in_it.1,
+  λ b. subst (λ (l : List ℕ). LiesIn l (prefix_interval prefix)) (sym b.1) (lies_so (prefix ++ b.0) (prefix_interval prefix) (at_most_longer prefix b.0) (below_next prefix b.0)),
 )
 
 -- ---- the end of such an interval
@@ -184,10 +188,10 @@ before_end low k None h l = tt
 before_end low k (Some end) h l = at_most_below low k end h l
 
 pub common_key : (a b : Interval) (low : List ℕ) → IsGreater a.low b.low low → IfSome a.high (λ end. IsBelow low end) → IfSome b.high (λ end. IsBelow low end) → HaveCommonKey a b
-common_key a b low g la lb = (low, (g.from_a, la), (g.from_b, lb))
+common_key a b low g la lb = (low, lies_so low a g.from_a la, lies_so low b g.from_b lb)
 
 pub common_before_a : (a b : Interval) (low : List ℕ) → IsGreater a.low b.low low → HaveCommonKey a b → IfSome a.high (λ end. IsBelow low end)
-common_before_a a b low g k = before_end low k.0 a.high (greater_at_most a.low b.low low k.0 g k.1.0 k.2.0) k.1.1
+common_before_a a b low g k = let in_a = lies_is k.0 a k.1 in before_end low k.0 a.high (greater_at_most a.low b.low low k.0 g in_a.0 (lies_is k.0 b k.2).0) in_a.1
 
 pub common_before_b : (a b : Interval) (low : List ℕ) → IsGreater a.low b.low low → HaveCommonKey a b → IfSome b.high (λ end. IsBelow low end)
-common_before_b a b low g k = before_end low k.0 b.high (greater_at_most a.low b.low low k.0 g k.1.0 k.2.0) k.2.1
+common_before_b a b low g k = let in_b = lies_is k.0 b k.2 in before_end low k.0 b.high (greater_at_most a.low b.low low k.0 g (lies_is k.0 a k.1).0 in_b.0) in_b.1

@@ -13,6 +13,7 @@ use Rattle.iv_types.specs.declared.value.Value.{Value}
 use Rattle.iv_types.specs.declared.value.Value.TheVariants.{Number, Word}
 use Rattle.iv_types.specs.Encoding.{IsHuge, Fits, value_bytes}
 use Rattle.iv_types.specs.BadRow.{Rule, Early, LeastHuge, LongText, NotUtf8, RowBreaks, text_length, row_text}
+use Rattle.iv_types.proofs.Fitting.{int_is, huge_is, text_is}
 use Rattle.row_codec.proofs.Numbers.{number_split, signed_split, number_is, long_enough}
 use Rattle.row_codec.proofs.Formats.{IsFormat}
 
@@ -60,9 +61,9 @@ text_not_early text r le b =
     elim b [ inl short ↦ omega (arith, short, long, longer, two) | inr short ↦ omega (arith, short, long, longer, two, is) ]
 
 whole_text : (text : List ℕ) (rule : Rule) (r : List ℕ) → Fits Text (Word text) → RowBreaks Text rule (value_bytes Text (Word text) ++ r) → ⊥
-whole_text text Early r f b = text_not_early text r f.0 b
-whole_text text LongText r f b = omega (arith, f.0, b, length_before text r f.0)
-whole_text text NotUtf8 r f b = b (subst IsUtf8 (sym (text_behind text r f.0)) f.1)
+whole_text text Early r f b = text_not_early text r (text_is text f).0 b
+whole_text text LongText r f b = let le = (text_is text f).0 in omega (arith, le, b, length_before text r le)
+whole_text text NotUtf8 r f b = let w = text_is text f in b (subst IsUtf8 (sym (text_behind text r w.0)) w.1)
 whole_text text rule r f b = b
 
 split_text : (a b r s : List ℕ) → length a ≤ 200 → length b ≤ 200 → bytes_high_first 2 (length a) ++ a ++ r ≡ bytes_high_first 2 (length b) ++ b ++ s → (a ≡ b) × (r ≡ s)
@@ -76,23 +77,23 @@ split_text a b r s la lb e =
     )
 
 split_row : (k : Kind) (v w : Value) (r s : List ℕ) → Fits k v → Fits k w → value_bytes k v ++ r ≡ value_bytes k w ++ s → (v ≡ w) × (r ≡ s)
-split_row Int (Number m) (Number n) r s fv fw e = let p = signed_split w64 refl m n r s fv fw e in (ap Number p.0, p.1)
-split_row Huge (Number m) (Number n) r s fv fw e = let p = signed_split w128 refl m n r s fv.0 fw.0 e in (ap Number p.0, p.1)
-split_row Text (Word a) (Word b) r s fv fw e = let p = split_text a b r s fv.0 fw.0 e in (ap Word p.0, p.1)
-split_row Int (Number m) (Word b) r s fv fw e = absurd fw
-split_row Int (Word a) w r s fv fw e = absurd fv
-split_row Huge (Number m) (Word b) r s fv fw e = absurd fw
-split_row Huge (Word a) w r s fv fw e = absurd fv
-split_row Text (Word a) (Number n) r s fv fw e = absurd fw
-split_row Text (Number m) w r s fv fw e = absurd fv
+split_row Int (Number m) (Number n) r s fv fw e = let p = signed_split w64 refl m n r s (int_is m fv) (int_is n fw) e in (ap Number p.0, p.1)
+split_row Huge (Number m) (Number n) r s fv fw e = let p = signed_split w128 refl m n r s (huge_is m fv).0 (huge_is n fw).0 e in (ap Number p.0, p.1)
+split_row Text (Word a) (Word b) r s fv fw e = let p = split_text a b r s (text_is a fv).0 (text_is b fw).0 e in (ap Word p.0, p.1)
+split_row Int (Number m) (Word b) r s fv fw e = absurd (cc)
+split_row Int (Word a) w r s fv fw e = absurd (cc)
+split_row Huge (Number m) (Word b) r s fv fw e = absurd (cc)
+split_row Huge (Word a) w r s fv fw e = absurd (cc)
+split_row Text (Word a) (Number n) r s fv fw e = absurd (cc)
+split_row Text (Number m) w r s fv fw e = absurd (cc)
 
 whole_row : (k : Kind) (v : Value) (rule : Rule) (r : List ℕ) → Fits k v → RowBreaks k rule (value_bytes k v ++ r) → ⊥
 whole_row Int (Number n) rule r f b = whole_int n rule r b
-whole_row Huge (Number n) rule r f b = whole_huge n rule r f b
+whole_row Huge (Number n) rule r f b = whole_huge n rule r (huge_is n f) b
 whole_row Text (Word text) rule r f b = whole_text text rule r f b
-whole_row Int (Word text) rule r f b = f
-whole_row Huge (Word text) rule r f b = f
-whole_row Text (Number n) rule r f b = f
+whole_row Int (Word text) rule r f b = cc
+whole_row Huge (Word text) rule r f b = cc
+whole_row Text (Number n) rule r f b = cc
 
 pub row_format : IsFormat value_bytes RowBreaks
 row_format = record { split = split_row; whole = whole_row }

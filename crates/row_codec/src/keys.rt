@@ -64,6 +64,7 @@ fn put_text(out: &mut Vec<u8>, text: &[u8]) -> Result<(), NoMemory>
 }
 
 // Adds the bytes of a column.
+#[tactic(auto, using(iv_types::proofs::Fitting::int_is))]
 fn put_value(out: &mut Vec<u8>, kind: Kind, value: &Value) -> Result<(), NoMemory>
     requires { Fits kind value.now }
     ensures { OnOk result (out.new.items ≡ out.old.items ++ key_value_bytes kind value.now) }
@@ -97,6 +98,7 @@ pub fn encode_key(alloc: Global, kinds: &[Kind], values: &[Value]) -> Result<Byt
     Ok(Bytes::from_vec(bytes))
 }
 
+#[tactic(auto, using(iv_types::proofs::Fitting::int_so))]
 fn int_of(bytes: &[u8], place: u64) -> Result<(Value, &[u8]), RowFault>
     ensures taken { IfOk result (λ x. Fits kinds.Int x.0 × (bytes.now ≡ key_value_bytes kinds.Int x.0 ++ x.1.now)) }
     ensures broken { IfErr result (Blames (IsBroken KeyBreaks kinds.Int bytes.now place)) }

@@ -13,7 +13,7 @@ mod rows;
 mod text;
 
 pub use fault::RowFault;
-pub use fitting::{key_fits, row_fits};
+pub use fitting::{fits, key_fits, row_fits};
 pub use intervals::{common, point, prefix_interval};
 pub use keys::{decode_key, encode_key};
 pub use laws::{key_law, key_order_law, row_law};

@@ -43,6 +43,7 @@ fn put_text(out: &mut Vec<u8>, text: &[u8]) -> Result<(), NoMemory>
 }
 
 // Adds the bytes of a column.
+#[tactic(auto, using(iv_types::proofs::Fitting::int_is, iv_types::proofs::Fitting::text_is))]
 fn put_value(out: &mut Vec<u8>, kind: Kind, value: &Value) -> Result<(), NoMemory>
     requires { Fits kind value.now }
     ensures { OnOk result (out.new.items ≡ out.old.items ++ value_bytes kind value.now) }

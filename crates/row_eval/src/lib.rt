@@ -11,7 +11,7 @@ mod readable;
 mod wide;
 
 pub use expression::{passes, value};
-pub use fresh::{fresh_rows, rows_of_table};
+pub use fresh::{fresh_rows, primary_of, rows_of_table};
 pub use grouping::{Grouped, add_member, group, values_at};
 pub use kept_view::recompute;
 pub use readable::is_readable;

@@ -13,9 +13,9 @@ use Rattle.iv_types.specs.declared.statement.ColumnDef.{ColumnDef}
 use Rattle.iv_types.specs.declared.statement.Order.{Order}
 use Rattle.iv_types.specs.Printing.{statement_size}
 use Rattle.iv_types.specs.Syntax.{Tree, QueryTree, SetTree, StatementTree, create_table, create_index, create_view, insert, update, delete, select}
-use Rattle.iv_meaning.specs.Schema.{Schema, as_table, items_at}
+use Rattle.iv_meaning.specs.Schema.{Schema, as_table, items_at, primary_of}
 use Rattle.iv_meaning.specs.Names.{Visible, seen_as, scope_of, bound, name_faults}
-use Rattle.iv_meaning.specs.Shape.{Bounded, object_number, at_most, limits_of, width, key_width, row_width, repeats, is_table, is_order, places_of, primary_places, group_of, items_of}
+use Rattle.iv_meaning.specs.Shape.{Bounded, object_number, at_most, limits_of, width, key_width, row_width, repeats, is_table, is_order, places_of, group_of, items_of}
 use Rattle.iv_meaning.specs.Statement.{BoundTree}
 use Rattle.iv_meaning.specs.Binding.{shape_faults, limit_faults, index_faults, type_faults, first_of, second_of, join_index, faults, bind, bound_to, unless}
 use Rattle.bind_names.specs.declared.visible.Visible.{Visible as Seen}
@@ -67,7 +67,7 @@ insert_faults objects fs = sym (append-nil fs)
 
 pub index_faults_are : (objects : Schema) (name target : List ℕ) (columns : List (List ℕ))
     → (shape_faults ((1, repeats bytes_eq columns) ∷ []) ++ shape_faults ((5, not (is_table (seen_as objects target target))) ∷ []))
-    ++ limit_faults (limits_of_index objects (length columns) (seen_as objects target target).kinds (places_of (seen_as objects target target).columns columns ++ primary_places (seen_as objects target target)) (statement_size (create_index name target columns)))
+    ++ limit_faults (limits_of_index objects (length columns) (seen_as objects target target).kinds (places_of (seen_as objects target target).columns columns ++ primary_of (seen_as objects target target).object) (statement_size (create_index name target columns)))
     ≡ faults_behind objects (create_index name target columns)
 index_faults_are objects name target columns =
     let a : ℕ × Bool = (1, repeats bytes_eq columns) in
@@ -153,14 +153,14 @@ checked_select result objects scope query order is h =
 pub checked_index : {A : Type 0} (result : Result A Refusal) (objects : Schema) (v : Visible) (st : StatementTree) (name target : List ℕ) (columns : List (List ℕ))
     → v ≡ seen_as objects target target → st ≡ create_index name target columns
     → Checks result ((shape_faults ((1, repeats bytes_eq columns) ∷ []) ++ shape_faults ((5, not (is_table v)) ∷ []))
-    ++ limit_faults (limits_of_index objects (length columns) v.kinds (places_of v.columns columns ++ primary_places v) (statement_size st)))
+    ++ limit_faults (limits_of_index objects (length columns) v.kinds (places_of v.columns columns ++ primary_of v.object) (statement_size st)))
     → Checks result (later_faults objects (create_index name target columns))
 checked_index result objects v st name target columns seen is h =
     later result objects (create_index name target columns) (same_faults result _ _ (index_faults_are objects name target columns)
     (subst (λ (t : StatementTree). Checks result ((shape_faults ((1, repeats bytes_eq columns) ∷ []) ++ shape_faults ((5, not (is_table (seen_as objects target target))) ∷ []))
-    ++ limit_faults (limits_of_index objects (length columns) (seen_as objects target target).kinds (places_of (seen_as objects target target).columns columns ++ primary_places (seen_as objects target target)) (statement_size t)))) is
+    ++ limit_faults (limits_of_index objects (length columns) (seen_as objects target target).kinds (places_of (seen_as objects target target).columns columns ++ primary_of (seen_as objects target target).object) (statement_size t)))) is
     (subst (λ (w : Visible). Checks result ((shape_faults ((1, repeats bytes_eq columns) ∷ []) ++ shape_faults ((5, not (is_table w)) ∷ []))
-    ++ limit_faults (limits_of_index objects (length columns) w.kinds (places_of w.columns columns ++ primary_places w) (statement_size st)))) seen h)))
+    ++ limit_faults (limits_of_index objects (length columns) w.kinds (places_of w.columns columns ++ primary_of w.object) (statement_size st)))) seen h)))
 
 pub only_shape : {A : Type 0} (result : Result A Refusal) (objects : Schema) (st : StatementTree) (fs : List Refusal)
     → fs ++ ([] ++ []) ≡ faults_behind objects st → Checks result fs → Checks result (later_faults objects st)
@@ -195,11 +195,11 @@ checked_delete result objects v target condition seen h =
 
 pub checked_update : {A : Type 0} (result : Result A Refusal) (objects : Schema) (v : Visible) (target : List ℕ) (ss : List SetTree) (condition : Option Tree)
     → v ≡ seen_as objects target target
-    → Checks result (shape_faults ((3, is_set_key (primary_places v) (places_of v.columns (map (λ x. x.name) ss))) ∷ (4, repeats bytes_eq (map (λ x. x.name) ss)) ∷ (5, not (is_table v)) ∷ []))
+    → Checks result (shape_faults ((3, is_set_key (primary_of v.object) (places_of v.columns (map (λ x. x.name) ss))) ∷ (4, repeats bytes_eq (map (λ x. x.name) ss)) ∷ (5, not (is_table v)) ∷ []))
     → Checks result (later_faults objects (update target ss condition))
 checked_update result objects v target ss condition seen h =
     only_shape result objects (update target ss condition) _ refl
-    (subst (λ (w : Visible). Checks result (shape_faults ((3, is_set_key (primary_places w) (places_of w.columns (map (λ x. x.name) ss))) ∷ (4, repeats bytes_eq (map (λ x. x.name) ss)) ∷ (5, not (is_table w)) ∷ []))) seen h)
+    (subst (λ (w : Visible). Checks result (shape_faults ((3, is_set_key (primary_of w.object) (places_of w.columns (map (λ x. x.name) ss))) ∷ (4, repeats bytes_eq (map (λ x. x.name) ss)) ∷ (5, not (is_table w)) ∷ []))) seen h)
 
 pub updated : (result : Result Bound Refusal) (objects : Schema) (v : Visible) (target : List ℕ) (ss : List SetTree) (condition : Option Tree)
     → v ≡ seen_as objects target target

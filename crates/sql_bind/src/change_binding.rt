@@ -8,7 +8,8 @@ ghost use Rattle.std.specs.Str.{bytes_eq};
 ghost use Rattle.iv_types.specs.Trees.{tree, trees, perhaps_tree};
 ghost use Rattle.iv_types.specs.Trees as trees;
 ghost use Rattle.iv_meaning.specs.Names.{bound};
-ghost use Rattle.iv_meaning.specs.Shape.{object_number, is_table, repeats, places_of, primary_places};
+ghost use Rattle.iv_meaning.specs.Schema.{primary_of};
+ghost use Rattle.iv_meaning.specs.Shape.{object_number, is_table, repeats, places_of};
 ghost use Rattle.iv_meaning.specs.Binding.{shape_faults};
 ghost use Rattle.iv_meaning.specs.Statement as statement;
 ghost use Rattle.iv_meaning.specs.Bound.{bound_tree, set_tree};
@@ -188,7 +189,7 @@ pub fn bind_update(
 ) -> Result<Bound, Refusal>
     requires { scope_seen scope.now ≡ visible_of target.now ∷ [] }
     ensures fault { Checks result (shape_faults (
-        (3, is_set_key (primary_places (visible_of target.now)) (places_of (visible_of target.now).columns (map (λ x. x.name) (map trees.set_tree sets.now))))
+        (3, is_set_key (primary_of (visible_of target.now).object) (places_of (visible_of target.now).columns (map (λ x. x.name) (map trees.set_tree sets.now))))
         ∷ (4, repeats bytes_eq (map (λ x. x.name) (map trees.set_tree sets.now)))
         ∷ (5, not (is_table (visible_of target.now))) ∷ [])) }
     ensures bound { IfOk result (λ b. bound_tree b ≡ statement.update (option_map_or object_number (visible_of target.now).object 0)

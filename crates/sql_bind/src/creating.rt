@@ -8,7 +8,8 @@ ghost use Rattle.iv_types.specs.Printing.{statement_size};
 ghost use Rattle.iv_types.specs.Trees.{statement_tree};
 ghost use Rattle.iv_meaning.specs.Objects.{schema_of};
 ghost use Rattle.iv_meaning.specs.Schema as schema;
-ghost use Rattle.iv_meaning.specs.Shape.{object_number, is_table, repeats, places_of, primary_places};
+ghost use Rattle.iv_meaning.specs.Schema.{primary_of};
+ghost use Rattle.iv_meaning.specs.Shape.{object_number, is_table, repeats, places_of};
 ghost use Rattle.iv_meaning.specs.Binding.{shape_faults, limit_faults};
 ghost use Rattle.iv_meaning.specs.Statement as bound_to;
 ghost use Rattle.iv_meaning.specs.Bound.{bound_tree};
@@ -156,7 +157,7 @@ fn check_index(
     places: &[u32],
 ) -> Result<(), Refusal>
     requires { length catalog.now < 2 ^ 32 - 1 }
-    ensures { Checks result (limit_faults (limits_of_index (schema_of catalog.now) columns (visible_of target.now).kinds (places.now ++ primary_places (visible_of target.now)) (statement_size (statement_tree statement.now)))) }
+    ensures { Checks result (limit_faults (limits_of_index (schema_of catalog.now) columns (visible_of target.now).kinds (places.now ++ primary_of (visible_of target.now).object) (statement_size (statement_tree statement.now)))) }
 {
     let all = with_others(alloc, places, primary_of(target))?;
     limits::check_index(
@@ -211,7 +212,7 @@ pub fn bind_index(
 ) -> Result<Bound, Refusal>
     requires { length catalog.now < 2 ^ 32 - 1 }
     ensures fault { Checks result ((shape_faults ((1, repeats bytes_eq columns.now) ∷ []) ++ shape_faults ((5, not (is_table (visible_of target.now))) ∷ []))
-        ++ limit_faults (limits_of_index (schema_of catalog.now) (length columns.now) (visible_of target.now).kinds (places_of (visible_of target.now).columns columns.now ++ primary_places (visible_of target.now)) (statement_size (statement_tree statement.now)))) }
+        ++ limit_faults (limits_of_index (schema_of catalog.now) (length columns.now) (visible_of target.now).kinds (places_of (visible_of target.now).columns columns.now ++ primary_of (visible_of target.now).object) (statement_size (statement_tree statement.now)))) }
     ensures bound { IfOk result (λ b. bound_tree b ≡ bound_to.create (schema.index (record { number = length catalog.now + 1; name = name.now; table = option_map_or object_number (visible_of target.now).object 0; columns = places_of (visible_of target.now).columns columns.now }))) }
 {
     check_columns(alloc, columns)?;

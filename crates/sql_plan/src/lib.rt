@@ -10,4 +10,3 @@ pub use intervals::{fits_columns, interval};
 pub use object_kinds::{group_kinds, kinds_of, numbered};
 pub use parts::{Equal, EqualList, Plan, PlanPart, PlanPartList, RangeTerm, RangeTermList};
 pub use planning::{plan, plan_select};
-pub use terms::fits;

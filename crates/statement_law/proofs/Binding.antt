@@ -9,20 +9,19 @@ use Rattle.iv_types.specs.declared.value.Kind.{Kind}
 use Rattle.iv_types.specs.declared.value.Value.{Value}
 use Rattle.iv_types.specs.declared.statement.ColumnDef.{ColumnDef}
 use Rattle.iv_types.specs.declared.catalog.TableDef.{TableDef}
-use Rattle.iv_types.specs.Encoding.{kinds_of, FitAll, Fits, key_bytes}
+use Rattle.iv_types.specs.Encoding.{kinds_of, FitAll, Fits, key_bytes, fits}
 use Rattle.iv_types.specs.declared.expression.ColumnAt.{ColumnAt}
 use Rattle.iv_types.specs.Syntax.{Tree, SetTree, insert, update, delete}
-use Rattle.iv_meaning.specs.Schema.{Object, table, index, view, numbered, named, column_names, object_columns, items_at, key_kinds, as_table}
+use Rattle.iv_meaning.specs.Schema.{Object, table, index, view, numbered, named, column_names, object_columns, items_at, key_kinds, as_table, primary_of}
 use Rattle.iv_meaning.specs.Database.{Row, Database, key_of}
 use Rattle.iv_meaning.specs.Names.{Visible, seen_as, bound, columns_named}
-use Rattle.iv_meaning.specs.Shape.{is_table, primary_places, places_of, object_number}
+use Rattle.iv_meaning.specs.Shape.{is_table, places_of, object_number}
 use Rattle.iv_meaning.specs.Values.{meaning, value_of}
 use Rattle.iv_meaning.specs.Grouping.{all_of}
 use Rattle.iv_meaning.specs.Statement as statement
-use Rattle.iv_meaning.specs.Statement.{BoundSet, fits, if_fitting, stored, tuple_values, tuple_rows, column_after, columns_after, row_after}
+use Rattle.iv_meaning.specs.Statement.{BoundSet, if_fitting, stored, tuple_values, tuple_rows, column_after, columns_after, row_after}
 use Rattle.iv_meaning.specs.Binding.{bind, target_number}
 use Rattle.iv_meaning.specs.Sound.{IsSound}
-use Rattle.query_laws.proofs.Fitting.{fitting}
 use Rattle.query_laws.proofs.WholeViews.{all_of_cons}
 use Rattle.statement_law.proofs.Each.{each_parts, paired}
 use Rattle.query_laws.proofs.SoundLemmas.{rules_hold, named_numbered, neither}
@@ -70,7 +69,7 @@ stored_fits kind None w e = absurd (cc)
 stored_fits kind (Some v) w e = by (fits kind v) refl e
   where
     by : (b : Bool) → fits kind v ≡ b → cond b (Some v) None ≡ Some w → Fits kind w
-    by true f x = let same : v ≡ w = cc in subst (Fits kind) same (fitting kind v f)
+    by true f x = let same : v ≡ w = cc in subst (Fits kind) same f
     by false f x = absurd (cc)
 
 tuple_fits : (kinds : List Kind) (es : List Tree) (row : Row) → length es ≡ length kinds → all_of (tuple_values kinds es) ≡ Some row → FitAll kinds row
@@ -221,13 +220,13 @@ bound_update db sound target ss condition what e =
     let b = rules_hold db.schema (update target ss condition) what e in
     let n : IsNamed db target = is_named db sound target (named db.schema target) refl b.0.1.1.0 in
     let v : Visible = seen_as db.schema target target in
-    let primary : primary_places v ≡ n.of.primary = ap (λ o. option_map_or (λ (t : TableDef). t.primary) (option_and_then as_table o) []) n.object_is in
+    let primary : primary_of v.object ≡ n.of.primary = ap primary_of n.object_is in
     let places : List ℕ = places_of v.columns (map (λ (x : SetTree). x.name) ss) in
     let none : AllByRecursion (λ place. AllByRecursion (λ key. (place == key) ≡ false) n.of.primary) places =
-    each_to (λ place. list_any (λ key. key == place) (primary_places v) ≡ false) (λ place. AllByRecursion (λ key. (place == key) ≡ false) n.of.primary)
+    each_to (λ place. list_any (λ key. key == place) (primary_of v.object) ≡ false) (λ place. AllByRecursion (λ key. (place == key) ≡ false) n.of.primary)
     (λ place h. each_to (λ key. (key == place) ≡ false) (λ key. (place == key) ≡ false) (λ key k. turned key place k) n.of.primary
     (none_of (λ key. key == place) n.of.primary (subst (λ l. list_any (λ key. key == place) l ≡ false) primary h))) places
-    (none_of (λ place. list_any (λ key. key == place) (primary_places v)) places b.0.0) in (
+    (none_of (λ place. list_any (λ key. key == place) (primary_of v.object)) places b.0.0) in (
       record {
         named = n;
         keeps_key = swapped (λ (s : BoundSet) (key : ℕ). (s.column == key) ≡ false) (sets_to v ss) n.of.primary

@@ -14,7 +14,7 @@ use Rattle.iv_types.specs.declared.catalog.TableDef.{TableDef}
 use Rattle.iv_types.specs.declared.statement.Mode.TheVariants.{Serial}
 use Rattle.iv_types.specs.declared.lock.LockMode.TheVariants.{Exclusive}
 use Rattle.iv_types.specs.declared.lock.Want.{Want}
-use Rattle.iv_types.specs.Encoding.{kinds_of, FitAll, row_cmp}
+use Rattle.iv_types.specs.Encoding.{kinds_of, FitAll, row_cmp, lies_in}
 use Rattle.iv_types.specs.Intervals.{point}
 use Rattle.iv_types.specs.Syntax.{Tree}
 use Rattle.iv_types.proofs.Orders.{row_cmp_total}
@@ -24,7 +24,7 @@ use Rattle.iv_meaning.specs.Database.{Row, Database, rows_of, key_of}
 use Rattle.iv_meaning.specs.Grouping.{all_of}
 use Rattle.iv_meaning.specs.Values.{is_true}
 use Rattle.iv_meaning.specs.Query.{conjunction, put_by, sorted_by}
-use Rattle.iv_meaning.specs.View.{lies_in, read, rows_between, index_key, index_rows, object_rows}
+use Rattle.iv_meaning.specs.View.{read, rows_between, index_key, index_rows, object_rows}
 use Rattle.iv_meaning.specs.Statement.{BoundSet, update, delete, Kept, keep_all, Accepted, row_after, pairs, is_changed}
 use Rattle.iv_meaning.specs.Plan.{Part, KeyIndex, read_by, part_for, kinds_for, interval_of}
 use Rattle.iv_meaning.specs.Reading.{Source, source_of, by_columns, in_key_order}
@@ -39,7 +39,7 @@ use Rattle.txn_machine.specs.May.{MayLock, FitsUnder}
 use Rattle.txn_machine.specs.ViewLaws.{AreSound}
 use Rattle.txn_machine.specs.Alone.{with_changes}
 use Rattle.txn_machine.proofs.Holding.{contains_here, in_point}
-use Rattle.txn_machine.proofs.Reading.{between_rows, table_entry, index_entry, lies}
+use Rattle.txn_machine.proofs.Reading.{between_rows, table_entry, index_entry}
 use Rattle.script_law.specs.Seen.{in_order}
 use Rattle.script_law.specs.Works.{Work, done, refuses, fetches, puts, alone_on}
 use Rattle.script_law.proofs.Changing.{kept_makes}
@@ -166,7 +166,7 @@ module _ (db : Database) (sound : AreSound db.schema db.rows) (t : TableDef) (is
     held = contains_here (record { index = number; interval = interval; mode = Exclusive }) locks;
     mode_is = refl;
     index_is = refl;
-    covers = lies key interval e;
+    covers = e;
   }
 
   -- what is read of an interval that is locked is locked

@@ -9,12 +9,12 @@ use Rattle.iv_types.specs.declared.value.Kind.{Kind}
 use Rattle.iv_types.specs.declared.statement.Mode.{Mode}
 use Rattle.iv_types.specs.declared.catalog.TableDef.{TableDef}
 use Rattle.iv_types.specs.Syntax.{Tree}
-use Rattle.iv_types.specs.Encoding.{key_bytes}
+use Rattle.iv_types.specs.Encoding.{key_bytes, lies_in}
 use Rattle.iv_meaning.specs.Schema.{table, numbered, items_at}
 use Rattle.iv_meaning.specs.Database.{Row, Database, rows_of}
 use Rattle.iv_meaning.specs.Values.{Outcome, is_false}
 use Rattle.iv_meaning.specs.Query.{conjunction, chosen}
-use Rattle.iv_meaning.specs.View.{relation_rows, lies_in, read}
+use Rattle.iv_meaning.specs.View.{relation_rows, read}
 use Rattle.iv_meaning.specs.Shape.{terms}
 use Rattle.iv_meaning.specs.Sound.{IsSound}
 use Rattle.iv_meaning.specs.Plan.{ColumnTerm, terms_for, KeyIndex, Part, part_of, best, best_of, part_for, parts_from, kinds_for, interval_of, goes_on}

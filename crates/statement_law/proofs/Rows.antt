@@ -7,7 +7,7 @@ use Rattle.std.proofs.lemmas.List.Elements.{All-weaker, All-contains_itself, rec
 use Rattle.std.specs.FinMap.{get, entries}
 use Rattle.std.specs.Cmp.{tied_itself}
 use Rattle.iv_types.specs.declared.catalog.TableDef.{TableDef}
-use Rattle.iv_types.specs.Encoding.{kinds_of, FitAll}
+use Rattle.iv_types.specs.Encoding.{kinds_of, FitAll, lies_in}
 use Rattle.iv_types.specs.Intervals.{point}
 use Rattle.iv_types.specs.declared.value.Interval.{Interval}
 use Rattle.table_laws.specs.Place.{Place}
@@ -16,7 +16,7 @@ use Rattle.table_laws.proofs.Place.{place_cmp_total, place_cmp-IsAntisymmetric}
 use Rattle.table_laws.proofs.Tables.{Contains-rows_where}
 use Rattle.iv_meaning.specs.Schema.{Schema, table, numbered}
 use Rattle.iv_meaning.specs.Database.{Row, Rows, Database, rows_of, key_of}
-use Rattle.iv_meaning.specs.View.{lies_in, read, object_rows}
+use Rattle.iv_meaning.specs.View.{read, object_rows}
 use Rattle.iv_meaning.specs.Sound.{IsSound, IsRow}
 use Rattle.row_codec.proofs.RangeLaws.{alone}
 use Rattle.query_laws.specs.Laws.{Rises, IsBefore}
@@ -26,9 +26,7 @@ use Rattle.query_laws.proofs.TableRows.{rows_rise, listed_there, row_there, in_t
 use Rattle.txn_machine.specs.ViewLaws.{AreSound}
 use Rattle.txn_machine.specs.May.{FitsUnder}
 use Rattle.txn_machine.proofs.Entered.{sound_after}
-use Rattle.txn_machine.proofs.Reading.{lies}
 use Rattle.txn_machine.proofs.Holding.{contains_map}
-use Rattle.txn_machine.proofs.Testing.{lies_so}
 
 pub is_sound : (db : Database) → AreSound db.schema db.rows → IsSound db
 is_sound db h = record { objects = h.objects; rows = h.rows }
@@ -71,7 +69,7 @@ none_inside : (key : Row → List ℕ) (k : List ℕ) (rows : List Row) → AllB
 none_inside key k [] h = refl
 none_inside key k (row ∷ rows) h =
     elim (lies_in (key row) (point k)) as (λ b. lies_in (key row) (point k) ≡ b → cond b (row ∷ filter (λ r. lies_in (key r) (point k)) rows) (filter (λ r. lies_in (key r) (point k)) rows) ≡ []) [
-      | true ↦ λ e. absurd (h.0 ((alone k (key row)).0 (lies (key row) (point k) e)))
+      | true ↦ λ e. absurd (h.0 ((alone k (key row)).0 e))
       | false ↦ λ e. none_inside key k rows h.1
     ] refl
 
@@ -112,7 +110,7 @@ module _ (db : Database) (sound : IsSound db) (t : TableDef) (is : numbered db.s
       let entry = (Contains-rows_where place_cmp_total place_cmp-IsAntisymmetric (in_table t.number) db.rows (t.number, k) row).1 (there, eq-eqb t.number t.number refl) in
       let listed : Contains (rows_of db.rows t.number) row = contains_map (λ (e : Place × Row). e.1) (rows_where (in_table t.number) (entries db.rows)) ((t.number, k), row) entry in
       some_filtered (λ r. lies_in (key_of t r) (point k)) (rows_of db.rows t.number) row listed
-      (is_true (lies_in (key_of t row) (point k)) (lies_so (key_of t row) (point k) ((alone k (key_of t row)).1 (sym key)))) (sym (inside_is (point k)) ∙ e)
+      ((alone k (key_of t row)).1 (sym key)) (sym (inside_is (point k)) ∙ e)
 
 -- ---- rows that are set
 

@@ -19,12 +19,12 @@ use Rattle.iv_types.specs.declared.catalog.TableDef.{TableDef}
 use Rattle.iv_types.specs.declared.catalog.Definition.{Definition}
 use Rattle.iv_types.specs.declared.catalog.Definition.TheVariants.{Table, Index, View}
 use Rattle.iv_types.specs.Definitions.{Definitions}
-use Rattle.iv_types.specs.Encoding.{kinds_of, FitAll, value_bytes, row_bytes}
+use Rattle.iv_types.specs.Encoding.{kinds_of, FitAll, value_bytes, row_bytes, lies_in}
 use Rattle.iv_types.specs.Maps.{Map, Entry}
 use Rattle.iv_meaning.specs.Schema as schema
 use Rattle.iv_meaning.specs.Objects.{schema_of, object_of}
 use Rattle.iv_meaning.specs.Database.{Database, Rows, rows_of, key_of}
-use Rattle.iv_meaning.specs.View.{lies_in, rows_between, object_rows, read}
+use Rattle.iv_meaning.specs.View.{rows_between, object_rows, read}
 use Rattle.row_codec.specs.Laws.{OneSpelling}
 use Rattle.table_laws.specs.Place.{Place, place_cmp}
 use Rattle.table_laws.specs.Table.{rows_where}

@@ -11,7 +11,7 @@ use Rattle.std.specs.Cmp.{tied_itself}
 use Rattle.std.specs.Cmp.Lexicographic.{nat_list_cmp_total}
 use Rattle.iv_types.specs.declared.value.Interval.{Interval}
 use Rattle.iv_types.specs.Maps.{Map, Entry, first_where, entry_at, entry_after}
-use Rattle.iv_meaning.specs.View.{lies_in}
+use Rattle.iv_types.specs.Encoding.{lies_in}
 use Rattle.table_store.specs.Stored.{before, between}
 use Rattle.table_store.proofs.Places.{first_below, rest_sorted, first, second, both, less, less_true, below_less}
 use Rattle.table_store.proofs.Maps.{by_bytes, bytes_same}

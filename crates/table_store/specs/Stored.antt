@@ -15,10 +15,9 @@ use Rattle.iv_types.specs.declared.catalog.TableDef.{TableDef}
 use Rattle.iv_types.specs.declared.catalog.Definition.{Definition}
 use Rattle.iv_types.specs.declared.catalog.Definition.TheVariants.{Table}
 use Rattle.iv_types.specs.Definitions.{Definitions, numbered}
-use Rattle.iv_types.specs.Encoding.{kinds_of, FitAll, row_bytes}
+use Rattle.iv_types.specs.Encoding.{kinds_of, FitAll, row_bytes, lies_in}
 use Rattle.iv_types.specs.Maps.{Map, Entry, CanHold, IsWithin, used, with_map}
 use Rattle.iv_meaning.specs.Database.{Rows, key_of, set_row}
-use Rattle.iv_meaning.specs.View.{lies_in}
 use Rattle.table_laws.specs.Table.{write}
 
 -- ---- the table of an object number

@@ -16,12 +16,12 @@ use Rattle.iv_types.specs.declared.lock.GroupDelta.{GroupDelta}
 use Rattle.iv_types.specs.Encoding.{kinds_of, key_bytes}
 use Rattle.table_laws.specs.Place.{Place, place_cmp}
 use Rattle.table_laws.specs.Table.{rows_where}
-use Rattle.iv_meaning.specs.Schema.{Schema, Object, table, index, view, ViewTree, numbered, as_index, indexes_of, sources_of, kind_at, kinds_of_table, group_kinds}
+use Rattle.iv_meaning.specs.Schema.{Schema, Object, table, index, view, ViewTree, numbered, as_index, indexes_of, sources_of, kind_at, kinds_of_table, group_kinds, primary_of}
 use Rattle.iv_meaning.specs.Database.{Row, Rows, rows_of}
 use Rattle.iv_meaning.specs.Values.{is_true, value_at}
 use Rattle.iv_meaning.specs.Query.{combinations, conjunction, values_at, Combination}
 use Rattle.iv_meaning.specs.Grouping.{number_in}
-use Rattle.iv_meaning.specs.View.{index_key, conditions_of, join_conditions, primary_of}
+use Rattle.iv_meaning.specs.View.{index_key, conditions_of, join_conditions}
 use Rattle.iv_meaning.specs.Sound.{IsTable, IsRow}
 use Rattle.txn_machine.specs.Counts.{row_size}
 use Rattle.txn_machine.specs.Deltas.{place_of, columns_of, contribution, is_counted}

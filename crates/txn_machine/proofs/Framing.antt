@@ -11,7 +11,8 @@ use Rattle.table_laws.specs.Kept.{redo, AreTrue}
 use Rattle.table_laws.proofs.Stored.{by_session}
 use Rattle.iv_meaning.specs.Schema.{Schema, Object, table, index, view, ViewTree, numbered}
 use Rattle.iv_meaning.specs.Database.{Row, Rows, Database}
-use Rattle.iv_meaning.specs.View.{lies_in, object_rows, read}
+use Rattle.iv_types.specs.Encoding.{lies_in}
+use Rattle.iv_meaning.specs.View.{object_rows, read}
 use Rattle.iv_meaning.specs.Escrow.{IsSession, over_sessions}
 use Rattle.txn_machine.specs.Deltas.{RowChange, rows_after, due, owed}
 use Rattle.txn_machine.specs.Keeping.{KeptStep, Put, Pay, changes_of, IsSettled}
@@ -30,7 +31,7 @@ use Rattle.txn_machine.proofs.Bounds.{over_set, over_zero, over_same}
 use Rattle.txn_machine.proofs.Entered.{AreProper, right_next}
 use Rattle.txn_machine.proofs.Good.{HoldsFor, HeldKept, all_paid, Good, value-redo, base_sound, own_sound, stored_sound, frame_at, read_at}
 use Rattle.txn_machine.proofs.Keeps.{pays_none}
-use Rattle.txn_machine.proofs.Reading.{lies, IsTableIndex, first, secondary, read_same}
+use Rattle.txn_machine.proofs.Reading.{IsTableIndex, first, secondary, read_same}
 use Rattle.txn_machine.proofs.Summing.{sum_law}
 use Rattle.txn_machine.proofs.Looking.{local_law, view_laws}
 use Rattle.txn_machine.proofs.Listing.{view_read, views_same}
@@ -124,7 +125,7 @@ reads_framed objects a b locks one other f so ss n interval may = go (numbered o
     go (Some (table t)) e = at_table (first t e)
     go (Some (index i)) e = at_table (secondary i e)
     go (Some (view v)) e = ap here e ∙ (views_same objects a b one other so ss n v e interval (λ key l column.
-        f.same v.number key (subst (λ m. MayRead locks m key) (sym (view_number objects one n v so e)) (may key (lies key interval l))) column) ∙ sym (ap there e))
+        f.same v.number key (subst (λ m. MayRead locks m key) (sym (view_number objects one n v so e)) (may key l)) column) ∙ sym (ap there e))
 
 -- ---- a session's own reading
 
@@ -179,5 +180,5 @@ module _ (base : Database) (s : Store) (good : Fine base s) (i : ℕ) (is : IsSe
       go (Some (index x)) e h = sym (at_table (secondary x e)) ∙ h
       go (Some (view v)) e h =
           let agrees : (key : List ℕ) → lies_in key interval ≡ true → (column : ℕ) → stored_number s.view (v.number, key) column ≡ fresh base.schema own (v.number, key) column =
-          λ key l column. own_number v.number key (subst (λ m. MayRead (locks_of s i) m key) (sym (view_number base.schema s.rows n v so e)) (may key (lies key interval l))) column in
+          λ key l column. own_number v.number key (subst (λ m. MayRead (locks_of s i) m key) (sym (view_number base.schema s.rows n v so e)) (may key l)) column in
           ap (λ x. object_rows (record { number = b; schema = base.schema; rows = own }) x interval) e ∙ view_read (record { number = b; schema = base.schema; rows = own }) ss n v e interval s.view agrees rows h

@@ -27,6 +27,7 @@ use Rattle.txn_machine.specs.Entries.{secondary_key, entry_key, HasEntry, NeedsA
 use Rattle.txn_machine.specs.Ghosts.{Holds, MayRead}
 use Rattle.txn_machine.specs.ViewLaws.{AreSound}
 use Rattle.txn_machine.proofs.Good.{HoldsFor}
+use Rattle.iv_types.proofs.Fitting.{lies_so}
 
 -- ---- elements of lists
 
@@ -87,7 +88,7 @@ below_more [] = refl
 below_more (x ∷ a) = ap (λ o. ordering_then o (slice_cmp nat_cmp a (a ++ 0 ∷ []))) (tied_itself nat_cmp_total x) ∙ below_more a
 
 pub in_point : (key : List ℕ) → LiesIn key (point key)
-in_point key = ((λ e. cc (sym (same_bytes key) ∙ e)), below_more key)
+in_point key = lies_so key (point key) (λ e. cc (sym (same_bytes key) ∙ e)) (below_more key)
 
 pub holds_point : (mode : LockMode) (locks : List Want) (number : ℕ) (key : List ℕ) → Contains locks (record { index = number; interval = point key; mode = mode }) → Holds locks mode number key
 holds_point mode locks number key c = record { lock = record { index = number; interval = point key; mode = mode }; held = c; mode_is = refl; index_is = refl; covers = in_point key }

@@ -14,7 +14,7 @@ use Rattle.std.specs.Cmp.{tied_itself, nat_cmp_total}
 use Rattle.iv_types.specs.declared.value.Interval.{Interval}
 use Rattle.iv_types.specs.declared.value.Kind.{Kind}
 use Rattle.iv_types.specs.declared.value.Value.TheVariants.{Number}
-use Rattle.iv_types.specs.Encoding.{FitAll, key_bytes, row_cmp}
+use Rattle.iv_types.specs.Encoding.{FitAll, key_bytes, row_cmp, lies_in}
 use Rattle.iv_types.proofs.Orders.{row_cmp_exact}
 use Rattle.row_codec.proofs.Columns.{fit_lengths}
 use Rattle.table_laws.specs.Place.{Place, place_cmp}
@@ -25,7 +25,7 @@ use Rattle.iv_meaning.specs.Schema.{Schema, view, ViewTree, numbered, sources_of
 use Rattle.iv_meaning.specs.Database.{Row, Rows, Database}
 use Rattle.iv_meaning.specs.Query.{Combination, values_at}
 use Rattle.iv_meaning.specs.Grouping.{groups_of, members}
-use Rattle.iv_meaning.specs.View.{counted_combinations, view_rows, shares, lies_in, view_key, rows_between, object_rows}
+use Rattle.iv_meaning.specs.View.{counted_combinations, view_rows, shares, view_key, rows_between, object_rows}
 use Rattle.query_laws.specs.Laws.{Rises}
 use Rattle.query_laws.proofs.Rising.{is_true, key_cmp, key_total, key_exact, keyed, entries_rising}
 use Rattle.query_laws.proofs.GroupRows.{IsGroupIn, groups_are, first_member, kinds_long}

@@ -24,7 +24,7 @@ use Rattle.iv_types.specs.declared.lock.Want.{Want}
 use Rattle.iv_types.specs.declared.lock.LockMode.TheVariants.{Share}
 use Rattle.iv_types.specs.declared.catalog.TableDef.{TableDef}
 use Rattle.iv_types.specs.declared.catalog.Second.{Second}
-use Rattle.iv_types.specs.Encoding.{kinds_of, Fits, FitAll, key_bytes, key_value_bytes}
+use Rattle.iv_types.specs.Encoding.{kinds_of, Fits, FitAll, key_bytes, key_value_bytes, is_huge}
 use Rattle.iv_types.specs.Syntax as syntax_tree
 use Rattle.iv_types.specs.Syntax.{Tree}
 use Rattle.iv_types.specs.Intervals.{IsBelow, LiesIn, next, point, prefix_interval}
@@ -32,11 +32,11 @@ use Rattle.table_laws.specs.Place.{Place}
 use Rattle.table_laws.specs.Table.{write, rows_where}
 use Rattle.table_laws.proofs.Tables.{rows_where_same, Contains-entries}
 use Rattle.table_laws.proofs.Place.{place_cmp_total, place_cmp-IsAntisymmetric}
-use Rattle.iv_meaning.specs.Schema.{Schema, Object, table, ViewTree, numbered, items_at, key_kinds}
+use Rattle.iv_meaning.specs.Schema.{Schema, Object, table, ViewTree, numbered, items_at, key_kinds, primary_of}
 use Rattle.iv_meaning.specs.Database.{Row, Rows, rows_of, key_of}
-use Rattle.iv_meaning.specs.Values.{Outcome, number, word, truth, refused, is_huge, both, is_true, is_false, compared, holds, meaning, outcome_of}
+use Rattle.iv_meaning.specs.Values.{Outcome, number, word, truth, refused, both, is_true, is_false, compared, holds, meaning, outcome_of}
 use Rattle.iv_meaning.specs.Query.{Combination, combinations, conjunction}
-use Rattle.iv_meaning.specs.View.{conditions_of, join_conditions, primary_of, index_key}
+use Rattle.iv_meaning.specs.View.{conditions_of, join_conditions, index_key}
 use Rattle.iv_meaning.specs.Sound.{AreColumns, IsRow}
 use Rattle.txn_machine.specs.Deltas.{RowChange, rows_after, contribution, is_counted, other_rows, contributions, negated, are_equal, exchanged, owed_to, views_of, owed, look_up_second, look_up_first, look_ups}
 use Rattle.txn_machine.specs.Entries.{AgreeAt, NeedsAt}
@@ -50,6 +50,7 @@ use Rattle.txn_machine.proofs.Columns.{and_true}
 use Rattle.txn_machine.proofs.Reading.{both_true, same_passing, filter_rows, table_entry, index_entry}
 use Rattle.txn_machine.proofs.Holding.{contains_here, contains_next, table_is, in_point}
 use Rattle.txn_machine.proofs.Making.{each_view, made_law}
+use Rattle.iv_types.proofs.Fitting.{lies_so}
 
 -- ---- equal lists
 
@@ -212,7 +213,7 @@ below_next (b ∷ p) q = go (next p) (below_next p q)
     go (Some more) h = ap (λ o. ordering_then o (slice_cmp nat_cmp (p ++ q) more)) (tied_itself nat_cmp_total b) ∙ h
 
 pub in_prefix : (p q : List ℕ) → LiesIn (p ++ q) (prefix_interval p)
-in_prefix p q = (from_prefix p q, below_next p q)
+in_prefix p q = lies_so (p ++ q) (prefix_interval p) (from_prefix p q) (below_next p q)
 
 key_split : (ks js : List Kind) (vs ws : List Value) → FitAll ks vs → key_bytes (ks ++ js) (vs ++ ws) ≡ key_bytes ks vs ++ key_bytes js ws
 key_split [] js [] ws f = refl

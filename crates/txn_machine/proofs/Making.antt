@@ -12,12 +12,12 @@ use Rattle.iv_types.specs.declared.value.Kind.{Kind}
 use Rattle.iv_types.specs.declared.catalog.Second.{Second}
 use Rattle.iv_types.specs.Encoding.{key_bytes}
 use Rattle.table_laws.specs.Place.{Place}
-use Rattle.iv_meaning.specs.Schema.{Schema, Object, table, index, view, ViewTree, numbered, as_view, sources_of, kind_at, kinds_of_table, group_kinds}
+use Rattle.iv_meaning.specs.Schema.{Schema, Object, table, index, view, ViewTree, numbered, as_view, sources_of, kind_at, kinds_of_table, group_kinds, primary_of}
 use Rattle.iv_meaning.specs.Database.{Rows, rows_of}
 use Rattle.iv_meaning.specs.Values.{is_true, value_at}
 use Rattle.iv_meaning.specs.Query.{combinations, conjunction, values_at}
 use Rattle.iv_meaning.specs.Grouping.{number_in}
-use Rattle.iv_meaning.specs.View.{conditions_of, join_conditions, primary_of}
+use Rattle.iv_meaning.specs.View.{conditions_of, join_conditions}
 use Rattle.iv_meaning.specs.Sound.{IsTable, IsView}
 use Rattle.txn_machine.specs.Deltas.{views_of, due}
 use Rattle.txn_machine.specs.Fresh.{all_contributions, fresh, made_of}

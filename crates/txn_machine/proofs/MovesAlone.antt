@@ -23,7 +23,7 @@ use Rattle.iv_types.specs.declared.value.Kind.TheVariants.{Int, Huge, Text}
 use Rattle.iv_types.specs.declared.value.Value.{Value}
 use Rattle.iv_types.specs.declared.value.Value.TheVariants.{Number, Word}
 use Rattle.iv_types.specs.declared.value.Interval.{Interval}
-use Rattle.iv_types.specs.Encoding.{Fits, FitAll, key_bytes, row_cmp, kinds_of}
+use Rattle.iv_types.specs.Encoding.{Fits, FitAll, key_bytes, row_cmp, kinds_of, is_huge, lies_in, fits}
 use Rattle.iv_types.proofs.Orders.{row_cmp_total}
 use Rattle.std.specs.declared.cmp.Ordering.{Ordering}
 use Rattle.std.specs.declared.cmp.Ordering.TheVariants.{Less, Equal, Greater}
@@ -33,8 +33,6 @@ use Rattle.table_laws.specs.Table.{rows_where}
 use Rattle.iv_meaning.specs.Schema.{table, numbered}
 use Rattle.iv_meaning.specs.Database.{Row, Rows, Database, key_of}
 use Rattle.iv_meaning.specs.History.{Entry}
-use Rattle.iv_meaning.specs.Values.{is_huge}
-use Rattle.iv_meaning.specs.View.{lies_in}
 use Rattle.iv_meaning.specs.Escrow.{Account, IsAllowed, IsSession, with_increment, over_sessions, paid}
 use Rattle.txn_machine.specs.Acts as act
 use Rattle.txn_machine.specs.Acts.{Act}
@@ -53,9 +51,9 @@ use Rattle.txn_machine.specs.May.{IsOpenIn, IsReady, Owes, FitsUnder, MayLock, M
 use Rattle.txn_machine.specs.Steps.{Step, Says, MayBegin, FindsIn, IsFree, CommitsAs, group_want, put_wants, first_want, waits_after, FitsLog, FitsData, used_data, definitions_after, log_after}
 use Rattle.txn_machine.specs.Example.{sale, by_shop}
 use Rattle.txn_machine.proofs.Basics.{one_same}
-use Rattle.txn_machine.proofs.Playing.{shop_schema, table_of, entry_of, Plain, state_of, base, number_of, txn, found_in, shown_in, int_fits, fit, fit_all, are_shown, owed_in, is_session, is_serial, is_nil, is_free, goes_on, is_ready, fits_txn, fits_history, fits_under, differ, account_in, inf_in, sup_in, allows, all_below, read_want, view_want, seen, change_in, put_wants_in, number_left, said_of, owes, lacks_first, pays_first, holds_in, makes_first, rest, is_increment, may_read, may_put, test, after_makes, locked, paid_txn, after_pays, after_undoes, after, is_in_order, begins, learns, scans, views, puts, lacks, undoes, ends, commits, leaves}
+use Rattle.txn_machine.proofs.Playing.{shop_schema, table_of, entry_of, Plain, state_of, base, number_of, txn, found_in, shown_in, fit_all, are_shown, owed_in, is_session, is_serial, is_nil, is_free, goes_on, is_ready, fits_txn, fits_history, fits_under, differ, account_in, inf_in, sup_in, allows, all_below, read_want, view_want, seen, change_in, put_wants_in, number_left, said_of, owes, lacks_first, pays_first, holds_in, makes_first, rest, is_increment, may_read, may_put, test, after_makes, locked, paid_txn, after_pays, after_undoes, after, is_in_order, begins, learns, scans, views, puts, lacks, undoes, ends, commits, leaves}
 use Rattle.txn_machine.proofs.Tabled.{InOrder, entries_are, get_is, write_is, add_is, plain_db, base_sorted, committed_is, read_is, owed_is, fresh_is}
-use Rattle.txn_machine.proofs.Testing.{is_true, left_one, right_one, at_most, equal, there_is, none_is_there, serial_is, nil_is, not_nil, false_is, session_is, below_so, some_is, huge_is, free_is, lies_is}
+use Rattle.txn_machine.proofs.Testing.{is_true, left_one, right_one, at_most, equal, there_is, none_is_there, serial_is, nil_is, not_nil, false_is, session_is, below_so, some_is, free_is, in_range}
 use Rattle.txn_machine.specs.Log.{Within, end_bytes, reserved}
 
 -- the tables are in order, and the engine is not stopped
@@ -90,29 +88,11 @@ increment_is Increment h = refl
 increment_is Share h = absurd h
 increment_is Exclusive h = absurd h
 
-int_pos : (n : ℕ) → nat_le n 9223372036854775807 ≡ true → FitsSigned w64 (pos n)
-int_pos n e = let le : n ≤ 9223372036854775807 = leb-true n 9223372036854775807 e in record { sfits = omega arith }
-
-int_neg : (n : ℕ) → nat_le n 9223372036854775807 ≡ true → FitsSigned w64 (negsuc n)
-int_neg n e = let le : n ≤ 9223372036854775807 = leb-true n 9223372036854775807 e in record { sfits = omega arith }
-
-int_is : (n : ℤ) → T (int_fits n) → FitsSigned w64 n
-int_is (pos n) h = int_pos n (is_true (nat_le n 9223372036854775807) h)
-int_is (negsuc n) h = int_neg n (is_true (nat_le n 9223372036854775807) (left_one (nat_le n 9223372036854775807) true h))
-
-fit_is : (kind : Kind) (value : Value) → T (fit kind value) → Fits kind value
-fit_is Int (Number n) h = int_is n h
-fit_is Huge (Number n) h = huge_is n h
-fit_is Text (Number n) h = absurd h
-fit_is Int (Word w) h = absurd h
-fit_is Huge (Word w) h = absurd h
-fit_is Text (Word w) h = absurd h
-
 fit_all_is : (kinds : List Kind) (values : List Value) → T (fit_all kinds values) → FitAll kinds values
 fit_all_is [] [] h = tt
 fit_all_is [] (v ∷ vs) h = absurd h
 fit_all_is (k ∷ ks) [] h = absurd h
-fit_all_is (k ∷ ks) (v ∷ vs) h = (fit_is k v (left_one (fit k v) (fit_all ks vs) h), fit_all_is ks vs (right_one (fit k v) (fit_all ks vs) h))
+fit_all_is (k ∷ ks) (v ∷ vs) h = (is_true (fits k v) (left_one (fits k v) (fit_all ks vs) h), fit_all_is ks vs (right_one (fits k v) (fit_all ks vs) h))
 
 under_is : (key : List ℕ) (new : Option Row) → T (fits_under key new) → FitsUnder sale key new
 under_is key None h = tt
@@ -149,10 +129,10 @@ shown_lists [] (n ∷ ns) h = absurd h
 shown_lists (e ∷ es) [] h = absurd h
 shown_lists (e ∷ es) (n ∷ ns) h =
     let same : Bool = bytes_eq (key_bytes (Int ∷ []) (Number n ∷ [])) e.0.1 in
-    let more = right_one (int_fits n) (same && are_shown es ns) h in (
+    let more = right_one (fits Int (Number n)) (same && are_shown es ns) h in (
       record {
         group = Number n ∷ [];
-        fits = (int_is n (left_one (int_fits n) (same && are_shown es ns) h), tt);
+        fits = (is_true (fits Int (Number n)) (left_one (fits Int (Number n)) (same && are_shown es ns) h), tt);
         key = bytes_same (key_bytes (Int ∷ []) (Number n ∷ [])) e.0.1 (left_one same (are_shown es ns) more);
         row_is = refl;
       },
@@ -424,7 +404,7 @@ module _ (p : Plain) (i : ℕ) (sorted : Sorted p) (session : i ≤ 64) where
         held = a.there;
         mode_is = increment_is a.one.mode (left_one (is_increment a.one.mode) ((a.one.index == k.0) && lies_in k.1 a.one.interval) a.so);
         index_is = equal a.one.index k.0 (left_one (a.one.index == k.0) (lies_in k.1 a.one.interval) more);
-        covers = lies_is k.1 a.one.interval (right_one (a.one.index == k.0) (lies_in k.1 a.one.interval) more);
+        covers = is_true (lies_in k.1 a.one.interval) (right_one (a.one.index == k.0) (lies_in k.1 a.one.interval) more);
       }
 
   pub makes_by : T (owes p i) → (l : List GroupDelta) → (txn p i).owed ≡ l → T (makes_first p i l) → Step here i act.Ghost answer.Ghosted (state_of (after_makes p i l))
@@ -454,9 +434,9 @@ module _ (p : Plain) (i : ℕ) (sorted : Sorted p) (session : i ≤ 64) where
       let b : Account = with_increment a i (worth column d) in
       let more = right_one (is_huge (inf_in b)) (is_huge (sup_in b) && is_huge (paid (worth column d ∷ a.kept i))) h in
       record {
-        inf = huge_is (inf_in b) (left_one (is_huge (inf_in b)) (is_huge (sup_in b) && is_huge (paid (worth column d ∷ a.kept i))) h);
-        sup = huge_is (sup_in b) (left_one (is_huge (sup_in b)) (is_huge (paid (worth column d ∷ a.kept i))) more);
-        sum = huge_is (paid (worth column d ∷ a.kept i)) (right_one (is_huge (sup_in b)) (is_huge (paid (worth column d ∷ a.kept i))) more);
+        inf = in_range (inf_in b) (left_one (is_huge (inf_in b)) (is_huge (sup_in b) && is_huge (paid (worth column d ∷ a.kept i))) h);
+        sup = in_range (sup_in b) (left_one (is_huge (sup_in b)) (is_huge (paid (worth column d ∷ a.kept i))) more);
+        sum = in_range (paid (worth column d ∷ a.kept i)) (right_one (is_huge (sup_in b)) (is_huge (paid (worth column d ∷ a.kept i))) more);
       }
 
   pub locked_is : (wants : List Want) → now (locked here.store i wants) i ≡ record (txn p i) { locks = wants ++ (txn p i).locks }

@@ -22,7 +22,8 @@ use Rattle.iv_meaning.specs.Schema.{numbered}
 use Rattle.iv_meaning.specs.Database.{Row, Rows, Database}
 use Rattle.iv_meaning.specs.History.{Entry, fold, state_at}
 use Rattle.iv_meaning.specs.Statement.{sets}
-use Rattle.iv_meaning.specs.View.{lies_in, view_key, read}
+use Rattle.iv_types.specs.Encoding.{lies_in}
+use Rattle.iv_meaning.specs.View.{view_key, read}
 use Rattle.txn_machine.specs.Acts as act
 use Rattle.txn_machine.specs.Answers as answer
 use Rattle.txn_machine.specs.Deltas.{RowChange, is_for}
@@ -38,7 +39,7 @@ use Rattle.txn_machine.specs.Example.{by_shop, shop_database}
 use Rattle.txn_machine.proofs.Holding.{contains_here, contains_next}
 use Rattle.txn_machine.proofs.Playing.{shop_schema, set_in, Sold, entry_of, Plain, state_of, redo_in, base, number_after, number_of, txn, sales_in, fresh_in, each_to, each_of, is_serial, is_nil, is_zero, is_increment, goes_on, holds_in, view_of, peeked, sold_by, changes_deltas, deltas_in, is_cleanable, said_of, test, after, peeks, peeks_sales, cleans_none, cleans, prunes, saves}
 use Rattle.txn_machine.proofs.Tabled.{key_cmp, InOrder, entries_are, get_is, write_is, set_sorted, redo_sorted, sold_sorted, with_sales, keeps_is, fold_is, origin_is, base_sorted, committed_is, listed_is, read_is, owed_is, fresh_is}
-use Rattle.txn_machine.proofs.Testing.{is_true, holds, left_one, right_one, both, either, not_so, not_that, equal, nil_is, each_so, each_in, some_in, lies_so}
+use Rattle.txn_machine.proofs.Testing.{is_true, holds, left_one, right_one, both, either, not_so, not_that, equal, nil_is, each_so, each_in, some_in}
 use Rattle.txn_machine.proofs.MovesAlone.{Sorted, step, of_db, number_is, log_room, going, holds_so}
 
 -- ---- tests of the cleaner
@@ -83,7 +84,7 @@ holds_back : (locks : List Want) (k : Place) → Holds locks Increment k.0 k.1 �
 holds_back locks k h =
     some_in (λ l. is_increment l.mode && ((l.index == k.0) && lies_in k.1 l.interval)) locks h.lock h.held
     (both (is_increment h.lock.mode) ((h.lock.index == k.0) && lies_in k.1 h.lock.interval) (increment_so h.lock.mode h.mode_is)
-    (both (h.lock.index == k.0) (lies_in k.1 h.lock.interval) (holds (h.lock.index == k.0) (eq-eqb h.lock.index k.0 h.index_is)) (lies_so k.1 h.lock.interval h.covers)))
+    (both (h.lock.index == k.0) (lies_in k.1 h.lock.interval) (holds (h.lock.index == k.0) (eq-eqb h.lock.index k.0 h.index_is)) (holds (lies_in k.1 h.lock.interval) h.covers)))
 
 -- ---- versions
 

@@ -11,12 +11,11 @@ use Rattle.iv_types.specs.declared.value.Interval.{Interval}
 use Rattle.iv_meaning.specs.Database.{Row}
 use Rattle.iv_types.specs.declared.session.Sessions.{Sessions}
 use Rattle.iv_types.specs.declared.refusal.EngineRefusal.TheVariants as refusal
-use Rattle.iv_types.specs.Encoding.{IsHuge}
+use Rattle.iv_types.specs.Encoding.{IsHuge, is_huge}
 use Rattle.iv_types.specs.Replies.{members}
 use Rattle.iv_types.specs.Intervals.{IsAtMost}
 use Rattle.row_codec.proofs.RangeLaws.{at_most_itself}
 use Rattle.iv_meaning.specs.Escrow.{Account, IsAllowed, with_increment, over_sessions, paid, inf, sup}
-use Rattle.iv_meaning.specs.Values.{is_huge}
 use Rattle.iv_meaning.specs.Waits.{LeadsTo, IsFirstCycle}
 use Rattle.txn_machine.specs.Acts as act
 use Rattle.txn_machine.specs.Answers as answer
@@ -32,15 +31,12 @@ use Rattle.txn_machine.proofs.Playing.{Plain, state_of, txn, is_session, each_to
 use Rattle.txn_machine.proofs.Tabled.{get_is}
 use Rattle.txn_machine.proofs.Testing.{is_true, holds, left_one, right_one, both, either, not_so, equal, not_equal, nil_is, not_nil, session_is, each_so, below_so, each_in, some_is, in_way_is, in_way_so}
 use Rattle.txn_machine.proofs.MovesAlone.{Sorted, step, ready, free, may_read_so, wants_are, may_put_so, owes_so, account_is, allows_so, view_at}
+use Rattle.iv_types.proofs.Fitting.{huge_so}
 
 -- ---- a column that does not allow a delta
 
-huge_so : (n : ℤ) → IsHuge n → T (is_huge n)
-huge_so (pos n) f = let lt : n < 2 ^ 127 = f.0.sfits in holds (nat_le n (2 ^ 127 - 1)) (le-leb n (2 ^ 127 - 1) (omega (arith, lt)))
-huge_so (negsuc n) f =
-    let lt : n < 2 ^ 127 = omega (arith, f.0.sfits) in
-    let differ : n ≢ 2 ^ 127 - 1 = λ e. f.1 (ap negsuc e) in
-    both (nat_le n (2 ^ 127 - 2)) true (holds (nat_le n (2 ^ 127 - 2)) (le-leb n (2 ^ 127 - 2) (omega (arith, lt, differ)))) tt
+huge_test : (n : ℤ) → IsHuge n → T (is_huge n)
+huge_test n h = holds (is_huge n) (huge_so n h)
 
 pub inf_is : (a : Account) → inf_in a ≡ inf a
 unfolding over_sessions
@@ -81,8 +77,8 @@ module _ (p : Plain) (i : ℕ) (sorted : Sorted p) (session : i ≤ 64) where
       let k : Account = account_in p (place_of d) column in
       let b : Account = with_increment k i (worth column d) in
       both (is_huge (inf_in b)) (is_huge (sup_in b) && is_huge (paid (worth column d ∷ k.kept i)))
-      (huge_so (inf_in b) (subst IsHuge (sym (inf_is b)) a.inf))
-      (both (is_huge (sup_in b)) (is_huge (paid (worth column d ∷ k.kept i))) (huge_so (sup_in b) (subst IsHuge (sym (sup_is b)) a.sup)) (huge_so (paid (worth column d ∷ k.kept i)) a.sum))
+      (huge_test (inf_in b) (subst IsHuge (sym (inf_is b)) a.inf))
+      (both (is_huge (sup_in b)) (is_huge (paid (worth column d ∷ k.kept i))) (huge_test (sup_in b) (subst IsHuge (sym (sup_is b)) a.sup)) (huge_test (paid (worth column d ∷ k.kept i)) a.sum))
 
   pub refuses_by : (column : ℕ) → T (owes p i) → (l : List GroupDelta) → (txn p i).owed ≡ l → T (refuses_first p i l column)
       → Step (state_of p) i act.Pay (bounds_in p l column) (state_of (left_by p i act.Pay (bounds_in p l column) (Takes (first_want (txn p i).owed) ∷ [])))

@@ -21,7 +21,7 @@ use Rattle.iv_types.specs.declared.value.Value.{Value}
 use Rattle.iv_types.specs.declared.value.Value.TheVariants.{Number}
 use Rattle.iv_types.specs.declared.value.Interval.{Interval}
 use Rattle.iv_types.specs.declared.refusal.EngineRefusal.TheVariants as refusal
-use Rattle.iv_types.specs.Encoding.{key_bytes, row_cmp, kinds_of}
+use Rattle.iv_types.specs.Encoding.{key_bytes, row_cmp, kinds_of, is_huge, lies_in, fits}
 use Rattle.iv_types.specs.Replies.{members}
 use Rattle.iv_types.specs.Intervals.{point}
 use Rattle.table_laws.specs.Place.{Place, place_cmp}
@@ -32,8 +32,8 @@ use Rattle.iv_meaning.specs.Database.{Row, Rows, key_of}
 use Rattle.iv_meaning.specs.Statement.{sets}
 use Rattle.iv_meaning.specs.History.{Entry}
 use Rattle.iv_meaning.specs.Query.{combinations, conjunction}
-use Rattle.iv_meaning.specs.Values.{is_huge, is_true}
-use Rattle.iv_meaning.specs.View.{conditions_of, lies_in, view_key, rows_by_group}
+use Rattle.iv_meaning.specs.Values.{is_true}
+use Rattle.iv_meaning.specs.View.{conditions_of, view_key, rows_by_group}
 use Rattle.iv_meaning.specs.Escrow.{Account, with_increment, lo, hi, paid}
 use Rattle.iv_meaning.specs.Waits.{nobody}
 use Rattle.txn_machine.specs.Acts as act
@@ -145,13 +145,10 @@ shown_in (e ∷ es) [] = []
 shown_in (e ∷ es) (n ∷ ns) = (Number n ∷ map Number (first_numbers 2 e.1)) ∷ shown_in es ns
 
 -- it is an INT
-abbrev pub int_fits : ℤ → Bool
-int_fits n = int_le (neg_ℤ (pos 9223372036854775808)) n && int_le n (pos 9223372036854775807)
-
 -- each stored group is that of its shop
 abbrev pub are_shown : List (Place × List ℤ) → List ℤ → Bool
 are_shown [] [] = true
-are_shown (e ∷ es) (n ∷ ns) = int_fits n && (bytes_eq (key_bytes (Int ∷ []) (Number n ∷ [])) e.0.1 && are_shown es ns)
+are_shown (e ∷ es) (n ∷ ns) = fits Int (Number n) && (bytes_eq (key_bytes (Int ∷ []) (Number n ∷ [])) e.0.1 && are_shown es ns)
 are_shown _ _ = false
 
 -- ---- what is owed
@@ -254,14 +251,9 @@ fits_history p need = nat_le (history_size shop_schema (map entry_of p.sold) (de
 
 -- ---- tests of rows
 
-abbrev pub fit : Kind → Value → Bool
-fit Int (Number n) = int_fits n
-fit Huge (Number n) = is_huge n
-fit _ _ = false
-
 abbrev pub fit_all : List Kind → List Value → Bool
 fit_all [] [] = true
-fit_all (kind ∷ kinds) (value ∷ values) = fit kind value && fit_all kinds values
+fit_all (kind ∷ kinds) (value ∷ values) = fits kind value && fit_all kinds values
 fit_all _ _ = false
 
 abbrev pub fits_under : List ℕ → Option Row → Bool

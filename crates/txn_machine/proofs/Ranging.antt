@@ -14,16 +14,16 @@ use Rattle.iv_types.specs.declared.catalog.TableDef.{TableDef}
 use Rattle.iv_types.specs.declared.catalog.Second.{Second}
 use Rattle.iv_types.specs.Syntax as syntax_tree
 use Rattle.iv_types.specs.Syntax.{Tree}
-use Rattle.iv_types.specs.Encoding.{IsHuge, FitAll, key_bytes, row_cmp}
+use Rattle.iv_types.specs.Encoding.{IsHuge, FitAll, key_bytes, row_cmp, is_huge}
 use Rattle.iv_types.proofs.Orders.{row_cmp_exact}
 use Rattle.table_laws.specs.Place.{Place}
 use Rattle.table_laws.proofs.Stored.{by_session}
-use Rattle.iv_meaning.specs.Schema.{Schema, Object, table, view, ViewTree, numbered, sources_of, group_kinds}
+use Rattle.iv_meaning.specs.Schema.{Schema, Object, table, view, ViewTree, numbered, sources_of, group_kinds, primary_of}
 use Rattle.iv_meaning.specs.Database.{Row, Database, rows_of}
-use Rattle.iv_meaning.specs.Values.{number, refused, is_true, is_huge, ranged, value_at, value_of}
+use Rattle.iv_meaning.specs.Values.{number, refused, is_true, ranged, value_at, value_of}
 use Rattle.iv_meaning.specs.Query.{Combination, BoundItem, count, sum, plain, combinations, conjunction, joined, item_alone, item_of_group, row_by, values_at, listed, ordered}
 use Rattle.iv_meaning.specs.Grouping.{all_of, among, groups_of, members, number_in, sum_by}
-use Rattle.iv_meaning.specs.View.{conditions_of, join_conditions, primary_of, query_of, whole_view, counted_combinations, shares}
+use Rattle.iv_meaning.specs.View.{conditions_of, join_conditions, query_of, whole_view, counted_combinations, shares}
 use Rattle.query_laws.proofs.WholeViews.{chosen_is, not_listed}
 use Rattle.txn_machine.specs.Deltas.{contribution, is_for, worth, due}
 use Rattle.txn_machine.specs.Fresh.{all_contributions, fresh}
@@ -35,24 +35,9 @@ use Rattle.txn_machine.proofs.Making.{made_law}
 use Rattle.txn_machine.proofs.Keeps.{shift}
 use Rattle.txn_machine.proofs.Holding.{by_contains, contains_here, contains_next, contains_none}
 use Rattle.txn_machine.proofs.Sharing.{apart_due, fresh_of, groups_fit, due_members}
+use Rattle.iv_types.proofs.Fitting.{huge_is}
 
 -- ---- numbers in range
-
-huge_pos : (n : ℕ) → nat_le n (2 ^ 127 - 1) ≡ true → IsHuge (pos n)
-huge_pos n e = let le : n ≤ 2 ^ 127 - 1 = leb-true n (2 ^ 127 - 1) e in (record { sfits = omega arith }, λ f. absurd (cc))
-
-huge_neg : (n : ℕ) → nat_le n (2 ^ 127 - 2) ≡ true → IsHuge (negsuc n)
-huge_neg n e =
-    let le : n ≤ 2 ^ 127 - 2 = leb-true n (2 ^ 127 - 2) e in
-    (record { sfits = omega arith }, λ f. let g : n ≡ 2 ^ 127 - 1 = cc in omega (arith, g))
-
-first_true : (a b : Bool) → (a && b) ≡ true → a ≡ true
-first_true true b h = refl
-first_true false b h = absurd (cc)
-
-huge_fits : (n : ℤ) → is_huge n ≡ true → IsHuge n
-huge_fits (pos n) e = huge_pos n e
-huge_fits (negsuc n) e = huge_neg n (first_true (nat_le n (2 ^ 127 - 2)) true e)
 
 pub huge_zero : IsHuge (pos 0)
 huge_zero = (omega (arith, ints), λ e. cc)
@@ -61,7 +46,7 @@ in_range : (n : ℤ) (y : Value) → value_of (ranged n) ≡ Some y → IsHuge n
 in_range n y e = go (is_huge n) refl e
   where
     go : (b : Bool) → is_huge n ≡ b → value_of (cond b (number n) refused) ≡ Some y → IsHuge n
-    go true is e = huge_fits n is
+    go true is e = huge_is n is
     go false is e = absurd (cc)
 
 -- ---- lists of which none is wanting

@@ -21,7 +21,8 @@ use Rattle.table_laws.proofs.Tables.{passing_some, passing_true, rows_where_same
 use Rattle.table_laws.proofs.Place.{place_cmp_total, place_cmp-IsAntisymmetric}
 use Rattle.iv_meaning.specs.Schema.{Schema, Object, table, index, numbered, as_table}
 use Rattle.iv_meaning.specs.Database.{Row, Rows, rows_of, key_of}
-use Rattle.iv_meaning.specs.View.{lies_in, index_key, rows_between, index_rows, object_rows, read}
+use Rattle.iv_types.specs.Encoding.{lies_in}
+use Rattle.iv_meaning.specs.View.{index_key, rows_between, index_rows, object_rows, read}
 use Rattle.iv_meaning.specs.Sound.{IsRow}
 use Rattle.txn_machine.specs.Entries.{secondary_key, entry_key, AgreeAt}
 use Rattle.txn_machine.specs.ViewLaws.{AreSound}
@@ -33,30 +34,11 @@ key_cmp = slice_cmp nat_cmp
 key_exact : IsAntisymmetric key_cmp
 key_exact = slice_cmp-IsAntisymmetric nat_cmp-IsAntisymmetric
 
--- ---- the test of an interval
-
-not_gt : (o : Ordering) → cond (is_gt o) false true ≡ true → o ≢ Greater
-not_gt Less h e = cc
-not_gt Equal h e = cc
-not_gt Greater h e = false≢true h
-
-is_less : (o : Ordering) → is_lt o ≡ true → o ≡ Less
-is_less Less h = refl
-is_less Equal h = absurd (false≢true h)
-is_less Greater h = absurd (false≢true h)
+-- ---- two tests
 
 pub both_true : (a b : Bool) → (a && b) ≡ true → (a ≡ true) × (b ≡ true)
 both_true true b h = (refl, h)
 both_true false b h = absurd (false≢true h)
-
-below_high : (key : List ℕ) (high : Option (List ℕ)) → option_map_or (λ end. is_lt (slice_cmp nat_cmp key end)) high true ≡ true → IfSome high (λ end. IsBelow key end)
-below_high key None h = tt
-below_high key (Some end) h = is_less (slice_cmp nat_cmp key end) h
-
-pub lies : (key : List ℕ) (interval : Interval) → lies_in key interval ≡ true → LiesIn key interval
-lies key interval h =
-    let parts = both_true (cond (is_gt (slice_cmp nat_cmp interval.low key)) false true) (option_map_or (λ end. is_lt (slice_cmp nat_cmp key end)) interval.high true) h in
-    (not_gt (slice_cmp nat_cmp interval.low key) parts.0, below_high key interval.high parts.1)
 
 -- ---- only the rows of the interval matter
 
@@ -118,7 +100,7 @@ between_same objects number n key interval one other entry_one entry_other agree
     → (place : Place) (row : Row) → get a place ≡ Some row → test place row ≡ true → get b place ≡ Some row =
     λ a b entry ag place row e t.
     let parts = both_true (place.0 == n) (lies_in (key row) interval) t in
-    (ag (key row) (lies (key row) interval parts.1)).there place row (entry place row (eqb-true place.0 n parts.0) e) e in
+    (ag (key row) parts.1).there place row (entry place row (eqb-true place.0 n parts.0) e) e in
     between_rows key interval (rows_of one n)
     ∙ (ap (λ (l : List Row). map (λ (e : List ℕ × Row). e.1) (entries (from_entries {R = key_cmp} (keyed key l))))
     (filter_rows n (λ row. lies_in (key row) interval) (entries one)

@@ -25,16 +25,17 @@ use Rattle.iv_meaning.specs.Types as types
 use Rattle.iv_meaning.specs.Types.{Family, family, family_of_kind, typed, is_truth, is_number, is_text, alike}
 use Rattle.iv_meaning.specs.Shape.{has_arithmetic}
 use Rattle.iv_meaning.specs.Values.{Outcome, number, word, truth, refused, both, either, negated, compared, holds, is_true, is_false, ranged, meaning, outcome_of, value_at, value_of}
-use Rattle.iv_meaning.specs.Schema.{Object, table, view, ViewTree, numbered, items_at, sources_of, kind_at, kinds_of_table, group_kinds}
+use Rattle.iv_meaning.specs.Schema.{Object, table, view, ViewTree, numbered, items_at, sources_of, kind_at, kinds_of_table, group_kinds, primary_of}
 use Rattle.iv_meaning.specs.Database.{Row, Database, rows_of}
 use Rattle.iv_meaning.specs.Query.{Combination, count, sum, plain, chosen, combinations, conjunction, joined, item_of_group, row_by, values_at, listed, ordered}
 use Rattle.iv_meaning.specs.Grouping.{all_of, groups_of, members, number_in, sum_by}
-use Rattle.iv_meaning.specs.View.{conditions_of, join_conditions, primary_of, query_of, whole_view, counted_combinations, shares}
+use Rattle.iv_meaning.specs.View.{conditions_of, join_conditions, query_of, whole_view, counted_combinations, shares}
 use Rattle.iv_meaning.specs.Sound.{AreColumns}
 use Rattle.query_laws.proofs.Each.{each_append, each_to, each_filtered}
 use Rattle.query_laws.proofs.SoundLemmas.{neither}
 use Rattle.query_laws.proofs.GroupRows.{some_same, IsGroupIn, groups_are, first_member}
-use Rattle.iv_meaning.proofs.RangeLemmas.{seen, seen_is, huge_is, value_seen}
+use Rattle.iv_types.proofs.Fitting.{huge_so}
+use Rattle.iv_meaning.proofs.RangeLemmas.{seen, seen_is, value_seen}
 use Rattle.query_laws.proofs.WholeViews.{chosen_is, view_items, query_by}
 use Rattle.txn_machine.specs.Deltas.{is_counted}
 use Rattle.txn_machine.specs.Fresh.{fresh}
@@ -63,9 +64,9 @@ seen_has : (k : Kind) (x : Value) → Fits k x → Has (family_of_kind k) (seen 
 seen_has Int (Number n) f = tt
 seen_has Huge (Number n) f = tt
 seen_has Text (Word w) f = tt
-seen_has Int (Word w) f = absurd f
-seen_has Huge (Word w) f = absurd f
-seen_has Text (Number n) f = absurd f
+seen_has Int (Word w) f = absurd (cc)
+seen_has Huge (Word w) f = absurd (cc)
+seen_has Text (Number n) f = absurd (cc)
 
 kind_has : (k : Kind) (x : Value) → Fits k x → Has (family_of_kind k) (outcome_of (Some x))
 kind_has k x f = subst (Has (family_of_kind k)) (sym (seen_is k x f)) (seen_has k x f)
@@ -215,7 +216,7 @@ chosen_there {X} test (x ∷ xs) h = go (test x) h.0 (chosen test xs) (chosen_th
 -- ---- numbers in range
 
 ranged_there : (n : ℤ) → IsHuge n → IsSome (value_of (ranged n))
-ranged_there n h = ap (λ b. is_some (value_of (cond b (number n) refused))) (huge_is n h)
+ranged_there n h = ap (λ b. is_some (value_of (cond b (number n) refused))) (huge_so n h)
 
 -- all are there where none is wanting
 all_of_there : {X Y : Type 0} (f : X → Option Y) (xs : List X) → AllByRecursion (λ x. IsSome (f x)) xs → IsSome (all_of (map f xs))

@@ -51,6 +51,7 @@ use Rattle.txn_machine.proofs.Always.{always}
 use Rattle.iv_meaning.specs.Escrow.{IsSession}
 use Rattle.std.proofs.lemmas.Option.{none-some}
 use Rattle.txn_machine.proofs.Ranging.{all_contains}
+use Rattle.iv_types.proofs.Fitting.{int_is, huge_is}
 
 -- ---- numbers of rows that fit
 
@@ -61,11 +62,11 @@ neg_huge : (n : ℤ) → IsHuge n → IsHuge (neg_ℤ n)
 neg_huge n h = (omega (arith, ints, h.0, h.1), λ e. absurd (omega (arith, ints, h.0, e)))
 
 value_huge : (kind : Kind) (x : Value) → Fits kind x → IsHuge (number_in (Some x))
-value_huge Int (Number n) f = (omega (arith, ints, f), λ e. absurd (omega (arith, ints, f, e)))
-value_huge Huge (Number n) f = f
-value_huge Text (Number n) f = absurd f
-value_huge Int (Word w) f = absurd f
-value_huge Huge (Word w) f = absurd f
+value_huge Int (Number n) f = let in_it = int_is n f in (omega (arith, ints, in_it), λ e. absurd (omega (arith, ints, in_it, e)))
+value_huge Huge (Number n) f = huge_is n f
+value_huge Text (Number n) f = absurd (cc)
+value_huge Int (Word w) f = absurd (cc)
+value_huge Huge (Word w) f = absurd (cc)
 value_huge Text (Word w) f = zero_huge
 
 row_huge : (kinds : List Kind) (row : Row) (column : ℕ) → FitAll kinds row → IsHuge (number_in (slice_get row column))

@@ -16,7 +16,8 @@ use Rattle.table_laws.specs.Place.{Place, place_cmp}
 use Rattle.table_laws.specs.Table.{write, rows_where}
 use Rattle.table_laws.proofs.Place.{place_cmp_total, place_cmp-IsAntisymmetric}
 use Rattle.iv_meaning.specs.Database.{Row, Rows, Database, key_of}
-use Rattle.iv_meaning.specs.View.{lies_in, read}
+use Rattle.iv_types.specs.Encoding.{lies_in}
+use Rattle.iv_meaning.specs.View.{read}
 use Rattle.iv_meaning.specs.Query.{combinations}
 use Rattle.iv_meaning.specs.Statement.{sets, keep_all}
 use Rattle.iv_meaning.specs.History.{fold}

@@ -15,17 +15,16 @@ use Rattle.iv_types.specs.declared.lock.LockMode.{LockMode}
 use Rattle.iv_types.specs.declared.lock.LockMode.TheVariants.{Share, Exclusive, Increment}
 use Rattle.iv_types.specs.declared.lock.Want.{Want}
 use Rattle.iv_types.specs.declared.value.Interval.{Interval}
-use Rattle.iv_types.specs.Encoding.{IsHuge}
+use Rattle.iv_types.specs.Encoding.{IsHuge, is_huge, lies_in}
 use Rattle.iv_types.specs.Intervals.{IsBelow, LiesIn, HaveCommonKey}
 use Rattle.row_codec.specs.Ranges.{IsGreater}
 use Rattle.row_codec.proofs.RangeLaws.{greater_is_a, greater_is_b, common_key, common_before_a, common_before_b}
 use Rattle.table_laws.proofs.Stored.{by_session}
 use Rattle.iv_meaning.specs.Escrow.{IsSession}
-use Rattle.iv_meaning.specs.Values.{is_huge}
-use Rattle.iv_meaning.specs.View.{lies_in}
 use Rattle.txn_machine.specs.Locks.{Agree, Conflict, Meet, IsInTheWay}
 use Rattle.txn_machine.proofs.Holding.{by_contains, contains_here, contains_next, contains_none}
 use Rattle.txn_machine.proofs.Playing.{is_session, each_to, each_of, some_of, is_serial, is_nil, agree, greater_low, is_below, have_common, clash, clash_any, in_way, all_below}
+use Rattle.iv_types.proofs.Fitting.{huge_is}
 
 -- ---- two tests
 
@@ -143,29 +142,10 @@ some_is f (x ∷ xs) h = elim (either (f x) (some_of f xs) h) [
 
 -- ---- numbers in range
 
-huge_pos : (n : ℕ) → nat_le n (2 ^ 127 - 1) ≡ true → IsHuge (pos n)
-huge_pos n e = let le : n ≤ 2 ^ 127 - 1 = leb-true n (2 ^ 127 - 1) e in (record { sfits = omega arith }, λ f. absurd (cc))
-
-huge_neg : (n : ℕ) → nat_le n (2 ^ 127 - 2) ≡ true → IsHuge (negsuc n)
-huge_neg n e =
-    let le : n ≤ 2 ^ 127 - 2 = leb-true n (2 ^ 127 - 2) e in
-    (record { sfits = omega arith }, λ f. let g : n ≡ 2 ^ 127 - 1 = cc in omega (arith, g))
-
-pub huge_is : (n : ℤ) → T (is_huge n) → IsHuge n
-huge_is (pos n) h = huge_pos n (is_true (nat_le n (2 ^ 127 - 1)) h)
-huge_is (negsuc n) h = huge_neg n (is_true (nat_le n (2 ^ 127 - 2)) (left_one (nat_le n (2 ^ 127 - 2)) true h))
+pub in_range : (n : ℤ) → T (is_huge n) → IsHuge n
+in_range n h = huge_is n (is_true (is_huge n) h)
 
 -- ---- keys and intervals
-
-not_greater : (o : Ordering) → T (cond (is_gt o) false true) → o ≢ Greater
-not_greater Less h e = absurd (cc)
-not_greater Equal h e = absurd (cc)
-not_greater Greater h e = h
-
-not_greater_so : (o : Ordering) → o ≢ Greater → T (cond (is_gt o) false true)
-not_greater_so Less n = tt
-not_greater_so Equal n = tt
-not_greater_so Greater n = n refl
 
 less_is : (o : Ordering) → T (is_lt o) → o ≡ Less
 less_is Less h = refl
@@ -263,25 +243,3 @@ in_way_so locks i wants j w = both (not (j == i)) (clash_any (locks j) wants) (d
 -- nobody is in the way
 pub free_is : (locks : ℕ → List Want) (i : ℕ) (wants : List Want) → T (each_to 64 (λ j. not (in_way locks i wants j))) → (j : ℕ) → IsInTheWay locks i wants j → ⊥
 free_is locks i wants h j w = not_so (in_way locks i wants j) (each_so 64 (λ j. not (in_way locks i wants j)) j h w.of_session.0 w.of_session.1) (in_way_so locks i wants j w)
-
--- ---- keys in intervals
-
-high_is : (key : List ℕ) (high : Option (List ℕ)) → T (option_map_or (λ end. is_lt (slice_cmp nat_cmp key end)) high true) → IfSome high (λ end. IsBelow key end)
-high_is key None h = tt
-high_is key (Some end) h = less_is (slice_cmp nat_cmp key end) h
-
-high_so : (key : List ℕ) (high : Option (List ℕ)) → IfSome high (λ end. IsBelow key end) → T (option_map_or (λ end. is_lt (slice_cmp nat_cmp key end)) high true)
-high_so key None h = tt
-high_so key (Some end) h = less_so (slice_cmp nat_cmp key end) h
-
-pub lies_is : (key : List ℕ) (interval : Interval) → T (lies_in key interval) → LiesIn key interval
-lies_is key interval h =
-    let low : Bool = cond (is_gt (slice_cmp nat_cmp interval.low key)) false true in
-    let high : Bool = option_map_or (λ end. is_lt (slice_cmp nat_cmp key end)) interval.high true in
-    (not_greater (slice_cmp nat_cmp interval.low key) (left_one low high h), high_is key interval.high (right_one low high h))
-
-pub lies_so : (key : List ℕ) (interval : Interval) → LiesIn key interval → T (lies_in key interval)
-lies_so key interval h =
-    let low : Bool = cond (is_gt (slice_cmp nat_cmp interval.low key)) false true in
-    let high : Bool = option_map_or (λ end. is_lt (slice_cmp nat_cmp key end)) interval.high true in
-    both low high (not_greater_so (slice_cmp nat_cmp interval.low key) h.0) (high_so key interval.high h.1)

@@ -10,13 +10,12 @@ use Rattle.std.specs.FinMap.{FinMap, get, entries}
 use Rattle.iv_types.specs.declared.value.Interval.{Interval}
 use Rattle.iv_types.specs.declared.value.Value.TheVariants.{Number}
 use Rattle.iv_types.specs.declared.lock.GroupDelta.{GroupDelta}
-use Rattle.iv_types.specs.Encoding.{FitAll, key_bytes}
+use Rattle.iv_types.specs.Encoding.{FitAll, key_bytes, lies_in}
 use Rattle.table_laws.specs.Place.{Place, place_cmp}
 use Rattle.table_laws.specs.Table.{write, rows_where}
 use Rattle.iv_meaning.specs.Schema as object
 use Rattle.iv_meaning.specs.Schema.{Schema, ViewTree, numbered, group_kinds}
 use Rattle.iv_meaning.specs.Database.{Row}
-use Rattle.iv_meaning.specs.View.{lies_in}
 use Rattle.txn_machine.specs.Deltas.{columns_of, place_of}
 
 abbrev pub ViewRows : Type 0

@@ -4,7 +4,8 @@ use Rattle.std.specs.Option.{option_map, option_copied}
 use Rattle.iv_meaning.specs.Schema.{Schema, numbered, table, view}
 use Rattle.iv_meaning.specs.Objects.{object_of, view_tree, schema_of}
 use Rattle.iv_meaning.specs.Database.{key_of}
-use Rattle.iv_meaning.specs.View.{read, lies_in, view_key}
+use Rattle.iv_types.specs.Encoding.{lies_in}
+use Rattle.iv_meaning.specs.View.{read, view_key}
 use Rattle.row_eval.specs.Fresh.{table_rows}
 use Rattle.query_laws.specs.Laws.{Rises}
 use Rattle.list_store.proofs.HeldLemmas.{if_ok, table_read, table_rises, view_read, evaluated_rows}

@@ -1,7 +1,7 @@
 use Rattle.std.proofs.Common.{◌≡◌, ℕ, List, IfOk}
 use mathlib.Core.Path.{sym, subst}
 use Rattle.iv_meaning.specs.Database.{Row, key_of}
-use Rattle.iv_meaning.specs.View.{lies_in}
+use Rattle.iv_types.specs.Encoding.{lies_in}
 use Rattle.query_laws.specs.Laws.{Rises}
 use Rattle.list_store.specs.Keys.{key_by, IsPlace}
 use Rattle.list_store.proofs.BetweenLemmas.{between, interval_between}

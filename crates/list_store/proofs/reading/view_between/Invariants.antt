@@ -1,6 +1,7 @@
 use Rattle.std.proofs.Common.{◌≡◌, ◌++◌, filter, drop}
 use Rattle.iv_meaning.specs.Objects.{schema_of, view_tree}
-use Rattle.iv_meaning.specs.View.{lies_in, view_key}
+use Rattle.iv_types.specs.Encoding.{lies_in}
+use Rattle.iv_meaning.specs.View.{view_key}
 use Rattle.list_store.proofs.reading.view_between.Given as goal
 
 abbrev pub invariant-loop-index : goal.invariant-loop-index
