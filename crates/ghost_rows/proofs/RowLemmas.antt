@@ -25,7 +25,7 @@ use Rattle.table_laws.proofs.Stored.{by_session}
 use Rattle.ghost_rows.specs.declared.shares.Share.{Share}
 use Rattle.ghost_rows.specs.Shares.{sum_at, updated}
 use Rattle.ghost_rows.specs.Numbers.{step, moved}
-use Rattle.ghost_rows.specs.Rows.{OpenRow, Moves, EachColumn, AreAllowed, AreReserved, IsFirstRefused, Widens, HasRoom, settled_row}
+use Rattle.ghost_rows.specs.Rows.{OpenRow, EachMoved, EachColumn, AreAllowed, AreReserved, IsFirstRefused, Widens, HasRoom, settled_row}
 use Rattle.ghost_rows.specs.Kept.{Pays, no_pays, with_pays, increments, account, width, ColumnStands, RowStands, IsRefusedAt, ArePrefixes, committed_at}
 use Rattle.ghost_rows.proofs.Steps.{same_items, moved_from, moved_length, slice_get-map, all_at}
 use Rattle.ghost_rows.proofs.ShareLemmas.{others, set_same, set_other, remove_same, remove_other, push_same, push_other}
@@ -81,7 +81,7 @@ module _ (row : OpenRow) (numbers : List ℤ) (pays : Pays) (st : RowStands row 
   within i c e = let l : i < length row.columns = slice_get_within row.columns i c e in omega (arith, l, st.many)
 
   -- each column as by its kept pays, and the sum of the session's share
-  pub moved_row : (F : ℕ → Column → Column) (columns : List Column) (after : List ℤ) (s : ℕ) (sum : ℤ) (ds : List GroupDelta) → Moves F row.columns columns → length after ≡ length numbers
+  pub moved_row : (F : ℕ → Column → Column) (columns : List Column) (after : List ℤ) (s : ℕ) (sum : ℤ) (ds : List GroupDelta) → EachMoved F row.columns columns → length after ≡ length numbers
       → HasRoom s row → FitsSigned w128 sum → sum ≡ paid (increments 0 ds)
       → ((i : ℕ) (c : Column) → slice_get row.columns i ≡ Some c → ColumnStands (F i c) i (get_or after i (pos 0)) (with_pays pays s ds))
       → ((i : ℕ) (c : Column) → (F i c).committed ≡ c.committed) → ((i : ℕ) (c : Column) (q : ℕ) → IsReserved c q → IsReserved (F i c) q)
@@ -114,7 +114,7 @@ module _ (row : OpenRow) (numbers : List ℤ) (pays : Pays) (st : RowStands row 
 
   -- a session pays
   pub paid_row : (columns : List Column) (s : ℕ) (sum : ℤ) (d : GroupDelta) → IsSession s → HasRoom s row → AreAllowed s d row.columns
-      → Moves (λ i c. added c s (worth i d)) row.columns columns → FitsSigned w128 sum → sum ≡ paid (increments 0 (d ∷ pays s))
+      → EachMoved (λ i c. added c s (worth i d)) row.columns columns → FitsSigned w128 sum → sum ≡ paid (increments 0 (d ∷ pays s))
       → RowStands (record { columns = columns; committed = row.committed; shares = map (updated s sum) row.shares }) (moved false 0 numbers d) (with_pays pays s (d ∷ pays s))
   paid_row columns s sum d session room allowed moves fit is =
       moved_row (λ i c. added c s (worth i d)) columns (moved false 0 numbers d) s sum (d ∷ pays s) moves (moved_many false 0 numbers d) room fit is
@@ -124,7 +124,7 @@ module _ (row : OpenRow) (numbers : List ℤ) (pays : Pays) (st : RowStands row 
 
   -- a session takes its latest pay back
   pub taken_row : (columns : List Column) (s : ℕ) (sum : ℤ) (d : GroupDelta) (earlier : List GroupDelta) (before : List Prefix) → IsSession s → HasRoom s row → pays s ≡ d ∷ earlier
-      → ArePrefixes before (length numbers) earlier → Moves (λ i c. with_part c s (get_or before i none)) row.columns columns → FitsSigned w128 sum → sum ≡ paid (increments 0 earlier)
+      → ArePrefixes before (length numbers) earlier → EachMoved (λ i c. with_part c s (get_or before i none)) row.columns columns → FitsSigned w128 sum → sum ≡ paid (increments 0 earlier)
       → RowStands (record { columns = columns; committed = row.committed; shares = map (updated s sum) row.shares }) (moved true 0 numbers d) (with_pays pays s earlier)
   taken_row columns s sum d earlier before session room latest prefixes moves fit is =
       moved_row (λ i c. with_part c s (get_or before i none)) columns (moved true 0 numbers d) s sum earlier moves (moved_many true 0 numbers d) room fit is
@@ -257,7 +257,7 @@ module _ (row : OpenRow) (numbers : List ℤ) (pays : Pays) (st : RowStands row 
 
   -- ---- a session ends
 
-  pub ended_row : (columns : List Column) (s : ℕ) (sum committed : ℤ) → IsSession s → Moves (λ i c. settled c s) row.columns columns → sum_at row.shares s ≡ Some sum
+  pub ended_row : (columns : List Column) (s : ℕ) (sum committed : ℤ) → IsSession s → EachMoved (λ i c. settled c s) row.columns columns → sum_at row.shares s ≡ Some sum
       → (FitsSigned w128 (row.committed +ℤ sum) → committed ≡ row.committed +ℤ sum)
       → RowStands (record { columns = columns; committed = committed; shares = others s row.shares }) numbers (with_pays pays s [])
   ended_row columns s sum committed session moves share is = record {
@@ -382,7 +382,7 @@ shares_as v old new a b s o l is e =
 -- a row that was paid to
 pub paid_end : {Z W : Type 0} (v : Vec Column Z) (w : Vec Share W) (committed : ℤ) (refused between new : List Column) (olds shares : List Share) (a : Share) (s : ℕ) (d : GroupDelta) (before : List Prefix)
     (numbers : List ℤ) (pays : Pays) → IsSession s → IsSome (sum_at w.items s) → refused ≡ v.items → between ≡ (with_items v refused).items → length new ≡ length between
-    → AreAllowed s d v.items → Moves (λ i c. added c s (worth i d)) between new → EachColumn (λ i c. slice_get before i ≡ Some (part c s)) between → 0 < length v.items
+    → AreAllowed s d v.items → EachMoved (λ i c. added c s (worth i d)) between new → EachColumn (λ i c. slice_get before i ≡ Some (part c s)) between → 0 < length v.items
     → olds ≡ w.items → length shares ≡ length olds → shares ≡ map (updated a.session a.sum) olds → a.session ≡ s
     → (FitsSigned w128 ((get_or before 0 none).sum +ℤ worth 0 d) → a.sum ≡ (get_or before 0 none).sum +ℤ worth 0 d) → FitsSigned w128 a.sum
     → RowStands (record { columns = v.items; committed = committed; shares = w.items }) numbers pays
@@ -393,12 +393,12 @@ paid_end v w committed refused between new olds shares a s d before numbers pays
     let row : OpenRow = record { columns = v.items; committed = committed; shares = w.items } in
     row_as _ new committed committed _ (map (updated s a.sum) w.items) (moved false 0 numbers d) (with_pays pays s (d ∷ pays s))
     (columns_as (with_items v refused) between new b l) refl (shares_as w olds shares a a s o ls is e)
-    (paid_row row numbers pays st new s a.sum d session room allowed (subst (λ k. Moves (λ i c. added c s (worth i d)) k new) from moves) fit
+    (paid_row row numbers pays st new s a.sum d session room allowed (subst (λ k. EachMoved (λ i c. added c s (worth i d)) k new) from moves) fit
     (share_sum row numbers pays st s d before a.sum (subst (EachColumn (λ i c. slice_get before i ≡ Some (part c s))) from each) allowed some sum))
 
 pub taken_end : {Z W : Type 0} (v : Vec Column Z) (w : Vec Share W) (committed : ℤ) (olds new : List Column) (oldt shares : List Share) (a : Share) (s : ℕ) (d : GroupDelta) (earlier : List GroupDelta) (before : List Prefix)
     (numbers : List ℤ) (pays : Pays) → IsSession s → IsSome (sum_at w.items s) → olds ≡ v.items → length new ≡ length olds
-    → Moves (λ i c. with_part c s (get_or before i none)) olds new → oldt ≡ w.items → length shares ≡ length oldt → shares ≡ map (updated a.session a.sum) oldt → a.session ≡ s
+    → EachMoved (λ i c. with_part c s (get_or before i none)) olds new → oldt ≡ w.items → length shares ≡ length oldt → shares ≡ map (updated a.session a.sum) oldt → a.session ≡ s
     → a.sum ≡ (get_or before 0 none).sum → pays s ≡ d ∷ earlier → ArePrefixes before (length numbers) earlier → 0 < length v.items → FitsSigned w128 a.sum
     → RowStands (record { columns = v.items; committed = committed; shares = w.items }) numbers pays
     → RowStands (record { columns = (with_items v new).items; committed = committed; shares = (with_items w shares).items }) (moved true 0 numbers d) (with_pays pays s earlier)
@@ -406,19 +406,19 @@ taken_end v w committed olds new oldt shares a s d earlier before numbers pays s
     let row : OpenRow = record { columns = v.items; committed = committed; shares = w.items } in
     let many : 0 < length numbers = omega (arith, some, st.many) in
     row_as _ new committed committed _ (map (updated s a.sum) w.items) (moved true 0 numbers d) (with_pays pays s earlier) (columns_as v olds new o l) refl (shares_as w oldt shares a a s ot ls is e)
-    (taken_row row numbers pays st new s a.sum d earlier before session room latest prefixes (subst (λ k. Moves (λ i c. with_part c s (get_or before i none)) k new) o moves) fit
+    (taken_row row numbers pays st new s a.sum d earlier before session room latest prefixes (subst (λ k. EachMoved (λ i c. with_part c s (get_or before i none)) k new) o moves) fit
     (sum ∙ ap (λ (p : Prefix). p.sum) (get_or_from_slice_get before 0 (prefix_of (increments 0 earlier)) none (prefixes 0 many))))
 
 pub settled_end : {Z W : Type 0} (v : Vec Column Z) (w : Vec Share W) (committed after sum : ℤ) (olds new : List Column) (shares : List Share) (s : ℕ) (numbers : List ℤ) (pays : Pays) → IsSession s
-    → olds ≡ v.items → length new ≡ length olds → Moves (λ i c. settled c s) olds new → sum_at w.items s ≡ Some sum → shares ≡ others s w.items
+    → olds ≡ v.items → length new ≡ length olds → EachMoved (λ i c. settled c s) olds new → sum_at w.items s ≡ Some sum → shares ≡ others s w.items
     → (FitsSigned w128 (committed +ℤ sum) → after ≡ committed +ℤ sum)
     → RowStands (record { columns = v.items; committed = committed; shares = w.items }) numbers pays
     → RowStands (record { columns = (with_items v new).items; committed = after; shares = shares }) numbers (with_pays pays s [])
 settled_end v w committed after sum olds new shares s numbers pays session o l moves share is whole st =
     row_as _ new after after shares (others s w.items) numbers (with_pays pays s []) (columns_as v olds new o l) refl is
-    (ended_row (record { columns = v.items; committed = committed; shares = w.items }) numbers pays st new s sum after session (subst (λ k. Moves (λ i c. settled c s) k new) o moves) share whole)
+    (ended_row (record { columns = v.items; committed = committed; shares = w.items }) numbers pays st new s sum after session (subst (λ k. EachMoved (λ i c. settled c s) k new) o moves) share whole)
 
-pub settled_columns : (columns new : List Column) (s : ℕ) → Moves (λ i c. settled c s) columns new → new ≡ map (λ c. settled c s) columns
+pub settled_columns : (columns new : List Column) (s : ℕ) → EachMoved (λ i c. settled c s) columns new → new ≡ map (λ c. settled c s) columns
 settled_columns columns new s moves = same_items new (map (λ c. settled c s) columns) (λ i. moves i ∙ sym (slice_get-map (λ c. settled c s) columns i))
 
 pub row_is : (X A : List Column) (k j : ℤ) (Y B : List Share) → X ≡ A → k ≡ j → Y ≡ B → record_of X k Y ≡ record_of A j B

@@ -45,8 +45,8 @@ HasRoom session row = IsSome (sum_at row.shares session)
 
 -- ---- what calls do to the columns, one by one
 
-abbrev pub Moves : (ℕ → Column → Column) → List Column → List Column → Type 0
-Moves F old new = (i : ℕ) → slice_get new i ≡ option_map (F i) (slice_get old i)
+abbrev pub EachMoved : (ℕ → Column → Column) → List Column → List Column → Type 0
+EachMoved F old new = (i : ℕ) → slice_get new i ≡ option_map (F i) (slice_get old i)
 
 -- at each column
 abbrev pub EachColumn : (ℕ → Column → Type 0) → List Column → Type 0

@@ -8,7 +8,7 @@ ghost use Rattle.iv_meaning.specs.Escrow.{IsSession};
 ghost use Rattle.txn_machine.specs.Deltas.{worth};
 ghost use Rattle.escrow_bounds.specs.Column as column;
 ghost use Rattle.escrow_bounds.specs.Column.{Column, IsReserved, IsBeforeLatest, none, part, with_part, added, settled, untouched, least, greatest};
-ghost use Rattle.ghost_rows.specs.Rows.{Moves, EachColumn, AreReserved, AreAllowed, IsFirstRefused, Widens};
+ghost use Rattle.ghost_rows.specs.Rows.{EachMoved, EachColumn, AreReserved, AreAllowed, IsFirstRefused, Widens};
 
 use crate::numbers::{total, worth};
 use crate::shares::{Share, remove, set, sum_at};
@@ -82,7 +82,7 @@ fn add_all(columns: &mut [Escrow], session: u32, delta: &GroupDelta) -> PrefixLi
     requires delta { AllByRecursion IsHuge delta.now.sums }
     requires few { length columns.old ≤ 9 }
     requires allowed { AreAllowed session delta.now columns.old }
-    ensures moves { Moves (λ i c. added c session (worth i delta.now)) columns.old columns.new }
+    ensures moves { EachMoved (λ i c. added c session (worth i delta.now)) columns.old columns.new }
     ensures before { EachColumn (λ i c. slice_get result i ≡ Some (part c session)) columns.old }
 {
     let mut before = [NONE; 9];
@@ -126,7 +126,7 @@ fn take_back_all(columns: &mut [Escrow], session: u32, before: &PrefixList)
     requires reserved { AreReserved session columns.old }
     requires few { length columns.old ≤ 9 }
     requires latest { EachColumn (λ i c. IsBeforeLatest (get_or before.now i none) (part c session)) columns.old }
-    ensures moves { Moves (λ i c. with_part c session (get_or before.now i none)) columns.old columns.new }
+    ensures moves { EachMoved (λ i c. with_part c session (get_or before.now i none)) columns.old columns.new }
 {
     for index in 0..columns.len() {
         columns[index].take_back(session, prefix_at(before, index));
@@ -136,7 +136,7 @@ fn take_back_all(columns: &mut [Escrow], session: u32, before: &PrefixList)
 // A session's increments become committed.
 fn settle_all(columns: &mut [Escrow], session: u32)
     requires { IsSession session }
-    ensures { Moves (λ i c. settled c session) columns.old columns.new }
+    ensures { EachMoved (λ i c. settled c session) columns.old columns.new }
 {
     for index in 0..columns.len() {
         columns[index].settle(session);

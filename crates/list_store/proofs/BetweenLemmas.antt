@@ -1,5 +1,5 @@
 -- Lemmas on the rows of an interval among rows in the order of their keys.
-use Rattle.std.specs.Prelude.{◌≡◌, ◌≤◌, ◌<◌, ◌&&◌, ℕ, zero, suc, List, [], ◌∷◌, length, slice_get, Some, None, Option, Bool, true, false, filter, take, drop, cond}
+use Rattle.std.specs.Prelude.{◌≡◌, ◌≤◌, ◌<◌, ◌&&◌, ℕ, zero, suc, List, [], ◌∷◌, length, slice_get, Some, None, Option, Bool, true, false, filter, take, drop, cond, not}
 use Rattle.std.specs.Option.{option_map_or}
 use Rattle.std.specs.Ordering.{is_gt, is_lt, ordering_reverse}
 use Rattle.std.specs.declared.cmp.Ordering.{Ordering}
@@ -71,8 +71,8 @@ is_not false h = refl
 
 -- the key, by whether it is before the low end and before the high end
 by_ends : (key : List ℕ) (interval : Interval) (below : Bool) → is_lt (key_cmp key interval.low) ≡ below
-    → lies_in key interval ≡ (cond below false true && option_map_or (λ end. is_lt (key_cmp key end)) interval.high true)
-by_ends key interval below e = ap (λ b. cond b false true && option_map_or (λ end. is_lt (key_cmp key end)) interval.high true) (at_low interval.low key ∙ e)
+    → lies_in key interval ≡ (not below && option_map_or (λ end. is_lt (key_cmp key end)) interval.high true)
+by_ends key interval below e = ap (λ b. not b && option_map_or (λ end. is_lt (key_cmp key end)) interval.high true) (at_low interval.low key ∙ e)
 
 -- the places of the ends, where no high end is behind all rows
 pub record AreEnds (key : Row → List ℕ) (interval : Interval) (rows : List Row) (low high : ℕ) : Type 0 where
@@ -105,5 +105,5 @@ interval_between key interval rows low high h = record {
   before = λ i row at lt. by_ends (key row) interval true (h.at_low.before i row lt at);
   inside = λ i row at le lt. by_ends (key row) interval false (is_not _ (h.at_low.behind i row le at)) ∙ up_to key interval.high rows high h.at_high i row at lt;
   behind = λ i row at le.
-      ap (λ b. (cond (is_gt (key_cmp interval.low (key row))) false true) && b) (not_up_to key interval.high rows high h.at_high h.at_none i row at le) ∙ and_false _;
+      ap (λ b. not (is_gt (key_cmp interval.low (key row))) && b) (not_up_to key interval.high rows high h.at_high h.at_none i row at le) ∙ and_false _;
 }

@@ -17,6 +17,7 @@ use Rattle.lock_manager.specs.Order.{place_of, is_before, is_after, is_past, Are
 use Rattle.lock_manager.specs.Table.{HasSome, Covers}
 use Rattle.lock_manager.proofs.Keys.{by_bytes, true_false, less_true, greater_true, not_itself, below_from, below_up_to, at_most_from, at_most_false, same_index, index_at_most, below_nothing}
 use Rattle.lock_manager.proofs.Places.{rises, counted_at, point_at}
+use Rattle.iv_types.proofs.Fitting.{lies_is}
 
 -- ---- any locks
 
@@ -70,7 +71,7 @@ low_not_before lock index key e b = sym (ap is_lt (on_index lock index key e)) �
 
 only_key : (interval : Interval) (key : List ℕ) → IsPoint interval → LiesIn key interval → key ≡ interval.low
 only_key interval key p lies =
-    (alone interval.low key).0 (lies.0, subst (λ (high : Option (List ℕ)). IfSome high (λ end. IsBelow key end)) p lies.1)
+    (alone interval.low key).0 (subst (λ (high : Option (List ℕ)). LiesIn key (record { low = interval.low; high = high })) p lies)
 
 -- ---- conflicts
 
@@ -87,7 +88,7 @@ past_end (Some high) want x lock is past up c =
     let x_past : is_before (want.index ∷ high) x ≡ false = not-true _ past in
     let lock_past : is_before (want.index ∷ high) lock ≡ false = at_most_from (want.index ∷ high) (place_of x) (place_of lock) x_past up in
     let key = c.common_key in
-    no_key key.0 lock.interval.low high key.1.0 (subst (λ (h : Option (List ℕ)). IfSome h (λ end. IsBelow key.0 end)) is key.2.1) (low_not_before lock want.index high c.one_index lock_past)
+    no_key key.0 lock.interval.low high (lies_is key.0 lock.interval key.1).0 (subst (λ (h : Option (List ℕ)). IfSome h (λ end. IsBelow key.0 end)) is (lies_is key.0 want.interval key.2).1) (low_not_before lock want.index high c.one_index lock_past)
 
 pub past_conflict : (want x lock : Want) → is_past want.index want.interval.high x ≡ true → is_before (place_of x) lock ≡ false → ¬ Conflict lock want
 past_conflict want x lock past up = past_end want.interval.high want x lock refl past up
@@ -96,7 +97,7 @@ pub point_conflict : (want lock : Want) → IsPoint lock.interval → is_before 
 point_conflict want lock p before c =
     let key = c.common_key in
     let is : key.0 ≡ lock.interval.low = only_key lock.interval key.0 p key.1 in
-    no_key key.0 want.interval.low want.interval.low key.2.0
+    no_key key.0 want.interval.low want.interval.low (lies_is key.0 want.interval key.2).0
     (subst (λ (k : List ℕ). IsBelow k want.interval.low) (sym is) (low_before lock want.index want.interval.low c.one_index before)) (not_itself want.interval.low)
 
 pub point_conflicts : (want : Want) (locks : List Want) (n : ℕ) → ArePoints locks → IsCount (want.index ∷ want.interval.low) locks n → HasNoneBefore (λ lock. Conflict lock want) locks n

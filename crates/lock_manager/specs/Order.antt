@@ -63,9 +63,9 @@ pub record AreKept (points ranges : List Want) : Type 0 where
   pub ranges_order : AreInOrder ranges
 
 -- the locks of a session, and for how many more there is room
-pub record Kept : Type 0 where
+pub record HeldLocks : Type 0 where
   pub locks : List Want
   pub spare : ℕ
 
-abbrev pub coded_kept : Coded Kept
-coded_kept = code_by (List Want × ℕ) (coded× (coded_list want.the_row.coded) coded_ℕ) (λ k. (k.locks, k.spare)) (λ p. record { locks = p.0; spare = p.1 }) (λ _. refl)
+abbrev pub coded_held : Coded HeldLocks
+coded_held = code_by (List Want × ℕ) (coded× (coded_list want.the_row.coded) coded_ℕ) (λ k. (k.locks, k.spare)) (λ p. record { locks = p.0; spare = p.1 }) (λ _. refl)

@@ -45,6 +45,7 @@ fn is_before_end(key: &[u8], high: &Option<Bytes>) -> bool
     }
 }
 
+#[tactic(auto, using(iv_types::proofs::Fitting::lies_is, iv_types::proofs::Fitting::lies_so))]
 fn lies_in(key: &[u8], interval: &Interval) -> bool
     ensures { IsTrue result ↔ LiesIn key.now interval.now }
 {

@@ -136,11 +136,11 @@ pub struct Held {
 impl Model for Held {
     ghost use Rattle.std.specs.Prelude.{◌-◌, ◌++◌, min};
     ghost use Rattle.std.specs.Vec.{vec_len, vec_capacity};
-    ghost use Rattle.lock_manager.specs.Order.{Kept, coded_kept, AreKept};
+    ghost use Rattle.lock_manager.specs.Order.{HeldLocks, coded_held, AreKept};
 
-    ghost Value = { Kept };
+    ghost Value = { HeldLocks };
 
-    ghost coded = { coded_kept };
+    ghost coded = { coded_held };
 
     ghost view = { λ h. record { locks = h.points.items ++ h.ranges.items; spare = min (vec_capacity h.points - vec_len h.points) (vec_capacity h.ranges - vec_len h.ranges) } };
 

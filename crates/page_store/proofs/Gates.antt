@@ -4,7 +4,7 @@ use Rattle.std.proofs.lemmas.Bool.Decides.{nat_tests}
 use Rattle.std.proofs.lemmas.Bool.{cases_eq, cases_lt}
 use Rattle.disk_io.specs.Bytes.{same_bytes}
 use Rattle.page_store.specs.Image.{header_at, is_open, number_of, choose, live, image}
-use Rattle.page_store.specs.Kept.{Names, Kept, Outside}
+use Rattle.page_store.specs.Kept.{Names, HeldStays, Outside}
 use Rattle.page_store.proofs.Old.{live_is, one_open, live_open, none_closed, shut_closed, kept_number, kept_open, kept_means, kept_none, kept_outside}
 use Rattle.page_store.proofs.Free.{header_free}
 
@@ -42,7 +42,7 @@ module _ (room pages k : ℕ) (s : List ℕ) (h : Names room pages k s) where
   long : 278528 ≤ length s
   long = omega (arith, h.fits)
 
-  pub kept_gate : (d c : List ℕ) → Kept room pages k s d → Outside (header_at (1 - k)) 1 d c → Kept room pages k s c
+  pub kept_gate : (d c : List ℕ) → HeldStays room pages k s d → Outside (header_at (1 - k)) 1 d c → HeldStays room pages k s c
   kept_gate d c kept out = kept_outside room pages k s d c (header_at (1 - k)) 1 kept out (header_free room pages k s h (header_at (1 - k)) 1 (omega arith) (omega arith))
 
   -- closing the gate of the other header, or leaving it as it was
@@ -52,7 +52,7 @@ module _ (room pages k : ℕ) (s : List ℕ) (h : Names room pages k s) where
     | inr shuts ↦ kept_means room pages k s h c kept (shut_closed (1 - k) c shuts)
   ]
     where
-      kept : Kept room pages k s c
+      kept : HeldStays room pages k s c
       kept = kept_gate s c (kept_none room pages k s) out
 
       byte : get_or c (header_at (1 - k)) 0 ≡ 165 → (i : ℕ) → get_or c i 0 ≡ get_or s i 0
@@ -68,11 +68,11 @@ module _ (room pages k : ℕ) (s : List ℕ) (h : Names room pages k s) where
       as_before shows = ap (image room pages) (same_bytes c s out.size (λ i lt. byte shows i))
 
   -- a crash left the old image while the gate was closed, or the header behind it is open
-  pub shut_means : (d c : List ℕ) → Kept room pages k s d → Outside (header_at (1 - k)) 1 d c → get_or c (header_at (1 - k)) 0 ≢ 165 → image room pages c ≡ image room pages s
+  pub shut_means : (d c : List ℕ) → HeldStays room pages k s d → Outside (header_at (1 - k)) 1 d c → get_or c (header_at (1 - k)) 0 ≢ 165 → image room pages c ≡ image room pages s
   shut_means d c kept out shuts = kept_means room pages k s h c (kept_gate d c kept out) (shut_closed (1 - k) c shuts)
 
   -- the kept header beside the new one
-  pub new_live : (c : List ℕ) → Kept room pages k s c → is_open (1 - k) c ≡ true → (live s ≡ Some k → number_of k s < number_of (1 - k) c) → live c ≡ Some (1 - k)
+  pub new_live : (c : List ℕ) → HeldStays room pages k s c → is_open (1 - k) c ≡ true → (live s ≡ Some k → number_of k s < number_of (1 - k) c) → live c ≡ Some (1 - k)
   new_live c kept opens newer = elim h.stands [
     | inl l ↦ newer_live k c h.side (kept_open room pages k s h c kept ∙ live_open k s h.side l) opens (omega (arith, newer l, kept_number room pages k s h c kept))
     | inr none ↦ alone_live k c h.side (kept_open room pages k s h c kept ∙ subst (λ n. is_open n s ≡ false) (sym none.1) (none_closed s none.0).0) opens

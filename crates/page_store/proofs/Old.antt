@@ -11,7 +11,7 @@ use Rattle.disk_io.specs.Disk.{part, splice, Torn}
 use Rattle.disk_io.specs.Bytes.{part_same, length-splice, byte-splice_before, byte-splice_after}
 use Rattle.page_store.specs.Image.{header_at, area_at, slot_at, number_at, magic, is_open, number_of, choose, live, named, map_byte, area_of, image_at, image_by, image}
 use Rattle.page_store.specs.Publish.{old_byte}
-use Rattle.page_store.specs.Kept.{Names, Held, InHeader, InArea, InSlot, Free, Outside, Kept, IsOld}
+use Rattle.page_store.specs.Kept.{Names, Held, InHeader, InArea, InSlot, Free, Outside, HeldStays, IsOld}
 
 -- a number by its bytes
 pub from_same : (i n : ℕ) (xs ys : List ℕ) → ((k : ℕ) → i ≤ k → k < i + n → get_or xs k 0 ≡ get_or ys k 0) → big_from i n xs ≡ big_from i n ys
@@ -93,7 +93,7 @@ module _ (room pages k : ℕ) (s : List ℕ) (h : Names room pages k s) where
   side : k ≤ 1
   side = ⊎_elim (λ e. omega (arith, e)) (λ e. omega (arith, e)) h.side
 
-  module _ (c : List ℕ) (kept : Kept room pages k s c) where
+  module _ (c : List ℕ) (kept : HeldStays room pages k s c) where
     byte : (i : ℕ) → i < 139264 → get_or c (header_at k + i) 0 ≡ get_or s (header_at k + i) 0
     byte i lt = kept.same (header_at k + i) (InHeader (omega arith) (omega arith))
 
@@ -161,11 +161,11 @@ outside_splice at w d fits = record {
   same = λ i out. ⊎_elim (byte-splice_before at w d i (omega (arith, fits))) (byte-splice_after at w d i (omega (arith, fits))) out;
 }
 
-pub kept_none : (room pages k : ℕ) (s : List ℕ) → Kept room pages k s s
+pub kept_none : (room pages k : ℕ) (s : List ℕ) → HeldStays room pages k s s
 kept_none room pages k s = record { size = refl; same = λ i held. refl }
 
 -- a write on which the old image does not rest
-pub kept_outside : (room pages k : ℕ) (s d c : List ℕ) (at n : ℕ) → Kept room pages k s d → Outside at n d c → ((i : ℕ) → at ≤ i → i < at + n → Held room pages k s i → ⊥) → Kept room pages k s c
+pub kept_outside : (room pages k : ℕ) (s d c : List ℕ) (at n : ℕ) → HeldStays room pages k s d → Outside at n d c → ((i : ℕ) → at ≤ i → i < at + n → Held room pages k s i → ⊥) → HeldStays room pages k s c
 kept_outside room pages k s d c at n kept out free = record {
   size = out.size ∙ kept.size;
   same = λ i held. out.same i (elim (cases_lt i at) [

@@ -11,7 +11,7 @@ use Rattle.disk_io.specs.Bytes.{part-part, part_same, same_bytes, length-part, b
 use Rattle.page_store.specs.declared.facts.HeaderFacts.{HeaderFacts}
 use Rattle.page_store.specs.Image.{header_at, area_at, slot_at, magic, number_at, is_open, format_of, number_of, live, named, map_byte, area_of, image_at, image_by, image}
 use Rattle.page_store.specs.Publish.{next_number, header_bytes, field_bytes, page_if, stored_pages, IsNew, OldOrNew}
-use Rattle.page_store.specs.Kept.{Names, Kept, IsOld, Outside, Staged}
+use Rattle.page_store.specs.Kept.{Names, HeldStays, IsOld, Outside, Staged}
 use Rattle.page_store.proofs.Old.{number_same, map_range_same, area_bound, old_means, outside_splice}
 use Rattle.page_store.proofs.Gates.{kept_gate, closing, shut_means, new_live}
 
@@ -27,7 +27,7 @@ module _ (room k : ℕ) (facts : HeaderFacts) (block : List ℕ) (stored : List 
     abbrev fixed : List ℕ
     fixed = header_bytes facts count room (length block - 1) st.header
 
-    kept : Kept room count k s c
+    kept : HeldStays room count k s c
     kept = kept_gate room count k s h s2 c old.kept out
 
     byte : (i : ℕ) → 1 ≤ i → i < 64 → get_or c (header_at (1 - k) + i) 0 ≡ get_or fixed i 0

@@ -38,13 +38,13 @@ pub record Outside (at n : ℕ) (d c : List ℕ) : Type 0 where
   pub same : (i : ℕ) → (i < at) ⊎ (at + n ≤ i) → get_or c i 0 ≡ get_or d i 0
 
 -- each byte on which the old image rests is as it was
-pub record Kept (room pages k : ℕ) (s c : List ℕ) : Type 0 where
+pub record HeldStays (room pages k : ℕ) (s c : List ℕ) : Type 0 where
   pub size : length c ≡ length s
   pub same : (i : ℕ) → Held room pages k s i → get_or c i 0 ≡ get_or s i 0
 
 -- the same, with the other gate closed
 pub record IsOld (room pages k : ℕ) (s c : List ℕ) : Type 0 where
-  pub kept : Kept room pages k s c
+  pub kept : HeldStays room pages k s c
   pub shut : get_or c (header_at (1 - k)) 0 ≢ 165
 
 -- while the gate of the other header is closed: as before, or anything in an open gate

@@ -24,6 +24,7 @@ use Rattle.row_codec.proofs.Shifts.{shift}
 use Rattle.script_law.specs.Seen.{is_deadlock_event}
 use Rattle.statement_law.specs.Telling.{text_in, behind_text, value_in, bytes_behind, values_in, column_name, escrow_told, of_delta, tell}
 use Rattle.statement_law.specs.Laws.{KeyLaw, EscrowLaw}
+use Rattle.iv_types.proofs.Fitting.{int_is, huge_is}
 
 -- ---- texts
 
@@ -56,15 +57,15 @@ number_behind n x more = drop_at (bytes_high_first n x) more n (length-bytes_hig
 -- ---- columns
 
 value_read : (kind : Kind) (value : _) (more : List ℕ) → Fits kind value → (value_in kind (key_value_bytes kind value ++ more) ≡ value) × (bytes_behind kind (key_value_bytes kind value ++ more) ≡ more)
-value_read Int (Number n) more f = (ap Number (number_read w64 8 (2 ^ 63) refl n more f.sfits), number_behind 8 (cast_unsigned w64 (n +ℤ pos (2 ^ 63))) more)
-value_read Huge (Number n) more f = (ap Number (number_read w128 16 (2 ^ 127) refl n more f.0.sfits), number_behind 16 (cast_unsigned w128 (n +ℤ pos (2 ^ 127))) more)
+value_read Int (Number n) more f = (ap Number (number_read w64 8 (2 ^ 63) refl n more (int_is n f).sfits), number_behind 8 (cast_unsigned w64 (n +ℤ pos (2 ^ 63))) more)
+value_read Huge (Number n) more f = (ap Number (number_read w128 16 (2 ^ 127) refl n more (huge_is n f).0.sfits), number_behind 16 (cast_unsigned w128 (n +ℤ pos (2 ^ 127))) more)
 value_read Text (Word text) more f = (
   ap (λ l. Word (text_in l)) (append_assoc (flat_map key_byte text) (0 ∷ 0 ∷ []) more) ∙ ap Word (text_read text more),
   ap behind_text (append_assoc (flat_map key_byte text) (0 ∷ 0 ∷ []) more) ∙ text_behind text more,
 )
-value_read Int (Word text) more f = absurd f
-value_read Huge (Word text) more f = absurd f
-value_read Text (Number n) more f = absurd f
+value_read Int (Word text) more f = absurd (cc)
+value_read Huge (Word text) more f = absurd (cc)
+value_read Text (Number n) more f = absurd (cc)
 
 pub key_law : KeyLaw
 key_law [] [] f = refl

@@ -130,11 +130,7 @@ from_low k x = elim (by_bytes k x) as (λ r. by_bytes k x ≡ r → is_ge (by_by
 ] refl
 
 lies : (interval : Interval) (x : List ℕ) → lies_in x interval ≡ (from interval.low x && before interval.high x)
-lies interval x = ap (λ b. b && before interval.high x) (not_is (is_gt (by_bytes interval.low x)) ∙ sym (from_low interval.low x))
-  where
-    not_is : (b : Bool) → (if b then false else true) ≡ not b
-    not_is true = refl
-    not_is false = refl
+lies interval x = ap (λ b. b && before interval.high x) (sym (from_low interval.low x))
 
 higher : (k x y : List ℕ) → by_bytes x y ≡ Less → from k x ≡ true → from k y ≡ true
 higher k x y lt p = elim (by_bytes y k) as (λ r. by_bytes y k ≡ r → is_ge r ≡ true) [

@@ -37,6 +37,7 @@ use Rattle.iv_meaning.specs.Values.{is_true, value_at}
 use Rattle.iv_meaning.specs.Query.{Combination, conjunction, values_at}
 use Rattle.iv_meaning.specs.Grouping.{number_in}
 use Rattle.txn_machine.specs.Deltas.{RowChange, rows_after, contribution, contributions, negated, are_equal, exchanged, owed_to}
+use Rattle.iv_types.proofs.Fitting.{int_is, huge_is}
 
 -- ---- contributions
 
@@ -128,9 +129,9 @@ int_huge : (n : ℤ) → FitsSigned w64 n → IsHuge n
 int_huge n f = (fits_wider n f, λ e. omega (arith, ints, e))
 
 number_huge : (k : Kind) (n : ℤ) → Fits k (Number n) → IsHuge n
-number_huge Int n f = int_huge n f
-number_huge Huge n f = f
-number_huge Text n f = absurd f
+number_huge Int n f = int_huge n (int_is n f)
+number_huge Huge n f = huge_is n f
+number_huge Text n f = absurd (cc)
 
 matched_huge : (o : Option Kind) (p : Option Value) → Matches o p → IsHuge (number_in p)
 matched_huge o None m = zero_huge

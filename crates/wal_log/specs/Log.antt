@@ -49,7 +49,7 @@ abbrev pub restarted : ℕ → ℕ → LogState → LogState
 restarted area number log = record log { start = area_at log.size area; gate = 5; first = []; waiting = []; next = number }
 
 -- what the log keeps of its fields: the waiting records stand behind a length of four bytes, the first block is whole
-pub record Kept (size start gate reserved fill : ℕ) (buffer : List ℕ) (first_fill : ℕ) (first : List ℕ) : Type 0 where
+pub record FieldsFit (size start gate reserved fill : ℕ) (buffer : List ℕ) (first_fill : ℕ) (first : List ℕ) : Type 0 where
   pub small : size ≤ 268435456
   pub place : start ≤ areas_at + size
   pub begun : 4 ≤ fill

@@ -53,13 +53,13 @@ pub struct Log {
 
 impl Model for Log {
     ghost use Rattle.std.specs.Prelude.{ℕ, List, take, drop};
-    ghost use Rattle.wal_log.specs.Log.{LogState, Kept};
+    ghost use Rattle.wal_log.specs.Log.{LogState, FieldsFit};
 
     ghost Value = { LogState };
 
     ghost view = { λ l. record { size = l.size; start = l.start; gate = l.gate; first = drop 5 (take l.first_fill l.first.items); waiting = drop 4 (take l.fill l.buffer.items); next = l.next; reserved = l.reserved } };
 
-    ghost invariant = { λ l. Kept l.size l.start l.gate l.reserved l.fill l.buffer.items l.first_fill l.first.items };
+    ghost invariant = { λ l. FieldsFit l.size l.start l.gate l.reserved l.fill l.buffer.items l.first_fill l.first.items };
 }
 
 impl Log {

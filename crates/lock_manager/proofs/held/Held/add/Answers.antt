@@ -1,6 +1,6 @@
 use Rattle.std.proofs.Common.{[], ◌∷◌, ◌++◌, List, subst, ap}
 use Rattle.iv_types.specs.declared.lock.Want.{Want}
-use Rattle.lock_manager.specs.Order.{Kept}
+use Rattle.lock_manager.specs.Order.{HeldLocks}
 use Rattle.lock_manager.specs.Table.{HasGained}
 use Rattle.lock_manager.proofs.Gains.{gained_left, gained_right}
 use Rattle.lock_manager.proofs.held.Held.add.Goals as goal
@@ -10,7 +10,7 @@ returns-then-is_point-clause-locks c =
     let points = c.self.inside.points.items in
     let ranges = c.self.inside.ranges.items in
     let new = c.keep.new.locks.items in
-    subst (λ (old : List Want). HasGained old (c.args.want ∷ []) (new ++ ranges)) (ap (λ (k : Kept). k.locks) c.self.view_is)
+    subst (λ (old : List Want). HasGained old (c.args.want ∷ []) (new ++ ranges)) (ap (λ (k : HeldLocks). k.locks) c.self.view_is)
     (gained_left (c.args.want ∷ []) points ranges new c.keep.ensures.gained)
 
 pub returns-else-is_point-clause-locks : goal.returns-else-is_point-clause-locks
@@ -18,5 +18,5 @@ returns-else-is_point-clause-locks c =
     let points = c.self.inside.points.items in
     let ranges = c.self.inside.ranges.items in
     let new = c.keep-else-is_point.new.locks.items in
-    subst (λ (old : List Want). HasGained old (c.args.want ∷ []) (points ++ new)) (ap (λ (k : Kept). k.locks) c.self.view_is)
+    subst (λ (old : List Want). HasGained old (c.args.want ∷ []) (points ++ new)) (ap (λ (k : HeldLocks). k.locks) c.self.view_is)
     (gained_right (c.args.want ∷ []) points ranges new c.keep-else-is_point.ensures.gained)
