@@ -114,7 +114,7 @@ module _ (index : ℕ) (key : List ℕ) (mode : LockMode) where
       let x_after : by_bytes (index ∷ key) (place_of x) ≡ Less = nat_list_cmp_total.antisymm (index ∷ key) (place_of x) ∙ ap ordering_reverse (greater_true _ after) in
       let lock_after : by_bytes (index ∷ key) (place_of lock) ≡ Less = below_up_to (index ∷ key) (place_of x) (place_of lock) x_after up in
       let back : by_bytes (place_of lock) (index ∷ key) ≡ Greater = nat_list_cmp_total.antisymm (place_of lock) (index ∷ key) ∙ ap ordering_reverse lock_after in
-      c.has_key.0 (sym (on_index lock index key c.on_index) ∙ back)
+      (lies_is key lock.interval c.has_key).0 (sym (on_index lock index key c.on_index) ∙ back)
 
   pub point_covers : (lock : Want) → IsPoint lock.interval → Covers index key mode lock → key ≡ lock.interval.low
   point_covers lock p c = only_key lock.interval key p c.has_key
