@@ -6,7 +6,8 @@ use Rattle.text_grammar.specs.declared.fault.Cause.TheVariants.{Limit}
 use Rattle.text_grammar.specs.declared.fault.Fault.{Fault}
 use Rattle.text_grammar.specs.Readers.{◌>>=◌, Reader, is, starts, one, both, mapped, behind, before, either, perhaps, blocked}
 use Rattle.text_grammar.specs.Languages.{Lang, One, Then, Both, Either, Perhaps}
-use Rattle.text_grammar.proofs.Laws.{Exact, never, StartsWith, the_test, takes, ok_is, bind_ok, choose}
+use Rattle.text_grammar.proofs.Exactness.{Exact, never, StartsWith, the_test, ok_is, bind_ok, choose}
+use Rattle.text_grammar.proofs.Repeating.{takes}
 use Rattle.text_grammar.proofs.Starts.{behind_starts, mapped_starts, either_starts, both_starts, wider_starts, row_starts, one_starts}
 use Rattle.text_grammar.proofs.Extends.{Extends, Stays, exact_stays, one_extends, one_stays, mapped_extends, both_extends, behind_extends, either_extends, perhaps_extends, row_extends, row_extends_in, blocked_same, blocked_raised, mapped_stays, both_stays, behind_stays, perhaps_stays, either_stays, blocked_stays}
 use Rattle.text_grammar.proofs.Lines.{Family}
@@ -25,7 +26,11 @@ use Rattle.sql_readers.specs.Statements.{comma_item, listed, counted, listed_to,
 use Rattle.sql_readers.proofs.Apart.{on_expression}
 use Rattle.sql_readers.proofs.Ladder.{ExactNested, nested-exact, name-exact, reference-exact, expression-exact, Numeral, numeral_starts}
 use Rattle.sql_readers.proofs.Lists.{comma}
-use Rattle.sql_readers.proofs.Whole.{typed, Primary, primary, primary-exact, enclosed_names-exact, enclosed_body-exact, Place, place, place-exact, CountTail, count_tail, SumTail, sum_tail, PlainItem, plain_item, AllItem, all_item, CountItem, SumItem, counted_source, OnPart, on_part, on_part-exact, by_references, Tail, tail, tail-exact, Body, body, body-exact, selected, view_tail, created, Direction, direction-exact, by_orders, Ordering, ordering-exact, inserted, Assignments, assignments, assignments-exact, updated, deleted, begun, returned, as_token, on_item, on_query, on_line, column-exact, alias-exact, item-exact, source-exact, source_starts, join-exact, condition-exact, grouping-exact, query-exact, order-exact, tuple-exact, tuple_starts, tuples-exact, assignment-exact, line-exact, line_begins}
+use Rattle.sql_readers.proofs.GoingOn.{as_token, on_item, on_query, on_line}
+use Rattle.sql_readers.proofs.Creations.{typed, Primary, primary, primary-exact, enclosed_names-exact, enclosed_body-exact, Place, place, place-exact, view_tail, created, column-exact}
+use Rattle.sql_readers.proofs.Queries.{CountTail, count_tail, SumTail, sum_tail, PlainItem, plain_item, AllItem, all_item, CountItem, SumItem, counted_source, OnPart, on_part, on_part-exact, by_references, Tail, tail, tail-exact, Body, body, body-exact, selected, Direction, direction-exact, by_orders, Ordering, ordering-exact, alias-exact, item-exact, source-exact, source_starts, join-exact, condition-exact, grouping-exact, query-exact, order-exact}
+use Rattle.sql_readers.proofs.Changes.{inserted, Assignments, assignments, assignments-exact, updated, deleted, tuple-exact, tuple_starts, tuples-exact, assignment-exact}
+use Rattle.sql_readers.proofs.Whole.{begun, returned, line-exact, line_begins}
 use Rattle.sql_readers.proofs.Larger.{Raised, above, name_extends, number_extends, reference_extends, expression_extends, anything, signed_starts}
 
 -- ---- lists

@@ -6,7 +6,11 @@ use Rattle.text_grammar.specs.declared.fault.Cause.TheVariants.{Limit}
 use Rattle.text_grammar.specs.Readers.{Reader, is, one, both, mapped, behind, before, either, perhaps, refused, blocked}
 use Rattle.text_grammar.specs.Languages.{Lang, One, Then, Both, Behind, Mapped, Before, Either, Nothing, Perhaps}
 use Rattle.text_grammar.specs.Places.{Begins}
-use Rattle.text_grammar.proofs.Laws.{Exact, never, StartsWith, StartsWithout, FitsBehind, one-exact, one_or-exact, behind-exact, mapped-exact, then-exact, both-exact, free_behind, fits_perhaps, refused-exact, blocked-exact, either-exact, widened, perhaps-exact, row-exact, along}
+use Rattle.text_grammar.proofs.Exactness.{Exact, never, StartsWith, StartsWithout, widened, along}
+use Rattle.text_grammar.proofs.Tokens.{one-exact, one_or-exact, behind-exact}
+use Rattle.text_grammar.proofs.Combining.{FitsBehind, mapped-exact, then-exact, both-exact, free_behind, fits_perhaps, refused-exact, either-exact, perhaps-exact}
+use Rattle.text_grammar.proofs.Repeating.{row-exact}
+use Rattle.text_grammar.proofs.Blocking.{blocked-exact}
 use Rattle.text_grammar.proofs.Starts.{one_starts, behind_starts, both_starts, mapped_starts, wider_starts, without, either_without, mapped_without, both_without, row_without, one_begins, behind_begins_some, both_begins, mapped_begins, row_begins, perhaps_begins, left_begins, right_begins, or_false}
 use Rattle.iv_types.specs.declared.terminal.Terminal.{Terminal}
 use Rattle.iv_types.specs.declared.terminal.Terminal.TheVariants as t

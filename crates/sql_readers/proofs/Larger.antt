@@ -5,7 +5,9 @@ use Rattle.text_grammar.specs.declared.fault.Cause.TheVariants.{Syntax, Limit}
 use Rattle.text_grammar.specs.Readers.{Reader, is, accept, one, one_or, both, mapped, behind, before, either, perhaps}
 use Rattle.text_grammar.specs.Languages.{Lang, One, Before, Either}
 use Rattle.text_grammar.specs.Places.{Begins}
-use Rattle.text_grammar.proofs.Laws.{Exact, never, StartsWith, one-exact, the_test, takes}
+use Rattle.text_grammar.proofs.Exactness.{Exact, never, StartsWith, the_test}
+use Rattle.text_grammar.proofs.Tokens.{one-exact}
+use Rattle.text_grammar.proofs.Repeating.{takes}
 use Rattle.text_grammar.proofs.Starts.{mapped_starts, either_starts, wider_starts}
 use Rattle.text_grammar.proofs.Extends.{raised, Beyond, Extends, ExtendsOn, Stays, Leaves, exact_stays, picks_more, one_or_extends, one_or_same, one_extends, mapped_extends, both_extends, both_extends_in, behind_extends, either_extends, perhaps_extends, perhaps_extends_on, row_extends_in, behind_leaves, both_leaves, mapped_stays, perhaps_stays, refused_extends, refused_raised, blocked_same, blocked_raised}
 use Rattle.iv_types.specs.declared.terminal.Terminal.TheVariants as t

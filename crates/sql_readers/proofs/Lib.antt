@@ -1,6 +1,10 @@
 pub mod Apart
 pub mod Ladder
 pub mod Lists
+pub mod GoingOn
+pub mod Queries
+pub mod Creations
+pub mod Changes
 pub mod Whole
 pub mod Counting
 pub mod Larger

@@ -5,7 +5,11 @@ use Rattle.text_grammar.specs.declared.fault.Cause.TheVariants.{Limit}
 use Rattle.text_grammar.specs.Readers.{Reader, is, starts, one, both, mapped, behind, before, perhaps, blocked}
 use Rattle.text_grammar.specs.Languages.{Lang, One, Then, Behind, Mapped, Before, Nothing, Perhaps}
 use Rattle.text_grammar.specs.Places.{Begins}
-use Rattle.text_grammar.proofs.Laws.{Exact, never, StartsWith, StartsWithout, Stops, FitsBehind, one-exact, mapped-exact, then-exact, fits_perhaps, blocked-exact, either-exact, widened, perhaps-exact, row-exact}
+use Rattle.text_grammar.proofs.Exactness.{Exact, never, StartsWith, StartsWithout, Stops, widened}
+use Rattle.text_grammar.proofs.Tokens.{one-exact}
+use Rattle.text_grammar.proofs.Combining.{FitsBehind, mapped-exact, then-exact, fits_perhaps, either-exact, perhaps-exact}
+use Rattle.text_grammar.proofs.Repeating.{row-exact}
+use Rattle.text_grammar.proofs.Blocking.{blocked-exact}
 use Rattle.text_grammar.proofs.Starts.{one_starts, behind_starts, without, mapped_starts, mapped_without, one_begins, both_begins, mapped_begins, row_begins, left_begins, or_false}
 use Rattle.iv_types.specs.declared.terminal.Terminal.{Terminal}
 use Rattle.iv_types.specs.declared.terminal.Terminal.TheVariants as t

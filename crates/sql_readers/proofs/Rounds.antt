@@ -4,7 +4,8 @@ use Rattle.text_grammar.specs.declared.fault.Cause.{Cause}
 use Rattle.text_grammar.specs.declared.fault.Cause.TheVariants.{Limit}
 use Rattle.text_grammar.specs.declared.fault.Fault.{Fault}
 use Rattle.text_grammar.specs.Readers.{◌>>=◌, Reader, is, starts, behind, both, mapped, blocked, fault_of_first, folded}
-use Rattle.text_grammar.proofs.Laws.{Consumes, consumes, never, err_is}
+use Rattle.text_grammar.proofs.Exactness.{never, err_is}
+use Rattle.text_grammar.proofs.Repeating.{Consumes, consumes}
 use Rattle.text_grammar.proofs.Loops.{row_on, row_fails, row_ends}
 use Rattle.text_grammar.proofs.Extends.{Stays, Within}
 use Rattle.iv_types.specs.declared.terminal.Terminal.{Terminal}
@@ -19,7 +20,8 @@ use Rattle.iv_types.specs.Syntax.{Tree, JoinTree}
 use Rattle.sql_readers.specs.Ladder.{is_name, expression}
 use Rattle.sql_readers.specs.Statements.{comma_item, counted, column, source, join_one, joined, join}
 use Rattle.sql_readers.proofs.Apart.{on_expression}
-use Rattle.sql_readers.proofs.Whole.{column-exact, column_starts, join-exact, join_starts}
+use Rattle.sql_readers.proofs.Creations.{column-exact, column_starts}
+use Rattle.sql_readers.proofs.Queries.{join-exact, join_starts}
 use Rattle.sql_readers.proofs.Lists.{comma}
 use Rattle.sql_readers.proofs.Grown.{counted_stays}
 

@@ -4,7 +4,7 @@ use Rattle.std.specs.Prelude.{is_some}
 use Rattle.text_grammar.specs.declared.fault.Cause.TheVariants.{Limit}
 use Rattle.text_grammar.specs.declared.fault.Fault.{Fault}
 use Rattle.text_grammar.specs.Readers.{Reader, is, starts, fault_at, mapped, behind, before, folded}
-use Rattle.text_grammar.proofs.Laws.{Consumes, consumes}
+use Rattle.text_grammar.proofs.Repeating.{Consumes, consumes}
 use Rattle.text_grammar.proofs.Loops.{row_on, row_fails, row_ends}
 use Rattle.iv_types.specs.declared.terminal.Terminal.{Terminal}
 use Rattle.iv_types.specs.declared.terminal.Terminal.TheVariants as t
