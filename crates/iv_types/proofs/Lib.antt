@@ -3,3 +3,4 @@ pub mod Catalogs
 pub mod Orders
 pub mod Members
 pub mod ByteNumbers
+pub mod Spellings

@@ -22,7 +22,7 @@ use Rattle.sql_parse.specs.Parsing.{refusal_by, refusal_of}
 use Rattle.sql_readers.proofs.GoingOn.{on_line}
 use Rattle.sql_readers.proofs.Whole.{line-exact}
 use Rattle.sql_readers.proofs.Larger.{Raised}
-use Rattle.sql_readers.proofs.Grown.{family}
+use Rattle.sql_readers.proofs.Raising.{family}
 
 symbols_placed : (text : List ℕ) (ts : List Token) → symbols (map (placed text) ts) ≡ symbols_at text ts
 symbols_placed text [] = refl

@@ -12,9 +12,9 @@ use Rattle.iv_types.specs.Tokens.{Symbol}
 use Rattle.iv_types.specs.Limits.{Limits}
 use Rattle.iv_types.specs.Syntax.{Tree, SetTree}
 use Rattle.iv_types.specs.Expressions.{the, AName, AnExpression}
-use Rattle.iv_types.specs.Grammar.{Listed, the_hole, From, ACondition, ATuple, Tuples, insertion_of, AnInsertion, set_of, AnAssignment, update_of, AnUpdate, deletion_of, ADeletion}
+use Rattle.iv_types.specs.Grammar.{Listed, the_hole, ACondition, ATuple, Tuples, insertion_of, AnInsertion, set_of, AnAssignment, update_of, AnUpdate, deletion_of, ADeletion}
 use Rattle.sql_readers.specs.Ladder.{name_reader, expression}
-use Rattle.sql_readers.specs.Statements.{listed, condition, tuple, tuples, insertion, assignment, update, deletion}
+use Rattle.sql_readers.specs.Statements.{comma_list, condition, tuple, tuples, insertion, assignment, update, deletion}
 use Rattle.sql_readers.proofs.Apart.{on_expression}
 use Rattle.sql_readers.proofs.Ladder.{name_begins, behind_the, behind_some, expression-exact, expression_begins}
 use Rattle.sql_readers.proofs.Lists.{Covers, then_by, enclosed-exact, enclosed_begins, comma, listed-exact, listed_begins, listed_to-exact, listed_to_begins}
@@ -26,7 +26,7 @@ use Rattle.sql_readers.proofs.Creations.{named-exact}
 
 pub tuple-exact : (l : Limits) → Exact (ATuple l) never (tuple l)
 unfolding ATuple tuple
-tuple-exact l = enclosed-exact (Listed (AnExpression l)) on_sets (listed (expression l)) (listed-exact (AnExpression l) on_expression (expression l) (expression-exact l) (expression_begins l) comma_ends_expression) (listed_begins (AnExpression l) (expression_begins l)) close_ends_expressions
+tuple-exact l = enclosed-exact (Listed (AnExpression l)) on_sets (comma_list (expression l)) (listed-exact (AnExpression l) on_expression (expression l) (expression-exact l) (expression_begins l) comma_ends_expression) (listed_begins (AnExpression l) (expression_begins l)) close_ends_expressions
 
 tuple_begins : (l : Limits) → Begins (ATuple l) []
 unfolding ATuple
@@ -84,7 +84,7 @@ abbrev pub Assignments : Limits → Lang Symbol (List SetTree × Option Tree)
 Assignments l = Then (Listed (AnAssignment l)) (ACondition l)
 
 abbrev pub assignments : Limits → Reader Symbol (List SetTree × Option Tree)
-assignments l = both (listed (assignment l)) (λ _. condition l)
+assignments l = both (comma_list (assignment l)) (λ _. condition l)
 
 update_covers_sets : Covers on_update on_sets
 update_covers_sets x h = (or_false (on_sets x) (is (the t.Where) x) h).0
@@ -96,7 +96,7 @@ update_covers_condition x h =
     rw (b.0, a.1) refl
 
 pub assignments-exact : (l : Limits) → Exact (Assignments l) on_update (assignments l)
-assignments-exact l = then_by (Listed (AnAssignment l)) (ACondition l) on_sets on_condition on_update (listed (assignment l)) (condition l) (listed-exact (AnAssignment l) on_expression (assignment l) (assignment-exact l) (assignment_begins l) comma_ends_expression) (condition-exact l) (condition_begins l) (condition_follows l on_sets on_update where_ends_sets update_covers_sets) update_covers_condition
+assignments-exact l = then_by (Listed (AnAssignment l)) (ACondition l) on_sets on_condition on_update (comma_list (assignment l)) (condition l) (listed-exact (AnAssignment l) on_expression (assignment l) (assignment-exact l) (assignment_begins l) comma_ends_expression) (condition-exact l) (condition_begins l) (condition_follows l on_sets on_update where_ends_sets update_covers_sets) update_covers_condition
 
 assignments_begins : (l : Limits) → Begins (Assignments l) []
 assignments_begins l = both_begins (Listed (AnAssignment l)) (λ _. ACondition l) (listed_begins (AnAssignment l) (assignment_begins l)) (λ _. condition_begins l)

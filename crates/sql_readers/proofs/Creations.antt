@@ -13,18 +13,19 @@ use Rattle.iv_types.specs.declared.terminal.Terminal.TheVariants as t
 use Rattle.iv_types.specs.declared.value.Kind.{Kind}
 use Rattle.iv_types.specs.declared.value.Kind.TheVariants as kind
 use Rattle.iv_types.specs.declared.statement.ColumnDef.{ColumnDef}
+use Rattle.iv_types.specs.Terminals.{same}
 use Rattle.iv_types.specs.Tokens.{Symbol, fixed}
 use Rattle.iv_types.specs.Limits.{Limits}
 use Rattle.iv_types.specs.Syntax.{StatementTree}
 use Rattle.iv_types.specs.Expressions.{the, AName}
-use Rattle.iv_types.specs.Grammar.{alone, snoc, Enclosed, Names, kind_of, column_of, AColumn, TableBody, table_of, ATable, index_of, AnIndex, AQuery, view_of, AView, ACreation}
+use Rattle.iv_types.specs.Grammar.{singleton, snoc, Enclosed, Names, kind_of, column_of, AColumn, TableBody, table_of, ATable, index_of, AnIndex, AQuery, view_of, AView, ACreation}
 use Rattle.sql_readers.specs.Ladder.{is_name, name_reader}
 use Rattle.sql_readers.specs.Statements.{enclosed, names, column, columns, table_body, table, index, query, view, creation}
 use Rattle.sql_readers.proofs.Apart.{apart_kinds, fixed_not_name}
 use Rattle.sql_readers.proofs.Ladder.{name-exact, name_begins, name_starts, behind_the, behind_some, the_begins}
 use Rattle.sql_readers.proofs.Lists.{follows_starts, follows_never, then_by, enclosed-exact, enclosed_begins, comma, listed-exact, listed_begins}
 use Rattle.sql_readers.proofs.GoingOn.{on_query, Ended, never_ends}
-use Rattle.sql_readers.proofs.Queries.{query-exact, query_begins, Key}
+use Rattle.sql_readers.proofs.Queries.{query-exact, query_begins}
 
 -- ---- names
 
@@ -40,6 +41,7 @@ unfolding Names
 names_begins l = listed_begins (AName l) (name_begins l)
 
 close_ends_names : Ended t.Close on_names
+unfolding same
 close_ends_names (fixed t.Close) h = refl
 close_ends_names _ h = absurd cc
 
@@ -82,11 +84,11 @@ unfolding AColumn
 column_starts l = mapped_starts (λ x. x.0) (Then (Mapped column_of (Typed l)) (One (the t.Comma))) is_name (both_starts (Mapped column_of (Typed l)) (λ _. One (the t.Comma)) is_name (mapped_starts column_of (Typed l) is_name (both_starts (AName l) (λ _. One kind_of) is_name (name_starts l))))
 
 abbrev pub Columns : Limits → Lang Symbol (List ColumnDef)
-Columns l = Row alone snoc (AColumn l) (λ _. AColumn l)
+Columns l = Row singleton snoc (AColumn l) (λ _. AColumn l)
 
-pub columns-exact : (l : Limits) → Exact (Row alone snoc (AColumn l) (λ _. AColumn l)) is_name (columns l)
+pub columns-exact : (l : Limits) → Exact (Row singleton snoc (AColumn l) (λ _. AColumn l)) is_name (columns l)
 unfolding columns
-columns-exact l = row-exact is_name alone snoc (AColumn l) (λ _. AColumn l) never is_name (column l) (λ _. column l) (column-exact l) (λ c. column-exact l) (λ c. column_starts l) (λ x h. refl, λ x h. (refl, h))
+columns-exact l = row-exact is_name singleton snoc (AColumn l) (λ _. AColumn l) never is_name (column l) (λ _. column l) (column-exact l) (λ c. column-exact l) (λ c. column_starts l) (λ x h. refl, λ x h. (refl, h))
 
 abbrev pub Primary : Limits → Lang Symbol (List (List ℕ))
 Primary l = Behind (the t.Primary) (Behind (the t.Key) (Enclosed (Names l)))
@@ -108,7 +110,7 @@ table_body-exact l =
 
 table_body_begins : (l : Limits) → Begins (TableBody l) []
 unfolding TableBody
-table_body_begins l = both_begins (Columns l) (λ _. Primary l) (row_begins alone snoc (AColumn l) (λ _. AColumn l) (column_begins l)) (λ _. primary_begins l)
+table_body_begins l = both_begins (Columns l) (λ _. Primary l) (row_begins singleton snoc (AColumn l) (λ _. AColumn l) (column_begins l)) (λ _. primary_begins l)
 
 pub enclosed_body-exact : (l : Limits) → Exact (Enclosed (TableBody l)) never (enclosed (table_body l))
 enclosed_body-exact l = enclosed-exact (TableBody l) never (table_body l) (table_body-exact l) (table_body_begins l) (never_ends (is (the t.Close)))

@@ -6,10 +6,10 @@ use Rattle.text_grammar.proofs.Exactness.{never}
 use Rattle.text_grammar.proofs.Starts.{or_false}
 use Rattle.iv_types.specs.declared.terminal.Terminal.{Terminal}
 use Rattle.iv_types.specs.declared.terminal.Terminal.TheVariants as t
-use Rattle.iv_types.specs.declared.statement.Order.{Order}
+use Rattle.iv_types.specs.Terminals.{same}
 use Rattle.iv_types.specs.Tokens.{Symbol, fixed, name, number, text}
 use Rattle.iv_types.specs.Expressions.{or_op, and_op, comparison_op, sum_op, product_op, the}
-use Rattle.iv_types.specs.Grammar.{the_hole, kind_of, From, direction_of}
+use Rattle.iv_types.specs.Grammar.{the_hole, kind_of, direction_of}
 use Rattle.sql_readers.specs.Ladder.{is_name, is_number, is_text}
 use Rattle.sql_readers.proofs.Apart.{on_unary, on_product, on_sum, on_comparison, on_conjunction, on_expression}
 use Rattle.sql_readers.proofs.Lists.{Covers, Ends, comma}
@@ -95,70 +95,87 @@ abbrev pub Ended : Terminal → (Symbol → Bool) → Type 0
 Ended k on = Ends (is (the k)) on
 
 pub comma_ends_item : Ended t.Comma on_item
+unfolding same
 comma_ends_item (fixed t.Comma) h = refl
 comma_ends_item _ h = absurd cc
 
 pub comma_ends_expression : Ended t.Comma on_expression
+unfolding same
 comma_ends_expression (fixed t.Comma) h = refl
 comma_ends_expression _ h = absurd cc
 
 pub as_ends_expression : Ended t.As on_expression
+unfolding same
 as_ends_expression (fixed t.As) h = refl
 as_ends_expression _ h = absurd cc
 
 pub join_ends_item : Ended t.Join on_item
+unfolding same
 join_ends_item (fixed t.Join) h = refl
 join_ends_item _ h = absurd cc
 
 pub from_ends_items : Ended t.From on_items
+unfolding same
 from_ends_items (fixed t.From) h = refl
 from_ends_items _ h = absurd cc
 
 pub where_ends_from : Ended t.Where on_from
+unfolding same
 where_ends_from (fixed t.Where) h = refl
 where_ends_from _ h = absurd cc
 
 pub group_ends_from : Ended t.Group on_from
+unfolding same
 group_ends_from (fixed t.Group) h = refl
 group_ends_from _ h = absurd cc
 
 pub group_ends_condition : Ended t.Group on_condition
+unfolding same
 group_ends_condition (fixed t.Group) h = refl
 group_ends_condition _ h = absurd cc
 
 pub order_ends_query : Ended t.Order on_query
+unfolding same
 order_ends_query (fixed t.Order) h = refl
 order_ends_query _ h = absurd cc
 
 pub where_ends_sets : Ended t.Where on_sets
+unfolding same
 where_ends_sets (fixed t.Where) h = refl
 where_ends_sets _ h = absurd cc
 
 pub semicolon_ends_statement : Ended t.Semicolon on_statement
+unfolding same
 semicolon_ends_statement (fixed t.Semicolon) h = refl
 semicolon_ends_statement _ h = absurd cc
 
 pub close_ends_expressions : Ended t.Close on_sets
+unfolding same
 close_ends_expressions (fixed t.Close) h = refl
 close_ends_expressions _ h = absurd cc
 
 pub close_ends_unary : Ended t.Close on_unary
+unfolding same
 close_ends_unary (fixed t.Close) h = refl
 close_ends_unary _ h = absurd cc
 
 pub comma_ends_unary : Ended t.Comma on_unary
+unfolding same
 comma_ends_unary (fixed t.Comma) h = refl
 comma_ends_unary _ h = absurd cc
 
 pub comma_ends_direction : Ended t.Comma (is direction_of)
+unfolding same
 comma_ends_direction (fixed t.Comma) h = refl
 comma_ends_direction _ h = absurd cc
 
 pub on_ends_alias : Ended t.On as_token
+unfolding same
 on_ends_alias (fixed t.On) h = refl
 on_ends_alias _ h = absurd cc
 
 kind_not_comma : (x : Symbol) → is kind_of x ≡ true → comma x ≡ false
+unfolding same
 kind_not_comma (fixed t.Int) h = refl
 kind_not_comma (fixed t.Huge) h = refl
 kind_not_comma (fixed t.Text) h = refl

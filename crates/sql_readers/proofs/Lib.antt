@@ -1,4 +1,6 @@
 pub mod Apart
+pub mod Budget
+pub mod Counting
 pub mod Ladder
 pub mod Lists
 pub mod GoingOn
@@ -6,10 +8,12 @@ pub mod Queries
 pub mod Creations
 pub mod Changes
 pub mod Whole
-pub mod Counting
 pub mod Larger
+pub mod GrownLists
 pub mod Grown
+pub mod Raising
 pub mod Steps
 pub mod Holes
+pub mod Firsts
 pub mod Rounds
 pub mod Forward

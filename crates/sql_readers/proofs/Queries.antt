@@ -23,7 +23,7 @@ use Rattle.iv_types.specs.Expressions.{the, AName, ANumber, AReference, AnExpres
 use Rattle.iv_types.specs.Grammar as g
 use Rattle.iv_types.specs.Grammar.{Listed, or_none, the_hole, Counted, Enclosed, AnAlias, sum_of, plain_of, AnItem, Items, relation_of, ASource, join_of, AJoin, Sources, first_source, with_join, From, ACondition, AGrouping, query_of, AQuery, direction_of, or_rising, place_key, name_key, order_of, AnOrder, selection_of, ASelection}
 use Rattle.sql_readers.specs.Ladder.{is_name, is_number, name_reader, number_reader, reference, expression}
-use Rattle.sql_readers.specs.Statements.{listed, counted, enclosed, alias, item, items, source, join, from, condition, grouping, query, key_reader, direction, order, ordering, selection}
+use Rattle.sql_readers.specs.Statements.{comma_list, counted, enclosed, alias, item, items, source, join, from, condition, grouping, query, key_reader, direction, order, ordering, selection}
 use Rattle.sql_readers.proofs.Apart.{apart_kinds, name_not_fixed, number_not_fixed, text_not_fixed, name_not_number, on_unary, on_expression}
 use Rattle.sql_readers.proofs.Ladder.{name-exact, number-exact, name_begins, number_begins, name_starts, number_starts, behind_the, behind_some, the_begins, reference-exact, reference_begins, expression-exact, expression_begins, expression_without}
 use Rattle.sql_readers.proofs.Lists.{Follows, Covers, Ends, follows_perhaps, follows_starts, follows_then, follows_mapped, follows_never, then_by, optional-exact, enclosed-exact, enclosed_begins, listed-exact, listed_begins, counted-exact, counted_begins, listed_to-exact, listed_to_begins}
@@ -233,7 +233,7 @@ abbrev pub ByReferences : Limits → Lang Symbol (List Ref)
 ByReferences l = Behind (the t.By) (Listed (AReference l))
 
 abbrev pub by_references : Limits → Reader Symbol (List Ref)
-by_references l = behind (the t.By) (listed (reference l))
+by_references l = behind (the t.By) (comma_list (reference l))
 
 references_begin : (l : Limits) → Begins (Listed (AReference l)) []
 references_begin l = listed_begins (AReference l) (reference_begins l)
@@ -243,7 +243,7 @@ unfolding AGrouping grouping
 grouping-exact l =
     mapped-exact or_none (Perhaps (Behind (the t.Group) (ByReferences l))) on_grouping (perhaps (is (the t.Group)) (behind (the t.Group) (by_references l)))
     (optional-exact t.Group (ByReferences l) on_references (by_references l)
-    (behind_the t.By (Listed (AReference l)) on_references (listed (reference l)) (listed-exact (AReference l) on_unary (reference l) (reference-exact l) (reference_begins l) comma_ends_unary) (references_begin l))
+    (behind_the t.By (Listed (AReference l)) on_references (comma_list (reference l)) (listed-exact (AReference l) on_unary (reference l) (reference-exact l) (reference_begins l) comma_ends_unary) (references_begin l))
     (behind_some t.By (Listed (AReference l)) (references_begin l)))
 
 grouping_begins : (l : Limits) → Begins (AGrouping l) []
@@ -336,7 +336,7 @@ abbrev pub ByOrders : Limits → Lang Symbol (List Order)
 ByOrders l = Behind (the t.By) (Listed (AnOrder l))
 
 abbrev pub by_orders : Limits → Reader Symbol (List Order)
-by_orders l = behind (the t.By) (listed (order l))
+by_orders l = behind (the t.By) (comma_list (order l))
 
 orders_begin : (l : Limits) → Begins (Listed (AnOrder l)) []
 orders_begin l = listed_begins (AnOrder l) (order_begins l)
@@ -348,7 +348,7 @@ pub ordering-exact : (l : Limits) → Exact (Ordering l) on_ordering (ordering l
 ordering-exact l =
     mapped-exact or_none (Perhaps (Behind (the t.Order) (ByOrders l))) on_ordering (perhaps (is (the t.Order)) (behind (the t.Order) (by_orders l)))
     (optional-exact t.Order (ByOrders l) on_orders (by_orders l)
-    (behind_the t.By (Listed (AnOrder l)) on_orders (listed (order l)) (listed-exact (AnOrder l) (is direction_of) (order l) (order-exact l) (order_begins l) comma_ends_direction) (orders_begin l))
+    (behind_the t.By (Listed (AnOrder l)) on_orders (comma_list (order l)) (listed-exact (AnOrder l) (is direction_of) (order l) (order-exact l) (order_begins l) comma_ends_direction) (orders_begin l))
     (behind_some t.By (Listed (AnOrder l)) (orders_begin l)))
 
 ordering_begins : (l : Limits) → Begins (Ordering l) []
