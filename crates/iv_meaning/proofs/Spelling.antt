@@ -2,10 +2,11 @@
 use Rattle.std.specs.Prelude.{◌≡◌, ℕ, pos, nat_le, true, List, [], ◌∷◌, ◌^◌, ◌-◌, codes, Option, Some, None, if◌then◌else◌}
 use mathlib.Core.Path.{refl, sym, ap, subst}
 use mathlib.Core.Logic.{inl, inr}
-use Rattle.std.proofs.Common.{append-nil}
+use Rattle.std.proofs.Common.{append-nil, arith}
 use Rattle.iv_types.specs.declared.terminal.Terminal.TheVariants as t
 use Rattle.iv_types.specs.declared.expression.Op.{Op}
 use Rattle.iv_types.specs.declared.statement.Mode.TheVariants.{Serial, Snapshot}
+use Rattle.iv_types.specs.Terminals.{same}
 use Rattle.iv_types.specs.Tokens.{Symbol, fixed, name, number, tokens, tokens_from, symbols}
 use Rattle.iv_types.specs.Limits.{the_limits}
 use Rattle.iv_types.specs.Syntax as s
@@ -26,7 +27,7 @@ whole text ts statement e spelled = subst (λ ts. ALine the_limits ts statement)
 -- ---- transactions
 
 pub begin_spelled : Spells (codes "BEGIN") (begin Serial)
-unfolding AControl AStatement tokens_from
+unfolding AControl AStatement tokens_from same
 begin_spelled = whole (codes "BEGIN") (fixed t.Begin ∷ []) (begin Serial) refl (inr (inr (inr (inr (inr (inl (record {
   token = fixed t.Begin;
   back = [];
@@ -36,7 +37,7 @@ begin_spelled = whole (codes "BEGIN") (fixed t.Begin ∷ []) (begin Serial) refl
 })))))))
 
 pub snapshot_spelled : Spells (codes "BEGIN SNAPSHOT") (begin Snapshot)
-unfolding AControl AStatement tokens_from
+unfolding AControl AStatement tokens_from same
 snapshot_spelled = whole (codes "BEGIN SNAPSHOT") (fixed t.Begin ∷ fixed t.Snapshot ∷ []) (begin Snapshot) refl (inr (inr (inr (inr (inr (inl (record {
   token = fixed t.Begin;
   back = fixed t.Snapshot ∷ [];
@@ -46,7 +47,7 @@ snapshot_spelled = whole (codes "BEGIN SNAPSHOT") (fixed t.Begin ∷ fixed t.Sna
 })))))))
 
 pub commit_spelled : Spells (codes "COMMIT") commit
-unfolding AControl AStatement tokens_from
+unfolding AControl AStatement tokens_from same
 commit_spelled = whole (codes "COMMIT") (fixed t.Commit ∷ []) commit refl (inr (inr (inr (inr (inr (inr (inl (record {
   value = tt;
   spelled = record { token = fixed t.Commit; text = refl; value = refl };
@@ -54,7 +55,7 @@ commit_spelled = whole (codes "COMMIT") (fixed t.Commit ∷ []) commit refl (inr
 }))))))))
 
 pub savepoint_spelled : Spells (codes "SAVEPOINT s") (savepoint (codes "s"))
-unfolding AControl AStatement tokens_from
+unfolding AControl AStatement tokens_from same
 savepoint_spelled = whole (codes "SAVEPOINT s") (fixed t.Savepoint ∷ name (codes "s") ∷ []) (savepoint (codes "s")) refl (inr (inr (inr (inr (inr (inr (inr (inr (record {
   token = fixed t.Savepoint;
   back = name (codes "s") ∷ [];
@@ -64,7 +65,7 @@ savepoint_spelled = whole (codes "SAVEPOINT s") (fixed t.Savepoint ∷ name (cod
 })))))))))
 
 pub rollback_spelled : Spells (codes "ROLLBACK TO s") (rollback (Some (codes "s")))
-unfolding AControl AStatement tokens_from
+unfolding AControl AStatement tokens_from same
 rollback_spelled = whole (codes "ROLLBACK TO s") (fixed t.Rollback ∷ fixed t.To ∷ name (codes "s") ∷ []) (rollback (Some (codes "s"))) refl (inr (inr (inr (inr (inr (inr (inr (inl (record {
   token = fixed t.Rollback;
   back = fixed t.To ∷ name (codes "s") ∷ [];
@@ -86,8 +87,8 @@ rollback_spelled = whole (codes "ROLLBACK TO s") (fixed t.Rollback ∷ fixed t.T
 -- ---- rows
 
 -- an operand alone
-chain_one : (pick : Symbol → Option Op) (p : ℕ → List Symbol → Tree → Type 0) (b : ℕ) (ts : List Symbol) (x : Tree) → p b ts x → Chain pick p b ts x
-chain_one pick p b ts x h = record {
+chain_one : (pick : Symbol → Option Op) (p : List Symbol → Tree → Type 0) (ts : List Symbol) (x : Tree) → p ts x → Chain pick p ts x
+chain_one pick p ts x h = record {
   value = (x, []);
   spelled = record { front = ts; back = []; text = sym (append-nil ts); first = h; second = refl };
   made = refl;
@@ -99,14 +100,14 @@ literal n small =
     let levels : Nested = nested the_limits 64 in
     let ts : List Symbol = number n ∷ [] in
     let x : Tree = s.number (pos n) in
-    let unary : Unary the_limits levels 1024 ts x = inl (record { value = n; spelled = record { token = number n; text = refl; value = ap (λ b. if b then Some n else None) small }; made = refl }) in
-    let sum : Sum the_limits levels 1024 ts x = chain_one sum_op (Product the_limits levels) 1024 ts x (chain_one product_op (Unary the_limits levels) 1024 ts x unary) in
-    let negation : Negation the_limits levels 1024 ts x = inr (record { value = (x, None); spelled = record { front = ts; back = []; text = refl; first = sum; second = refl }; made = refl }) in
-    chain_one or_op (Conjunction the_limits levels) 1024 ts x (chain_one and_op (Negation the_limits levels) 1024 ts x negation)
+    let unary : Unary the_limits levels ts x = inl (record { value = n; spelled = record { token = number n; text = refl; value = ap (λ b. if b then Some n else None) small }; made = refl }) in
+    let sum : Sum the_limits levels ts x = chain_one sum_op (Product the_limits levels) ts x (chain_one product_op (Unary the_limits levels) ts x unary) in
+    let negation : Negation the_limits levels ts x = inr (record { value = (x, None); spelled = record { front = ts; back = []; text = refl; first = sum; second = refl }; made = refl }) in
+    (chain_one or_op (Conjunction the_limits levels) ts x (chain_one and_op (Negation the_limits levels) ts x negation), omega arith)
 
 three : (a b c : ℕ) → nat_le a (2 ^ 127 - 1) ≡ true → nat_le b (2 ^ 127 - 1) ≡ true → nat_le c (2 ^ 127 - 1) ≡ true
     → ATuple the_limits (fixed t.Open ∷ number a ∷ fixed t.Comma ∷ number b ∷ fixed t.Comma ∷ number c ∷ fixed t.Close ∷ []) (s.number (pos a) ∷ s.number (pos b) ∷ s.number (pos c) ∷ [])
-unfolding ATuple
+unfolding ATuple same
 three a b c ha hb hc = record {
   token = fixed t.Open;
   back = number a ∷ fixed t.Comma ∷ number b ∷ fixed t.Comma ∷ number c ∷ fixed t.Close ∷ [];
@@ -151,7 +152,7 @@ abbrev sold_tokens : ℕ → ℕ → List Symbol
 sold_tokens id amount = fixed t.Insert ∷ fixed t.Into ∷ name (codes "sale") ∷ fixed t.Values ∷ fixed t.Open ∷ number id ∷ fixed t.Comma ∷ number 7 ∷ fixed t.Comma ∷ number amount ∷ fixed t.Close ∷ []
 
 sold_stated : (id amount : ℕ) → nat_le id (2 ^ 127 - 1) ≡ true → nat_le amount (2 ^ 127 - 1) ≡ true → AStatement the_limits (sold_tokens id amount) (sold id amount)
-unfolding AStatement AnInsertion Tuples
+unfolding AStatement AnInsertion Tuples same
 sold_stated id amount hi ha =
     let tuple : List Symbol = fixed t.Open ∷ number id ∷ fixed t.Comma ∷ number 7 ∷ fixed t.Comma ∷ number amount ∷ fixed t.Close ∷ [] in
     inr (inl (record {
@@ -199,7 +200,7 @@ second_sale_spelled = whole (codes "INSERT INTO sale VALUES (2, 7, 5)") (sold_to
 -- ---- SELECT
 
 shows_stated : AStatement the_limits (fixed t.Select ∷ fixed t.Star ∷ fixed t.From ∷ name (codes "by_shop") ∷ []) shows
-unfolding AStatement ASelection AQuery Items AnItem From ASource ACondition AGrouping
+unfolding AStatement ASelection AQuery Items AnItem From ASource ACondition AGrouping same
 shows_stated = inr (inr (inr (inr (inl (record {
   value = (record { items = s.all ∷ []; first = record { name = codes "by_shop"; alias = None }; joins = []; condition = None; group = [] }, []);
   spelled = record {

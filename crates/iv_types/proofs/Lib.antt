@@ -4,3 +4,4 @@ pub mod Orders
 pub mod Members
 pub mod ByteNumbers
 pub mod Fitting
+pub mod Spellings

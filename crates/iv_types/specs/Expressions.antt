@@ -1,12 +1,12 @@
 -- The written grammar of an expression.
-use Rattle.std.specs.Prelude.{◌≡◌, ℕ, zero, suc, ◌+◌, ◌-◌, ◌==◌, nat_lt, pos, neg_ℤ, Bool, true, List, length, Option, Some, None, if◌then◌else◌}
-use Rattle.text_grammar.specs.Languages.{Lang, One, Then, Both, Behind, Before, Mapped, Either, Nothing, Perhaps, Row}
+use Rattle.std.specs.Prelude.{ℕ, zero, suc, ◌+◌, ◌≤◌, pos, neg_ℤ, List, length, Option, Some, None, if◌then◌else◌}
+use Rattle.text_grammar.specs.Languages.{Lang, One, Then, Behind, Before, Mapped, Either, Nothing, Perhaps, Row}
 use Rattle.iv_types.specs.declared.terminal.Terminal.{Terminal}
 use Rattle.iv_types.specs.declared.terminal.Terminal.TheVariants as t
 use Rattle.iv_types.specs.declared.expression.Op.{Op}
 use Rattle.iv_types.specs.declared.expression.Op.TheVariants as op
 use Rattle.iv_types.specs.declared.expression.Ref.{Ref}
-use Rattle.iv_types.specs.Terminals.{number_of}
+use Rattle.iv_types.specs.Terminals.{same}
 use Rattle.iv_types.specs.Tokens.{Symbol, fixed, name, number, text}
 use Rattle.iv_types.specs.Limits.{Limits, allows}
 use Rattle.iv_types.specs.Syntax as s
@@ -16,7 +16,7 @@ use Rattle.iv_types.specs.Syntax.{Tree}
 
 -- a keyword or a mark
 abbrev pub the : Terminal → Symbol → Option (Unit {0})
-the k (fixed j) = if number_of j == number_of k then Some tt else None
+the k (fixed j) = if same j k then Some tt else None
 the k _ = None
 
 -- a name, a number, a text within a limit
@@ -70,33 +70,21 @@ operations (s.not e) = suc (operations e)
 operations (s.minus e) = suc (operations e)
 operations (s.pair o a b) = suc (operations a + operations b)
 
--- where the test holds
-abbrev pub Only : {T A : Type 0} → Bool → Lang T A → Lang T A
-Only test p ts a = (test ≡ true) × p ts a
+-- an operator and its right operand behind the left one
+abbrev pub paired : Tree → Op × Tree → Tree
+paired a x = s.pair x.0 a x.1
 
--- with one operation less, where there is one
-abbrev pub Spent : {T A : Type 0} → (ℕ → Lang T A) → ℕ → Lang T A
-Spent p zero = Nothing
-Spent p (suc b) = p b
+-- operand { operator operand }, grouped from the left
+abbrev pub Chain : (Symbol → Option Op) → Lang Symbol Tree → Lang Symbol Tree
+Chain pick p = Row (λ a. a) paired p (λ _. Then (One pick) p)
 
-abbrev pub joined : Tree → Op × Tree → Tree
-joined a x = s.pair x.0 a x.1
-
--- an operator and the operand behind it, with what a tree leaves of b operations, and the operator's own taken off
-abbrev pub Operand : (Symbol → Option Op) → (ℕ → Lang Symbol Tree) → ℕ → Tree → Lang Symbol (Op × Tree)
-Operand pick p b a = Only (nat_lt (operations a) b) (Then (One pick) (p (b - suc (operations a))))
-
--- operand { operator operand }, grouped from the left, with no more than b operations in all
-abbrev pub Chain : (Symbol → Option Op) → (ℕ → Lang Symbol Tree) → ℕ → Lang Symbol Tree
-Chain pick p b = Row (λ a. a) joined (p b) (Operand pick p b)
-
--- ---- the ladder, with no more than b operations
+-- ---- the ladder
 
 -- what stands one level of nesting further in, with the token that leads there
 pub record Nested : Type 1 where
-  pub group : ℕ → Lang Symbol Tree
-  pub minus : ℕ → Lang Symbol Tree
-  pub inversion : ℕ → Lang Symbol Tree
+  pub group : Lang Symbol Tree
+  pub minus : Lang Symbol Tree
+  pub inversion : Lang Symbol Tree
 
 abbrev pub AName : Limits → Lang Symbol (List ℕ)
 AName l = One (name_in l.name_bytes)
@@ -121,52 +109,53 @@ abbrev pub negative : ℕ → Tree
 negative n = s.number (neg_ℤ (pos n))
 
 -- minus | group | text | ref
-unfoldable pub Signed : Limits → Nested → ℕ → Lang Symbol Tree
-Signed l n b = Either (n.minus b) (Either (n.group b) (Either (Mapped s.word (One (text_in l.text_bytes))) (Mapped s.named (AReference l))))
+unfoldable pub Signed : Limits → Nested → Lang Symbol Tree
+Signed l n = Either n.minus (Either n.group (Either (Mapped s.word (One (text_in l.text_bytes))) (Mapped s.named (AReference l))))
 
 -- number | minus | group | text | ref
-unfoldable pub Unary : Limits → Nested → ℕ → Lang Symbol Tree
-Unary l n b = Either (Mapped positive (ANumber l)) (Signed l n b)
+unfoldable pub Unary : Limits → Nested → Lang Symbol Tree
+Unary l n = Either (Mapped positive (ANumber l)) (Signed l n)
 
 -- what stands behind a minus: a number token makes a negative literal
-unfoldable pub Negated : Limits → Nested → ℕ → Lang Symbol Tree
-Negated l n b = Either (Mapped negative (ANumber l)) (Spent (λ c. Mapped s.minus (Signed l n c)) b)
+unfoldable pub Negated : Limits → Nested → Lang Symbol Tree
+Negated l n = Either (Mapped negative (ANumber l)) (Mapped s.minus (Signed l n))
 
 -- unary { "*" unary }
-unfoldable pub Product : Limits → Nested → ℕ → Lang Symbol Tree
-Product l n b = Chain product_op (Unary l n) b
+unfoldable pub Product : Limits → Nested → Lang Symbol Tree
+Product l n = Chain product_op (Unary l n)
 
 -- product { ( "+" | "-" ) product }
-unfoldable pub Sum : Limits → Nested → ℕ → Lang Symbol Tree
-Sum l n b = Chain sum_op (Product l n) b
+unfoldable pub Sum : Limits → Nested → Lang Symbol Tree
+Sum l n = Chain sum_op (Product l n)
 
 abbrev pub compared : Tree × Option (Op × Tree) → Tree
-compared x = elim x.1 [ None ↦ x.0 | Some y ↦ joined x.0 y ]
+compared x = elim x.1 [ None ↦ x.0 | Some y ↦ paired x.0 y ]
 
 -- sum [ comparison sum ]
-unfoldable pub Comparison : Limits → Nested → ℕ → Lang Symbol Tree
-Comparison l n b = Mapped compared (Both (Sum l n b) (λ a. Perhaps (Operand comparison_op (Sum l n) b a)))
+unfoldable pub Comparison : Limits → Nested → Lang Symbol Tree
+Comparison l n = Mapped compared (Then (Sum l n) (Perhaps (Then (One comparison_op) (Sum l n))))
 
 -- NOT negation | comparison
-unfoldable pub Negation : Limits → Nested → ℕ → Lang Symbol Tree
-Negation l n b = Either (n.inversion b) (Comparison l n b)
+unfoldable pub Negation : Limits → Nested → Lang Symbol Tree
+Negation l n = Either n.inversion (Comparison l n)
 
 -- negation { AND negation }
-unfoldable pub Conjunction : Limits → Nested → ℕ → Lang Symbol Tree
-Conjunction l n b = Chain and_op (Negation l n) b
+unfoldable pub Conjunction : Limits → Nested → Lang Symbol Tree
+Conjunction l n = Chain and_op (Negation l n)
 
 -- conjunction { OR conjunction }
-unfoldable pub Disjunction : Limits → Nested → ℕ → Lang Symbol Tree
-Disjunction l n b = Chain or_op (Conjunction l n) b
+unfoldable pub Disjunction : Limits → Nested → Lang Symbol Tree
+Disjunction l n = Chain or_op (Conjunction l n)
 
 -- so many levels
 unfoldable pub nested : Limits → ℕ → Nested
-nested l zero = record { group = λ _. Nothing; minus = λ _. Nothing; inversion = λ _. Nothing }
+nested l zero = record { group = Nothing; minus = Nothing; inversion = Nothing }
 nested l (suc n) = record {
-  group = λ b. Behind (the t.Open) (Before (the t.Close) (Disjunction l (nested l n) b));
-  minus = λ b. Behind (the t.Minus) (Negated l (nested l n) b);
-  inversion = Spent (λ c. Behind (the t.Not) (Mapped s.not (Negation l (nested l n) c)));
+  group = Behind (the t.Open) (Before (the t.Close) (Disjunction l (nested l n)));
+  minus = Behind (the t.Minus) (Negated l (nested l n));
+  inversion = Behind (the t.Not) (Mapped s.not (Negation l (nested l n)));
 }
 
+-- with no more operations than are allowed
 unfoldable pub AnExpression : Limits → Lang Symbol Tree
-AnExpression l = Disjunction l (nested l l.nesting) l.operations
+AnExpression l ts e = Disjunction l (nested l l.nesting) ts e × (operations e ≤ l.operations)

@@ -18,19 +18,19 @@ use Rattle.iv_types.specs.Tokens.{Symbol, fixed, hole, tokens, symbols}
 use Rattle.iv_types.specs.Limits.{Limits, the_limits}
 use Rattle.iv_types.specs.Syntax as s
 use Rattle.iv_types.specs.Syntax.{Tree, JoinTree, ItemTree, QueryTree, SetTree, StatementTree}
-use Rattle.iv_types.specs.Expressions.{the, Only, AName, ANumber, AReference, AnExpression}
+use Rattle.iv_types.specs.Expressions.{the, AName, ANumber, AReference, AnExpression}
 
 -- ---- lists
 
-abbrev pub alone : {A : Type 0} → A → List A
-alone x = x ∷ []
+abbrev pub singleton : {A : Type 0} → A → List A
+singleton x = x ∷ []
 
 abbrev pub snoc : {A : Type 0} → List A → A → List A
 snoc xs x = xs ++ (x ∷ [])
 
 -- one { "," one }
 abbrev pub Listed : {A : Type 0} → Lang Symbol A → Lang Symbol (List A)
-Listed p = Row alone snoc p (λ _. Behind (the t.Comma) p)
+Listed p = Row singleton snoc p (λ _. Behind (the t.Comma) p)
 
 -- none where it is left out
 abbrev pub or_none : {A : Type 0} → Option (List A) → List A
@@ -52,13 +52,17 @@ abbrev pub add : {A : Type 0} → List A → Option A → List A
 add xs None = xs
 add xs (Some x) = snoc xs x
 
+-- where the test holds
+abbrev pub Only : {T A : Type 0} → Bool → Lang T A → Lang T A
+Only test p ts a = (test ≡ true) × p ts a
+
 -- one more of what there are so many of already, where there may be so many at most; or a hole
 abbrev pub Counted : {A : Type 0} → ℕ → ℕ → Lang Symbol A → Lang Symbol (Option A)
 Counted have most p = Either (Mapped no_item (One the_hole)) (Only (nat_lt have most) (Mapped an_item p))
 
 -- one { "," one }, no more than so many
 abbrev pub ListedTo : {A : Type 0} → ℕ → Lang Symbol A → Lang Symbol (List A)
-ListedTo most p = Row alone add p (λ have. Behind (the t.Comma) (Counted (length have) most p))
+ListedTo most p = Row singleton add p (λ have. Behind (the t.Comma) (Counted (length have) most p))
 
 -- in parentheses
 abbrev pub Enclosed : {A : Type 0} → Lang Symbol A → Lang Symbol A
@@ -85,7 +89,7 @@ AColumn l = Before (the t.Comma) (Mapped column_of (Then (AName l) (One kind_of)
 
 -- column "," { column "," } PRIMARY KEY "(" names ")"
 unfoldable pub TableBody : Limits → Lang Symbol (List ColumnDef × List (List ℕ))
-TableBody l = Then (Row alone snoc (AColumn l) (λ _. AColumn l)) (Behind (the t.Primary) (Behind (the t.Key) (Enclosed (Names l))))
+TableBody l = Then (Row singleton snoc (AColumn l) (λ _. AColumn l)) (Behind (the t.Primary) (Behind (the t.Key) (Enclosed (Names l))))
 
 abbrev pub table_of : List ℕ × (List ColumnDef × List (List ℕ)) → StatementTree
 table_of x = s.create_table x.0 x.1.0 x.1.1

@@ -16,7 +16,7 @@ use Rattle.iv_types.specs.declared.statement.OrderKey.{OrderKey}
 use Rattle.iv_types.specs.declared.statement.OrderKey.TheVariants as key
 use Rattle.iv_types.specs.declared.statement.Order.{Order}
 use Rattle.iv_types.specs.declared.statement.Mode.TheVariants as mode
-use Rattle.iv_types.specs.Terminals.{number_of, spelling}
+use Rattle.iv_types.specs.Terminals.{same, spelling}
 use Rattle.iv_types.specs.Syntax as s
 use Rattle.iv_types.specs.Syntax.{Tree, JoinTree, ItemTree, QueryTree, SetTree, StatementTree}
 
@@ -46,7 +46,7 @@ piece_text (negative n) = 45 ∷ decimal n
 piece_text (text content) = quoted_text content
 
 abbrev pub is_mark : Terminal → Piece → Bool
-is_mark k (fixed j) = number_of j == number_of k
+is_mark k (fixed j) = same j k
 is_mark k _ = false
 
 -- whether a space stands between two pieces
@@ -162,10 +162,10 @@ tree_pieces place e = enclosed_unless (nat_le place (rank e)) (bare_pieces e)
 -- ---- statements
 
 -- with commas between them
-abbrev pub listed : {A : Type 0} → (A → List Piece) → List A → List Piece
-listed pieces [] = []
-listed pieces (x ∷ []) = pieces x
-listed pieces (x ∷ y ∷ xs) = pieces x ++ fixed t.Comma ∷ listed pieces (y ∷ xs)
+abbrev pub with_commas : {A : Type 0} → (A → List Piece) → List A → List Piece
+with_commas pieces [] = []
+with_commas pieces (x ∷ []) = pieces x
+with_commas pieces (x ∷ y ∷ xs) = pieces x ++ fixed t.Comma ∷ with_commas pieces (y ∷ xs)
 
 abbrev pub enclosed : List Piece → List Piece
 enclosed ps = fixed t.Open ∷ (ps ++ fixed t.Close ∷ [])
@@ -174,7 +174,7 @@ abbrev pub name_pieces : List ℕ → List Piece
 name_pieces n = name n ∷ []
 
 abbrev pub names_pieces : List (List ℕ) → List Piece
-names_pieces names = enclosed (listed name_pieces names)
+names_pieces names = enclosed (with_commas name_pieces names)
 
 -- behind a keyword, where there is something
 abbrev pub perhaps_pieces : {A : Type 0} → Terminal → (A → List Piece) → Option A → List Piece
@@ -209,11 +209,11 @@ condition_pieces = perhaps_pieces t.Where (tree_pieces 0)
 
 abbrev pub group_pieces : List Ref → List Piece
 group_pieces [] = []
-group_pieces (ref ∷ refs) = fixed t.Group ∷ fixed t.By ∷ listed ref_pieces (ref ∷ refs)
+group_pieces (ref ∷ refs) = fixed t.Group ∷ fixed t.By ∷ with_commas ref_pieces (ref ∷ refs)
 
 abbrev pub query_pieces : QueryTree → List Piece
 query_pieces q =
-    fixed t.Select ∷ (listed item_pieces q.items
+    fixed t.Select ∷ (with_commas item_pieces q.items
     ++ fixed t.From ∷ (relation_pieces q.first ++ (flat_map join_pieces q.joins ++ (condition_pieces q.condition ++ group_pieces q.group))))
 
 abbrev pub set_pieces : SetTree → List Piece
@@ -230,18 +230,18 @@ order_pieces order = key_pieces order.by ++ (if order.descending then fixed t.De
 
 abbrev pub orders_pieces : List Order → List Piece
 orders_pieces [] = []
-orders_pieces (order ∷ orders) = fixed t.Order ∷ fixed t.By ∷ listed order_pieces (order ∷ orders)
+orders_pieces (order ∷ orders) = fixed t.Order ∷ fixed t.By ∷ with_commas order_pieces (order ∷ orders)
 
 abbrev pub tuple_pieces : List Tree → List Piece
-tuple_pieces tuple = enclosed (listed (tree_pieces 0) tuple)
+tuple_pieces tuple = enclosed (with_commas (tree_pieces 0) tuple)
 
 abbrev pub statement_pieces : StatementTree → List Piece
 statement_pieces (s.create_table n columns primary) =
     fixed t.Create ∷ fixed t.Table ∷ name n ∷ enclosed (flat_map column_pieces columns ++ fixed t.Primary ∷ fixed t.Key ∷ names_pieces primary)
 statement_pieces (s.create_index n table columns) = fixed t.Create ∷ fixed t.Index ∷ name n ∷ fixed t.On ∷ name table ∷ names_pieces columns
 statement_pieces (s.create_view n query) = fixed t.Create ∷ fixed t.Indexed ∷ fixed t.View ∷ name n ∷ fixed t.As ∷ query_pieces query
-statement_pieces (s.insert table tuples) = fixed t.Insert ∷ fixed t.Into ∷ name table ∷ fixed t.Values ∷ listed tuple_pieces tuples
-statement_pieces (s.update table sets condition) = fixed t.Update ∷ name table ∷ fixed t.Set ∷ (listed set_pieces sets ++ condition_pieces condition)
+statement_pieces (s.insert table tuples) = fixed t.Insert ∷ fixed t.Into ∷ name table ∷ fixed t.Values ∷ with_commas tuple_pieces tuples
+statement_pieces (s.update table sets condition) = fixed t.Update ∷ name table ∷ fixed t.Set ∷ (with_commas set_pieces sets ++ condition_pieces condition)
 statement_pieces (s.delete table condition) = fixed t.Delete ∷ fixed t.From ∷ name table ∷ condition_pieces condition
 statement_pieces (s.select query order) = query_pieces query ++ orders_pieces order
 statement_pieces (s.begin mode.Serial) = fixed t.Begin ∷ []

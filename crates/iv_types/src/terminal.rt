@@ -1,6 +1,6 @@
 //! The words and marks of the language that have one spelling.
 ghost use Rattle.std.specs.Prelude.{◌≡◌};
-ghost use Rattle.iv_types.specs.Terminals.{number_of, spelling};
+ghost use Rattle.iv_types.specs.Terminals.{spelling};
 
 /// A keyword, which stands in a text in any case, or a mark.
 #[derive(Clone, Copy, Debug, PartialEq, Eq)]
@@ -106,68 +106,6 @@ pub const KEYWORDS: [Terminal; 40] = [
 ];
 
 impl Terminal {
-    /// A number that tells terminals apart.
-    pub fn number(self) -> u32
-        ensures { result ≡ number_of self }
-    {
-        match self {
-            Terminal::And => 0,
-            Terminal::As => 1,
-            Terminal::Asc => 2,
-            Terminal::Begin => 3,
-            Terminal::Between => 4,
-            Terminal::Bound => 5,
-            Terminal::By => 6,
-            Terminal::Commit => 7,
-            Terminal::Count => 8,
-            Terminal::Create => 9,
-            Terminal::Delete => 10,
-            Terminal::Desc => 11,
-            Terminal::From => 12,
-            Terminal::Group => 13,
-            Terminal::Huge => 14,
-            Terminal::Index => 15,
-            Terminal::Indexed => 16,
-            Terminal::Insert => 17,
-            Terminal::Int => 18,
-            Terminal::Into => 19,
-            Terminal::Join => 20,
-            Terminal::Key => 21,
-            Terminal::Not => 22,
-            Terminal::On => 23,
-            Terminal::Or => 24,
-            Terminal::Order => 25,
-            Terminal::Primary => 26,
-            Terminal::Rollback => 27,
-            Terminal::Savepoint => 28,
-            Terminal::Select => 29,
-            Terminal::Set => 30,
-            Terminal::Snapshot => 31,
-            Terminal::Sum => 32,
-            Terminal::Table => 33,
-            Terminal::Text => 34,
-            Terminal::To => 35,
-            Terminal::Update => 36,
-            Terminal::Values => 37,
-            Terminal::View => 38,
-            Terminal::Where => 39,
-            Terminal::Open => 40,
-            Terminal::Close => 41,
-            Terminal::Comma => 42,
-            Terminal::Point => 43,
-            Terminal::Semicolon => 44,
-            Terminal::Star => 45,
-            Terminal::Plus => 46,
-            Terminal::Minus => 47,
-            Terminal::Equal => 48,
-            Terminal::NotEqual => 49,
-            Terminal::Less => 50,
-            Terminal::AtMost => 51,
-            Terminal::Greater => 52,
-            Terminal::AtLeast => 53,
-        }
-    }
-
     /// The terminal as statements are printed with it, keywords in capitals.
     pub fn spelling(self) -> &'static str
         ensures { result.now ≡ spelling self }

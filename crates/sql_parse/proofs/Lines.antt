@@ -5,7 +5,7 @@ use Rattle.std.proofs.lemmas.List.{length-map}
 use Rattle.text_grammar.specs.declared.fault.Cause.{Cause}
 use Rattle.text_grammar.specs.declared.fault.Cause.TheVariants as cause
 use Rattle.text_grammar.specs.declared.fault.Fault.{Fault}
-use Rattle.text_grammar.proofs.Laws.{the_test}
+use Rattle.text_grammar.proofs.Exactness.{the_test}
 use Rattle.text_grammar.proofs.Lines.{line_complete, line_sound, line_fault}
 use Rattle.text_grammar.proofs.Once.{one_fault, no_fault}
 use Rattle.iv_types.specs.declared.refusal.Refusal.{Refusal}
@@ -19,9 +19,10 @@ use Rattle.sql_tokens.specs.declared.token.Token.{Token}
 use Rattle.sql_tokens.specs.View.{placed, symbol_at, symbols_at}
 use Rattle.sql_readers.specs.Statements.{line, whole_line}
 use Rattle.sql_parse.specs.Parsing.{refusal_by, refusal_of}
-use Rattle.sql_readers.proofs.Whole.{on_line, line-exact}
+use Rattle.sql_readers.proofs.GoingOn.{on_line}
+use Rattle.sql_readers.proofs.Whole.{line-exact}
 use Rattle.sql_readers.proofs.Larger.{Raised}
-use Rattle.sql_readers.proofs.Grown.{family}
+use Rattle.sql_readers.proofs.Raising.{family}
 
 symbols_placed : (text : List ℕ) (ts : List Token) → symbols (map (placed text) ts) ≡ symbols_at text ts
 symbols_placed text [] = refl

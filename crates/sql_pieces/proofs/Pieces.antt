@@ -8,7 +8,7 @@ use Rattle.std.proofs.lemmas.Grind.{flat_map-append}
 use Rattle.iv_types.specs.declared.fault.NoMemory.{NoMemory}
 use Rattle.iv_types.specs.declared.terminal.Terminal.TheVariants as t
 use Rattle.iv_types.specs.Syntax as s
-use Rattle.iv_types.specs.Printing.{Piece, fixed, Written, put, write, listed, bare_pieces}
+use Rattle.iv_types.specs.Printing.{Piece, fixed, Written, put, write, with_commas, bare_pieces}
 use Rattle.sql_pieces.specs.Sinks.{Wrote, number_piece}
 
 write-append : (w : Written) (ps qs : List Piece) → write w (ps ++ qs) ≡ write (write w ps) qs
@@ -36,25 +36,25 @@ each_more pieces xs i x lt is h k =
     let last : flat_map pieces (x ∷ []) ≡ pieces x = flat_map-cons pieces x [] ∙ append-nil (pieces x) in
     same_pieces (ap (flat_map pieces) more ∙ flat_map-append pieces (take i xs) (x ∷ []) ∙ ap (λ (t : List Piece). flat_map pieces (take i xs) ++ t) last) (behind h k)
 
-listed_push : {A : Type 0} (pieces : A → List Piece) (xs : List A) (x : A) → 0 < length xs → listed pieces (xs ++ x ∷ []) ≡ listed pieces xs ++ fixed t.Comma ∷ pieces x
+listed_push : {A : Type 0} (pieces : A → List Piece) (xs : List A) (x : A) → 0 < length xs → with_commas pieces (xs ++ x ∷ []) ≡ with_commas pieces xs ++ fixed t.Comma ∷ pieces x
 listed_push pieces [] x h = absurd (omega arith)
 listed_push pieces (y ∷ []) x h = refl
-listed_push pieces (y ∷ z ∷ zs) x h = ap (λ (u : List Piece). pieces y ++ fixed t.Comma ∷ u) (listed_push pieces (z ∷ zs) x (omega arith)) ∙ sym (append_assoc (pieces y) (fixed t.Comma ∷ listed pieces (z ∷ zs)) (fixed t.Comma ∷ pieces x))
+listed_push pieces (y ∷ z ∷ zs) x h = ap (λ (u : List Piece). pieces y ++ fixed t.Comma ∷ u) (listed_push pieces (z ∷ zs) x (omega arith)) ∙ sym (append_assoc (pieces y) (fixed t.Comma ∷ with_commas pieces (z ∷ zs)) (fixed t.Comma ∷ pieces x))
 
-pub listed_more : {S A : Type 0} {holds : S → Written → Type 0} {m : Bool} {a b c : S} {r : Result (Unit {0}) NoMemory} (pieces : A → List Piece) (xs : List A) (i : ℕ) (x : A) → 0 < i → i < length xs → x ≡ get_or xs i x → Wrote holds m a (Ok tt) b (listed pieces (take i xs)) → Wrote holds m b r c (fixed t.Comma ∷ pieces x) → Wrote holds m a r c (listed pieces (take (i + 1) xs))
+pub listed_more : {S A : Type 0} {holds : S → Written → Type 0} {m : Bool} {a b c : S} {r : Result (Unit {0}) NoMemory} (pieces : A → List Piece) (xs : List A) (i : ℕ) (x : A) → 0 < i → i < length xs → x ≡ get_or xs i x → Wrote holds m a (Ok tt) b (with_commas pieces (take i xs)) → Wrote holds m b r c (fixed t.Comma ∷ pieces x) → Wrote holds m a r c (with_commas pieces (take (i + 1) xs))
 listed_more pieces xs i x some lt is h k =
     let more : take (i + 1) xs ≡ take i xs ++ x ∷ [] = take_more xs i x lt ∙ ap (λ (y : _). take i xs ++ y ∷ []) (sym is) in
-    same_pieces (ap (listed pieces) more ∙ listed_push pieces (take i xs) x (omega (arith, length-take i xs))) (behind h k)
+    same_pieces (ap (with_commas pieces) more ∙ listed_push pieces (take i xs) x (omega (arith, length-take i xs))) (behind h k)
 
-pub listed_first : {S A : Type 0} {holds : S → Written → Type 0} {m : Bool} {a b : S} {r : Result (Unit {0}) NoMemory} (pieces : A → List Piece) (xs : List A) (i : ℕ) (x : A) → i ≡ 0 → i < length xs → x ≡ get_or xs i x → Wrote holds m a r b (pieces x) → Wrote holds m a r b (listed pieces (take (i + 1) xs))
+pub listed_first : {S A : Type 0} {holds : S → Written → Type 0} {m : Bool} {a b : S} {r : Result (Unit {0}) NoMemory} (pieces : A → List Piece) (xs : List A) (i : ℕ) (x : A) → i ≡ 0 → i < length xs → x ≡ get_or xs i x → Wrote holds m a r b (pieces x) → Wrote holds m a r b (with_commas pieces (take (i + 1) xs))
 listed_first pieces [] i x none lt is k = absurd (omega arith)
 listed_first pieces (y ∷ xs) i x none lt is k =
     let first : take (i + 1) (y ∷ xs) ≡ y ∷ [] = rw none refl in
     let same : x ≡ y = is ∙ ap (λ (j : ℕ). get_or (y ∷ xs) j x) none in
-    same_pieces (ap (listed pieces) first ∙ ap pieces (sym same)) k
+    same_pieces (ap (with_commas pieces) first ∙ ap pieces (sym same)) k
 
 -- the pieces of a list are those of its parts, each made another way
-pub listed_map : {A B : Type 0} (pieces : B → List Piece) (f : A → B) (xs : List A) → listed pieces (map f xs) ≡ listed (λ x. pieces (f x)) xs
+pub listed_map : {A B : Type 0} (pieces : B → List Piece) (f : A → B) (xs : List A) → with_commas pieces (map f xs) ≡ with_commas (λ x. pieces (f x)) xs
 listed_map pieces f [] = refl
 listed_map pieces f (x ∷ []) = refl
 listed_map pieces f (x ∷ y ∷ ys) = ap (λ (z : List Piece). pieces (f x) ++ fixed t.Comma ∷ z) (listed_map pieces f (y ∷ ys))
@@ -75,8 +75,8 @@ bare_number (negsuc n) = refl
 pub same_start : {S : Type 0} {holds : S → Written → Type 0} {m : Bool} {a c b : S} {r : Result (Unit {0}) NoMemory} {ps : List Piece} → a ≡ c → Wrote holds m a r b ps → Wrote holds m c r b ps
 same_start {holds = holds} {m = m} {b = b} {r = r} {ps = ps} e h = subst (λ (x : _). Wrote holds m x r b ps) e h
 
-pub listed_as : {S A B : Type 0} {holds : S → Written → Type 0} {m : Bool} {a b : S} {r : Result (Unit {0}) NoMemory} (pieces : B → List Piece) (f : A → B) (xs ys : List A) → ys ≡ xs → Wrote holds m a r b (listed (λ x. pieces (f x)) ys) → Wrote holds m a r b (listed pieces (map f xs))
-listed_as pieces f xs ys e h = same_pieces (listed_map pieces f xs ∙ ap (listed (λ x. pieces (f x))) (sym e)) h
+pub listed_as : {S A B : Type 0} {holds : S → Written → Type 0} {m : Bool} {a b : S} {r : Result (Unit {0}) NoMemory} (pieces : B → List Piece) (f : A → B) (xs ys : List A) → ys ≡ xs → Wrote holds m a r b (with_commas (λ x. pieces (f x)) ys) → Wrote holds m a r b (with_commas pieces (map f xs))
+listed_as pieces f xs ys e h = same_pieces (listed_map pieces f xs ∙ ap (with_commas (λ x. pieces (f x))) (sym e)) h
 
 pub each_as : {S A B : Type 0} {holds : S → Written → Type 0} {m : Bool} {a b : S} {r : Result (Unit {0}) NoMemory} (pieces : B → List Piece) (f : A → B) (xs ys : List A) → ys ≡ xs → Wrote holds m a r b (flat_map (λ x. pieces (f x)) ys) → Wrote holds m a r b (flat_map pieces (map f xs))
 each_as pieces f xs ys e h = same_pieces (flat_map_map pieces f xs ∙ ap (flat_map (λ x. pieces (f x))) (sym e)) h

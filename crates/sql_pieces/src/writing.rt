@@ -52,7 +52,7 @@ trait Part {
 
 // Parts with commas between them.
 fn write_listed<T: Part, W: PieceSink>(sink: &mut W, parts: &[T]) -> Result<(), NoMemory>
-    ensures { Wrote W.holds W.takes_memory sink.old result sink.new (printing.listed T.pieces parts.now) }
+    ensures { Wrote W.holds W.takes_memory sink.old result sink.new (printing.with_commas T.pieces parts.now) }
 {
     for (i, part) in parts.iter().enumerate() {
         if i > 0 {
@@ -562,6 +562,7 @@ pub fn write_statement<W: PieceSink>(sink: &mut W, statement: &Statement) -> Res
 // ---- counting
 
 /// Whether this terminal stands without a space behind what comes before it.
+#[tactic(auto, unfolding(iv_types::specs::Terminals::same))]
 pub fn stands_close(terminal: Terminal) -> bool
     ensures { result ≡ is_close (printing.fixed terminal) }
 {
@@ -572,6 +573,7 @@ pub fn stands_close(terminal: Terminal) -> bool
 }
 
 /// Whether what comes behind this terminal stands without a space.
+#[tactic(auto, unfolding(iv_types::specs::Terminals::same))]
 pub fn leaves_tight(terminal: Terminal) -> bool
     ensures { result ≡ is_tight (Some (printing.fixed terminal)) }
 {

@@ -1,6 +1,5 @@
 -- Languages whose values are printed so that they are read again.
-use Rattle.std.proofs.Common.{◌≡◌, ℕ, ◌<◌, true, List, [], ◌∷◌, ◌++◌, length, Option, Some, None, inl, inr, ◌⊎◌, refl, sym, ap, subst, ◌∙◌, append_assoc, arith}
-use Rattle.std.specs.Prelude.{is_some}
+use Rattle.std.proofs.Common.{◌≡◌, ℕ, ◌<◌, List, [], ◌∷◌, ◌++◌, length, Option, Some, None, inl, inr, ◌⊎◌, refl, sym, ap, subst, ◌∙◌, append_assoc, arith}
 use Rattle.std.proofs.lemmas.List.{append-nil}
 use Rattle.text_grammar.specs.Languages.{Lang, Then, Behind, Before, Mapped, Either, Perhaps, Many, Row, fold_left}
 use Rattle.text_grammar.proofs.Rows.{row_one, row_snoc}
@@ -9,9 +8,10 @@ use Rattle.iv_types.specs.declared.terminal.Terminal.TheVariants as t
 use Rattle.iv_types.specs.Tokens.{Symbol, fixed, hole}
 use Rattle.iv_types.specs.Limits.{Limits}
 use Rattle.iv_types.specs.Expressions.{the, AName, AnExpression, AReference}
-use Rattle.iv_types.specs.Grammar.{alone, snoc, Listed, Enclosed, the_hole, an_item, add, Counted, ListedTo}
+use Rattle.iv_types.specs.Grammar.{singleton, snoc, Listed, Enclosed, the_hole, an_item, add, Counted, ListedTo}
+use Rattle.iv_types.proofs.Spellings.{the_value, the_some}
 use Rattle.iv_types.specs.Printing as p
-use Rattle.iv_types.specs.Printing.{Piece, listed, enclosed, name_pieces, ref_pieces, tree_pieces}
+use Rattle.iv_types.specs.Printing.{Piece, with_commas, enclosed, name_pieces, ref_pieces, tree_pieces}
 use Rattle.sql_print.proofs.Printed.{symbols_of_pieces}
 use Rattle.sql_print.proofs.Facts.{AllReal, Real, all_front, all_back, name_facts, reference_facts, expression_facts}
 use Rattle.sql_print.proofs.Fine.{AllFine, fine_append, ref_fine, tree_fine}
@@ -28,11 +28,11 @@ pub as_right : {P Q R : Type 0} → Q × R → (P ⊎ Q) × R
 as_right h = (inr h.0, h.1)
 
 -- a keyword or a mark, and what stands behind it
-pub again_behind : (N : List ℕ → Type 0) (l : Limits) {A : Type 0} (k : Terminal) (q : Lang Symbol A) (pieces : A → List Piece) → is_some (the k (fixed k)) ≡ true → Again N l q pieces → Again N l (Behind (the k) q) (λ x. p.fixed k ∷ pieces x)
-again_behind N l k q pieces is again ts x h all =
+pub again_behind : (N : List ℕ → Type 0) (l : Limits) {A : Type 0} (k : Terminal) (q : Lang Symbol A) (pieces : A → List Piece) → Again N l q pieces → Again N l (Behind (the k) q) (λ x. p.fixed k ∷ pieces x)
+again_behind N l k q pieces again ts x h all =
     let real = subst (AllReal N) h.text all in
     let found = again h.back x h.value real.1 in
-    (record { token = fixed k; back = symbols_of_pieces (pieces x); text = refl; is = is; value = found.0 }, (tt, found.1))
+    (record { token = fixed k; back = symbols_of_pieces (pieces x); text = refl; is = the_some k; value = found.0 }, (tt, found.1))
 
 pub again_then : (N : List ℕ → Type 0) (l : Limits) {A B : Type 0} (p : Lang Symbol A) (q : Lang Symbol B) (f : A → List Piece) (g : B → List Piece) → Again N l p f → Again N l q g → Again N l (Then p q) (λ x. f x.0 ++ g x.1)
 again_then N l p q f g first second ts x h all =
@@ -49,8 +49,8 @@ again_then N l p q f g first second ts x h all =
     (made, fine_append N l (f x.0) (g x.1) one.1 other.1)
 
 -- a value and then a keyword or a mark
-pub again_before : (N : List ℕ → Type 0) (l : Limits) {A : Type 0} (k : Terminal) (q : Lang Symbol A) (f : A → List Piece) → the k (fixed k) ≡ Some tt → Again N l q f → Again N l (Before (the k) q) (λ x. f x ++ p.fixed k ∷ [])
-again_before N l k q f is again ts x h all =
+pub again_before : (N : List ℕ → Type 0) (l : Limits) {A : Type 0} (k : Terminal) (q : Lang Symbol A) (f : A → List Piece) → Again N l q f → Again N l (Before (the k) q) (λ x. f x ++ p.fixed k ∷ [])
+again_before N l k q f again ts x h all =
     let b = h.spelled in
     let real = subst (AllReal N) b.text all in
     let found = subst (λ (y : _). q (symbols_of_pieces (f y)) y × AllFine N l (f y)) (sym h.made) (again b.front h.value.0 b.first (all_front (Real N) b.front b.back real)) in
@@ -61,14 +61,14 @@ again_before N l k q f is again ts x h all =
         back = fixed k ∷ [];
         text = symbols-append (f x) (p.fixed k ∷ []);
         first = found.0;
-        second = record { token = fixed k; text = refl; value = is };
+        second = record { token = fixed k; text = refl; value = the_value k };
       };
       made = refl;
     } in
     (made, fine_append N l (f x) (p.fixed k ∷ []) found.1 (tt, tt))
 
 pub again_enclosed : (N : List ℕ → Type 0) (l : Limits) {A : Type 0} (q : Lang Symbol A) (f : A → List Piece) → Again N l q f → Again N l (Enclosed q) (λ x. enclosed (f x))
-again_enclosed N l q f again = again_behind N l t.Open (Before (the t.Close) q) (λ x. f x ++ p.fixed t.Close ∷ []) refl (again_before N l t.Close q f refl again)
+again_enclosed N l q f again = again_behind N l t.Open (Before (the t.Close) q) (λ x. f x ++ p.fixed t.Close ∷ []) (again_before N l t.Close q f again)
 
 -- a value that is made of another, and printed as that one
 pub again_mapped : (N : List ℕ → Type 0) (l : Limits) {A B : Type 0} (m : A → B) (p : Lang Symbol A) (f : A → List Piece) (g : B → List Piece) → ((x : A) → g (m x) ≡ f x) → Again N l p f → Again N l (Mapped m p) g
@@ -100,10 +100,10 @@ again_expression N l ts e h all = (expression_spelled N l ts e h all, tree_fine 
 
 -- ---- lists
 
-listed_push : {A : Type 0} (f : A → List Piece) (xs : List A) (x : A) → 0 < length xs → listed f (xs ++ x ∷ []) ≡ listed f xs ++ p.fixed t.Comma ∷ f x
+listed_push : {A : Type 0} (f : A → List Piece) (xs : List A) (x : A) → 0 < length xs → with_commas f (xs ++ x ∷ []) ≡ with_commas f xs ++ p.fixed t.Comma ∷ f x
 listed_push f [] x h = absurd (omega arith)
 listed_push f (y ∷ []) x h = refl
-listed_push f (y ∷ z ∷ zs) x h = ap (λ (u : List Piece). f y ++ p.fixed t.Comma ∷ u) (listed_push f (z ∷ zs) x (omega arith)) ∙ sym (append_assoc (f y) (p.fixed t.Comma ∷ listed f (z ∷ zs)) (p.fixed t.Comma ∷ f x))
+listed_push f (y ∷ z ∷ zs) x h = ap (λ (u : List Piece). f y ++ p.fixed t.Comma ∷ u) (listed_push f (z ∷ zs) x (omega arith)) ∙ sym (append_assoc (f y) (p.fixed t.Comma ∷ with_commas f (z ∷ zs)) (p.fixed t.Comma ∷ f x))
 
 some_more : {A : Type 0} (xs : List A) (x : A) → 0 < length (xs ++ x ∷ [])
 some_more [] x = omega arith
@@ -139,10 +139,10 @@ abbrev Some_of : {A : Type 0} → List A → Type 0
 Some_of xs = 0 < length xs
 
 -- one or more with commas between them
-pub again_listed : (N : List ℕ → Type 0) (l : Limits) {A : Type 0} (q : Lang Symbol A) (f : A → List Piece) → Again N l q f → Again N l (Listed q) (listed f)
+pub again_listed : (N : List ℕ → Type 0) (l : Limits) {A : Type 0} (q : Lang Symbol A) (f : A → List Piece) → Again N l q f → Again N l (Listed q) (with_commas f)
 again_listed N l q f again =
-    again_row N l alone snoc q (λ _. Behind (the t.Comma) q) (λ x. p.fixed t.Comma ∷ f x) (listed f) Some_of
-    (λ c b begun. (listed_push f c b begun, some_more c b)) (λ a. omega arith) again (λ c. again_behind N l t.Comma q f refl again)
+    again_row N l singleton snoc q (λ _. Behind (the t.Comma) q) (λ x. p.fixed t.Comma ∷ f x) (with_commas f) Some_of
+    (λ c b begun. (listed_push f c b begun, some_more c b)) (λ a. omega arith) again (λ c. again_behind N l t.Comma q f again)
 
 -- no symbol of a text is a hole
 pub no_counted : (N : List ℕ → Type 0) (l : Limits) {A : Type 0} (have most : ℕ) (q : Lang Symbol A) (ts : List Symbol) → Counted have most q ts None → AllReal N ts → ⊥
@@ -165,14 +165,14 @@ after_comma f (Some x) = p.fixed t.Comma ∷ f x
 
 again_after_comma : (N : List ℕ → Type 0) (l : Limits) {A : Type 0} (have most : ℕ) (q : Lang Symbol A) (f : A → List Piece) → Again N l q f → Again N l (Behind (the t.Comma) (Counted have most q)) (after_comma f)
 again_after_comma N l have most q f again ts None h all = absurd (no_counted N l have most q h.back h.value (subst (AllReal N) h.text all).1)
-again_after_comma N l have most q f again ts (Some x) h all = again_behind N l t.Comma (Counted have most q) (or_nothing f) refl (again_counted N l have most q f again) ts (Some x) h all
+again_after_comma N l have most q f again ts (Some x) h all = again_behind N l t.Comma (Counted have most q) (or_nothing f) (again_counted N l have most q f again) ts (Some x) h all
 
-added_more : {A : Type 0} (f : A → List Piece) (xs : List A) (o : Option A) → Some_of xs → (listed f (add xs o) ≡ listed f xs ++ after_comma f o) × Some_of (add xs o)
-added_more f xs None some = (sym (append-nil (listed f xs)), some)
+added_more : {A : Type 0} (f : A → List Piece) (xs : List A) (o : Option A) → Some_of xs → (with_commas f (add xs o) ≡ with_commas f xs ++ after_comma f o) × Some_of (add xs o)
+added_more f xs None some = (sym (append-nil (with_commas f xs)), some)
 added_more f xs (Some x) some = (listed_push f xs x some, some_more xs x)
 
 -- no more than so many
-pub again_listed_to : (N : List ℕ → Type 0) (l : Limits) {A : Type 0} (most : ℕ) (q : Lang Symbol A) (f : A → List Piece) → Again N l q f → Again N l (ListedTo most q) (listed f)
+pub again_listed_to : (N : List ℕ → Type 0) (l : Limits) {A : Type 0} (most : ℕ) (q : Lang Symbol A) (f : A → List Piece) → Again N l q f → Again N l (ListedTo most q) (with_commas f)
 again_listed_to N l most q f again =
-    again_row N l alone add q (λ have. Behind (the t.Comma) (Counted (length have) most q)) (after_comma f) (listed f) Some_of
+    again_row N l singleton add q (λ have. Behind (the t.Comma) (Counted (length have) most q)) (after_comma f) (with_commas f) Some_of
     (added_more f) (λ x. omega arith) again (λ c. again_after_comma N l (length c) most q f again)

@@ -1,16 +1,15 @@
 -- What a derivation says of the expression that it derives.
-use Rattle.std.proofs.Common.{◌≡◌, ℕ, zero, suc, ◌-◌, ◌<◌, ◌≤◌, Bool, true, false, pos, negsuc, List, [], ◌∷◌, ◌++◌, length, Option, Some, None, inl, inr, refl, sym, subst, arith}
-use Rattle.std.specs.Prelude.{nat_lt, if◌then◌else◌}
+use Rattle.std.proofs.Common.{◌≡◌, ℕ, zero, suc, ◌≤◌, Bool, true, false, pos, negsuc, List, [], ◌∷◌, ◌++◌, length, Option, Some, None, inl, inr, refl, sym, subst, arith}
+use Rattle.std.specs.Prelude.{if◌then◌else◌}
 use Rattle.std.specs.List.{AllByRecursion}
-use Rattle.std.proofs.lemmas.Bool.Decides.{nat_tests}
-use Rattle.text_grammar.specs.Languages.{Lang, One, Behind, Before, Mapped, Many, Perhaps, fold_left}
+use Rattle.text_grammar.specs.Languages.{Lang, One, Then, Behind, Before, Mapped, Many, Perhaps, fold_left}
 use Rattle.iv_types.specs.declared.terminal.Terminal.TheVariants as t
 use Rattle.iv_types.specs.declared.expression.Op.{Op}
 use Rattle.iv_types.specs.declared.expression.Op.TheVariants as op
 use Rattle.iv_types.specs.declared.expression.Ref.{Ref}
 use Rattle.iv_types.specs.Tokens.{Symbol, fixed, name, number, text, hole}
 use Rattle.iv_types.specs.Limits.{Limits, allows}
-use Rattle.iv_types.specs.Expressions.{the, name_in, number_in, text_in, or_op, and_op, comparison_op, sum_op, product_op, operations, Spent, joined, Operand, Chain, Nested, AName, ref_of, negative, compared, AReference, Signed, Unary, Negated, Product, Sum, Comparison, Negation, Conjunction, Disjunction, nested, AnExpression}
+use Rattle.iv_types.specs.Expressions.{the, name_in, number_in, text_in, or_op, and_op, comparison_op, sum_op, product_op, paired, Chain, Nested, AName, ref_of, negative, compared, AReference, Signed, Unary, Negated, Product, Sum, Comparison, Negation, Conjunction, Disjunction, nested, AnExpression}
 use Rattle.iv_types.specs.Syntax as s
 use Rattle.iv_types.specs.Syntax.{Tree}
 use Rattle.iv_types.specs.Printing.{operator_rank, left_place, right_place}
@@ -46,10 +45,9 @@ TreeFits N l (s.minus e) = TreeFits N l e
 TreeFits N l (s.not e) = TreeFits N l e
 TreeFits N l (s.pair o a b) = TreeFits N l a × TreeFits N l b
 
--- what printing needs of an expression at a place, in so many levels and with so many operations
-pub record Facts (N : List ℕ → Type 0) (l : Limits) (n b p : ℕ) (e : Tree) : Type 0 where
+-- what printing needs of an expression at a place, in so many levels
+pub record Facts (N : List ℕ → Type 0) (l : Limits) (n p : ℕ) (e : Tree) : Type 0 where
   pub fits : TreeFits N l e
-  pub spent : operations e ≤ b
   pub deep : levels p e ≤ n
 
 -- ---- symbols
@@ -130,45 +128,38 @@ product_places _ o h = absurd cc
 
 -- ---- the ladder
 
-looser_facts : {N : List ℕ → Type 0} {l : Limits} {n b : ℕ} {e : Tree} (p : ℕ) → Facts N l n b (suc p) e → Facts N l n b p e
-looser_facts {e = e} p h = record { fits = h.fits; spent = h.spent; deep = omega (arith, h.deep, looser_levels p e) }
+looser_facts : {N : List ℕ → Type 0} {l : Limits} {n : ℕ} {e : Tree} (p : ℕ) → Facts N l n (suc p) e → Facts N l n p e
+looser_facts {e = e} p h = record { fits = h.fits; deep = omega (arith, h.deep, looser_levels p e) }
 
-below : (a b : ℕ) → nat_lt a b ≡ true → a < b
-below a b h = grind (arith, nat_tests)
+pair_facts : (N : List ℕ → Type 0) (l : Limits) (n p q r : ℕ) (a : Tree) (o : Op) (y : Tree) → Places p q r o → Facts N l n q a → Facts N l n r y → Facts N l n p (s.pair o a y)
+pair_facts N l n p q r a o y places fa fy = record {
+  fits = (fa.fits, fy.fits);
+  deep = pair_levels n p o a y places.0 (subst (λ (x : ℕ). levels x a ≤ n) (sym places.1) fa.deep) (subst (λ (x : ℕ). levels x y ≤ n) (sym places.2) fy.deep);
+}
 
-pair_facts : (N : List ℕ → Type 0) (l : Limits) (n b p q r : ℕ) (a : Tree) (o : Op) (y : Tree) → Places p q r o → nat_lt (operations a) b ≡ true → Facts N l n b q a → Facts N l n (b - suc (operations a)) r y → Facts N l n b p (s.pair o a y)
-pair_facts N l n b p q r a o y places some fa fy =
-    let lt = below (operations a) b some in
-    record {
-      fits = (fa.fits, fy.fits);
-      spent = omega (arith, fy.spent, lt);
-      deep = pair_levels n p o a y places.0 (subst (λ (x : ℕ). levels x a ≤ n) (sym places.1) fa.deep) (subst (λ (x : ℕ). levels x y ≤ n) (sym places.2) fy.deep);
-    }
+-- what stands at a place has its facts
+abbrev Told : (List ℕ → Type 0) → Limits → ℕ → ℕ → Lang Symbol Tree → Type 0
+Told N l n p lang = (ts : List Symbol) (e : Tree) → lang ts e → AllReal N ts → Facts N l n p e
 
--- what stands at a place, in each number of operations, has its facts
-abbrev Told : (List ℕ → Type 0) → Limits → ℕ → ℕ → (ℕ → Lang Symbol Tree) → Type 0
-Told N l n p lang = (b : ℕ) (ts : List Symbol) (e : Tree) → lang b ts e → AllReal N ts → Facts N l n b p e
-
-operand_facts : (N : List ℕ → Type 0) (l : Limits) (n b p q r : ℕ) (pick : Symbol → Option Op) (lang : ℕ → Lang Symbol Tree) (places : (symbol : Symbol) (o : Op) → pick symbol ≡ Some o → Places p q r o) (told : Told N l n r lang) (a : Tree) (x : Op × Tree) (ts : List Symbol) → Facts N l n b q a → Operand pick lang b a ts x → AllReal N ts → Facts N l n b p (joined a x)
-operand_facts N l n b p q r pick lang places told a x ts fa h all =
-    let both = h.1 in
-    let real = subst (AllReal N) both.text all in
-    pair_facts N l n b p q r a x.0 x.1 (places both.first.token x.0 both.first.value) h.0 fa (told (b - suc (operations a)) both.back x.1 both.second (all_back (Real N) both.front both.back real))
-
-many_facts : (N : List ℕ → Type 0) (l : Limits) (n b p : ℕ) (pick : Symbol → Option Op) (lang : ℕ → Lang Symbol Tree) (places : (symbol : Symbol) (o : Op) → pick symbol ≡ Some o → Places p p (suc p) o) (told : Told N l n (suc p) lang) (a : Tree) (xs : List (Op × Tree)) (ts : List Symbol) → Facts N l n b p a → Many joined (Operand pick lang b) a ts xs → AllReal N ts → Facts N l n b p (fold_left joined a xs)
-many_facts N l n b p pick lang places told a [] ts fa h all = fa
-many_facts N l n b p pick lang places told a (x ∷ xs) ts fa h all =
+operand_facts : (N : List ℕ → Type 0) (l : Limits) (n p q r : ℕ) (pick : Symbol → Option Op) (lang : Lang Symbol Tree) (places : (symbol : Symbol) (o : Op) → pick symbol ≡ Some o → Places p q r o) (told : Told N l n r lang) (a : Tree) (x : Op × Tree) (ts : List Symbol) → Facts N l n q a → Then (One pick) lang ts x → AllReal N ts → Facts N l n p (paired a x)
+operand_facts N l n p q r pick lang places told a x ts fa h all =
     let real = subst (AllReal N) h.text all in
-    many_facts N l n b p pick lang places told (joined a x) xs h.back
-    (operand_facts N l n b p p (suc p) pick lang places told a x h.front fa h.first (all_front (Real N) h.front h.back real))
+    pair_facts N l n p q r a x.0 x.1 (places h.first.token x.0 h.first.value) fa (told h.back x.1 h.second (all_back (Real N) h.front h.back real))
+
+many_facts : (N : List ℕ → Type 0) (l : Limits) (n p : ℕ) (pick : Symbol → Option Op) (lang : Lang Symbol Tree) (places : (symbol : Symbol) (o : Op) → pick symbol ≡ Some o → Places p p (suc p) o) (told : Told N l n (suc p) lang) (a : Tree) (xs : List (Op × Tree)) (ts : List Symbol) → Facts N l n p a → Many paired (λ _. Then (One pick) lang) a ts xs → AllReal N ts → Facts N l n p (fold_left paired a xs)
+many_facts N l n p pick lang places told a [] ts fa h all = fa
+many_facts N l n p pick lang places told a (x ∷ xs) ts fa h all =
+    let real = subst (AllReal N) h.text all in
+    many_facts N l n p pick lang places told (paired a x) xs h.back
+    (operand_facts N l n p p (suc p) pick lang places told a x h.front fa h.first (all_front (Real N) h.front h.back real))
     h.second (all_back (Real N) h.front h.back real)
 
-chain_facts : (N : List ℕ → Type 0) (l : Limits) (n p : ℕ) (pick : Symbol → Option Op) (lang : ℕ → Lang Symbol Tree) (places : (symbol : Symbol) (o : Op) → pick symbol ≡ Some o → Places p p (suc p) o) → Told N l n (suc p) lang → Told N l n p (Chain pick lang)
-chain_facts N l n p pick lang places told b ts e h all =
+chain_facts : (N : List ℕ → Type 0) (l : Limits) (n p : ℕ) (pick : Symbol → Option Op) (lang : Lang Symbol Tree) (places : (symbol : Symbol) (o : Op) → pick symbol ≡ Some o → Places p p (suc p) o) → Told N l n (suc p) lang → Told N l n p (Chain pick lang)
+chain_facts N l n p pick lang places told ts e h all =
     let k = h.spelled in
     let real = subst (AllReal N) k.text all in
-    subst (Facts N l n b p) (sym h.made) (many_facts N l n b p pick lang places told h.value.0 h.value.1 k.back
-    (looser_facts p (told b k.front h.value.0 k.first (all_front (Real N) k.front k.back real))) k.second (all_back (Real N) k.front k.back real))
+    subst (Facts N l n p) (sym h.made) (many_facts N l n p pick lang places told h.value.0 h.value.1 k.back
+    (looser_facts p (told k.front h.value.0 k.first (all_front (Real N) k.front k.back real))) k.second (all_back (Real N) k.front k.back real))
 
 -- what is known one level of nesting further in
 pub record Inside (N : List ℕ → Type 0) (l : Limits) (n : ℕ) (nest : Nested) : Type 0 where
@@ -189,15 +180,15 @@ reference_facts N l ts ref h all =
 
 signed_facts : (N : List ℕ → Type 0) (l : Limits) (n : ℕ) (nest : Nested) → Inside N l n nest → Told N l n 7 (Signed l nest)
 unfolding Signed
-signed_facts N l n nest inside b ts e (inl h) all = inside.minus b ts e h all
-signed_facts N l n nest inside b ts e (inr (inl h)) all = inside.group b ts e h all
-signed_facts N l n nest inside b ts e (inr (inr (inl h))) all = subst (Facts N l n b 7) (sym h.made) (record { fits = text_facts l ts h.value h.spelled; spent = omega arith; deep = omega arith })
-signed_facts N l n nest inside b ts e (inr (inr (inr h))) all = subst (Facts N l n b 7) (sym h.made) (record { fits = reference_facts N l ts h.value h.spelled all; spent = omega arith; deep = omega arith })
+signed_facts N l n nest inside ts e (inl h) all = inside.minus ts e h all
+signed_facts N l n nest inside ts e (inr (inl h)) all = inside.group ts e h all
+signed_facts N l n nest inside ts e (inr (inr (inl h))) all = subst (Facts N l n 7) (sym h.made) (record { fits = text_facts l ts h.value h.spelled; deep = omega arith })
+signed_facts N l n nest inside ts e (inr (inr (inr h))) all = subst (Facts N l n 7) (sym h.made) (record { fits = reference_facts N l ts h.value h.spelled all; deep = omega arith })
 
 unary_facts : (N : List ℕ → Type 0) (l : Limits) (n : ℕ) (nest : Nested) → Inside N l n nest → Told N l n 6 (Unary l nest)
 unfolding Unary
-unary_facts N l n nest inside b ts e (inl h) all = subst (Facts N l n b 6) (sym h.made) (record { fits = number_facts l ts h.value h.spelled; spent = omega arith; deep = omega arith })
-unary_facts N l n nest inside b ts e (inr h) all = looser_facts 6 (signed_facts N l n nest inside b ts e h all)
+unary_facts N l n nest inside ts e (inl h) all = subst (Facts N l n 6) (sym h.made) (record { fits = number_facts l ts h.value h.spelled; deep = omega arith })
+unary_facts N l n nest inside ts e (inr h) all = looser_facts 6 (signed_facts N l n nest inside ts e h all)
 
 product_facts : (N : List ℕ → Type 0) (l : Limits) (n : ℕ) (nest : Nested) → Inside N l n nest → Told N l n 5 (Product l nest)
 unfolding Product
@@ -207,21 +198,21 @@ sum_facts : (N : List ℕ → Type 0) (l : Limits) (n : ℕ) (nest : Nested) →
 unfolding Sum
 sum_facts N l n nest inside = chain_facts N l n 4 sum_op (Product l nest) sum_places (product_facts N l n nest inside)
 
-compared_facts : (N : List ℕ → Type 0) (l : Limits) (n : ℕ) (nest : Nested) → Inside N l n nest → (b : ℕ) (a : Tree) (o : Option (Op × Tree)) (ts : List Symbol) → Facts N l n b 4 a → Perhaps (Operand comparison_op (Sum l nest) b a) ts o → AllReal N ts → Facts N l n b 3 (compared (a, o))
-compared_facts N l n nest inside b a None ts fa h all = looser_facts 3 fa
-compared_facts N l n nest inside b a (Some x) ts fa h all = operand_facts N l n b 3 4 4 comparison_op (Sum l nest) comparison_places (sum_facts N l n nest inside) a x ts fa h all
+compared_facts : (N : List ℕ → Type 0) (l : Limits) (n : ℕ) (nest : Nested) → Inside N l n nest → (a : Tree) (o : Option (Op × Tree)) (ts : List Symbol) → Facts N l n 4 a → Perhaps (Then (One comparison_op) (Sum l nest)) ts o → AllReal N ts → Facts N l n 3 (compared (a, o))
+compared_facts N l n nest inside a None ts fa h all = looser_facts 3 fa
+compared_facts N l n nest inside a (Some x) ts fa h all = operand_facts N l n 3 4 4 comparison_op (Sum l nest) comparison_places (sum_facts N l n nest inside) a x ts fa h all
 
 comparison_facts : (N : List ℕ → Type 0) (l : Limits) (n : ℕ) (nest : Nested) → Inside N l n nest → Told N l n 3 (Comparison l nest)
 unfolding Comparison
-comparison_facts N l n nest inside b ts e h all =
+comparison_facts N l n nest inside ts e h all =
     let k = h.spelled in
     let real = subst (AllReal N) k.text all in
-    subst (Facts N l n b 3) (sym h.made) (compared_facts N l n nest inside b h.value.0 h.value.1 k.back (sum_facts N l n nest inside b k.front h.value.0 k.first (all_front (Real N) k.front k.back real)) k.second (all_back (Real N) k.front k.back real))
+    subst (Facts N l n 3) (sym h.made) (compared_facts N l n nest inside h.value.0 h.value.1 k.back (sum_facts N l n nest inside k.front h.value.0 k.first (all_front (Real N) k.front k.back real)) k.second (all_back (Real N) k.front k.back real))
 
 negation_facts : (N : List ℕ → Type 0) (l : Limits) (n : ℕ) (nest : Nested) → Inside N l n nest → Told N l n 2 (Negation l nest)
 unfolding Negation
-negation_facts N l n nest inside b ts e (inl h) all = inside.inversion b ts e h all
-negation_facts N l n nest inside b ts e (inr h) all = looser_facts 2 (comparison_facts N l n nest inside b ts e h all)
+negation_facts N l n nest inside ts e (inl h) all = inside.inversion ts e h all
+negation_facts N l n nest inside ts e (inr h) all = looser_facts 2 (comparison_facts N l n nest inside ts e h all)
 
 conjunction_facts : (N : List ℕ → Type 0) (l : Limits) (n : ℕ) (nest : Nested) → Inside N l n nest → Told N l n 1 (Conjunction l nest)
 unfolding Conjunction
@@ -234,39 +225,37 @@ disjunction_facts N l n nest inside = chain_facts N l n 0 or_op (Conjunction l n
 -- ---- one level of nesting further in
 
 -- the minus of a number makes a negative literal, but for 0
-negative_facts : (N : List ℕ → Type 0) (l : Limits) (n b v : ℕ) → allows l.number_value v ≡ true → Facts N l (suc n) b 7 (negative v)
-negative_facts N l n b zero h = record { fits = h; spent = omega arith; deep = omega arith }
-negative_facts N l n b (suc v) h = record { fits = h; spent = omega arith; deep = omega arith }
+negative_facts : (N : List ℕ → Type 0) (l : Limits) (n v : ℕ) → allows l.number_value v ≡ true → Facts N l (suc n) 7 (negative v)
+negative_facts N l n zero h = record { fits = h; deep = omega arith }
+negative_facts N l n (suc v) h = record { fits = h; deep = omega arith }
 
 negated_facts : (N : List ℕ → Type 0) (l : Limits) (n : ℕ) (nest : Nested) → Inside N l n nest → Told N l (suc n) 7 (Negated l nest)
 unfolding Negated
-negated_facts N l n nest inside b ts e (inl h) all = subst (Facts N l (suc n) b 7) (sym h.made) (negative_facts N l n b h.value (number_facts l ts h.value h.spelled))
-negated_facts N l n nest inside zero ts e (inr h) all = absurd h
-negated_facts N l n nest inside (suc c) ts e (inr h) all =
-    let f = signed_facts N l n nest inside c ts h.value h.spelled all in
-    subst (Facts N l (suc n) (suc c) 7) (sym h.made) (record { fits = f.fits; spent = omega (arith, f.spent); deep = omega (arith, f.deep) })
+negated_facts N l n nest inside ts e (inl h) all = subst (Facts N l (suc n) 7) (sym h.made) (negative_facts N l n h.value (number_facts l ts h.value h.spelled))
+negated_facts N l n nest inside ts e (inr h) all =
+    let f = signed_facts N l n nest inside ts h.value h.spelled all in
+    subst (Facts N l (suc n) 7) (sym h.made) (record { fits = f.fits; deep = omega (arith, f.deep) })
 
-group_told : (N : List ℕ → Type 0) (l : Limits) (n : ℕ) (nest : Nested) → Inside N l n nest → Told N l (suc n) 7 (λ b. Behind (the t.Open) (Before (the t.Close) (Disjunction l nest b)))
-group_told N l n nest inside b ts e h all =
+group_told : (N : List ℕ → Type 0) (l : Limits) (n : ℕ) (nest : Nested) → Inside N l n nest → Told N l (suc n) 7 (Behind (the t.Open) (Before (the t.Close) (Disjunction l nest)))
+group_told N l n nest inside ts e h all =
     let real = subst (AllReal N) h.text all in
     let k = h.value.spelled in
     let within = subst (AllReal N) k.text real.1 in
-    let f = disjunction_facts N l n nest inside b k.front h.value.value.0 k.first (all_front (Real N) k.front k.back within) in
-    subst (Facts N l (suc n) b 7) (sym h.value.made) (record { fits = f.fits; spent = f.spent; deep = enclosed_levels 7 n h.value.value.0 f.deep })
+    let f = disjunction_facts N l n nest inside k.front h.value.value.0 k.first (all_front (Real N) k.front k.back within) in
+    subst (Facts N l (suc n) 7) (sym h.value.made) (record { fits = f.fits; deep = enclosed_levels 7 n h.value.value.0 f.deep })
 
-minus_told : (N : List ℕ → Type 0) (l : Limits) (n : ℕ) (nest : Nested) → Inside N l n nest → Told N l (suc n) 7 (λ b. Behind (the t.Minus) (Negated l nest b))
-minus_told N l n nest inside b ts e h all = let real = subst (AllReal N) h.text all in negated_facts N l n nest inside b h.back e h.value real.1
+minus_told : (N : List ℕ → Type 0) (l : Limits) (n : ℕ) (nest : Nested) → Inside N l n nest → Told N l (suc n) 7 (Behind (the t.Minus) (Negated l nest))
+minus_told N l n nest inside ts e h all = let real = subst (AllReal N) h.text all in negated_facts N l n nest inside h.back e h.value real.1
 
-inversion_told : (N : List ℕ → Type 0) (l : Limits) (n : ℕ) (nest : Nested) → Inside N l n nest → Told N l (suc n) 2 (Spent (λ c. Behind (the t.Not) (Mapped s.not (Negation l nest c))))
-inversion_told N l n nest inside zero ts e h all = absurd h
-inversion_told N l n nest inside (suc c) ts e h all =
+inversion_told : (N : List ℕ → Type 0) (l : Limits) (n : ℕ) (nest : Nested) → Inside N l n nest → Told N l (suc n) 2 (Behind (the t.Not) (Mapped s.not (Negation l nest)))
+inversion_told N l n nest inside ts e h all =
     let real = subst (AllReal N) h.text all in
-    let f = negation_facts N l n nest inside c h.back h.value.value h.value.spelled real.1 in
-    subst (Facts N l (suc n) (suc c) 2) (sym h.value.made) (record { fits = f.fits; spent = omega (arith, f.spent); deep = omega (arith, f.deep) })
+    let f = negation_facts N l n nest inside h.back h.value.value h.value.spelled real.1 in
+    subst (Facts N l (suc n) 2) (sym h.value.made) (record { fits = f.fits; deep = omega (arith, f.deep) })
 
 inside_told : (N : List ℕ → Type 0) (l : Limits) (n : ℕ) → Inside N l n (nested l n)
 unfolding nested
-inside_told N l zero = record { group = λ b ts e h all. absurd h; minus = λ b ts e h all. absurd h; inversion = λ b ts e h all. absurd h }
+inside_told N l zero = record { group = λ ts e h all. absurd h; minus = λ ts e h all. absurd h; inversion = λ ts e h all. absurd h }
 inside_told N l (suc n) = record {
   group = group_told N l n (nested l n) (inside_told N l n);
   minus = minus_told N l n (nested l n) (inside_told N l n);
@@ -274,6 +263,6 @@ inside_told N l (suc n) = record {
 }
 
 -- what every derivation of an expression says
-pub expression_facts : (N : List ℕ → Type 0) (l : Limits) (ts : List Symbol) (e : Tree) → AnExpression l ts e → AllReal N ts → Facts N l l.nesting l.operations 0 e
+pub expression_facts : (N : List ℕ → Type 0) (l : Limits) (ts : List Symbol) (e : Tree) → AnExpression l ts e → AllReal N ts → Facts N l l.nesting 0 e
 unfolding AnExpression
-expression_facts N l ts e h all = disjunction_facts N l l.nesting (nested l l.nesting) (inside_told N l l.nesting) l.operations ts e h all
+expression_facts N l ts e h all = disjunction_facts N l l.nesting (nested l l.nesting) (inside_told N l l.nesting) ts e h.0 all

@@ -10,7 +10,7 @@ use Rattle.std.proofs.lemmas.List.Concat.{flat_map-cons}
 use Rattle.std.proofs.lemmas.Str.Parse.{IsNumeralModel, numerals_by_fold}
 use Rattle.iv_types.specs.declared.terminal.Terminal.{Terminal}
 use Rattle.iv_types.specs.declared.terminal.Terminal.TheVariants as t
-use Rattle.iv_types.specs.Terminals.{number_of, spelling}
+use Rattle.iv_types.specs.Terminals.{same, spelling}
 use Rattle.iv_types.specs.Tokens.{Symbol, fixed, number, text, is_in_name, value_of, value_onto, tokens_from, tokens, symbols}
 use Rattle.iv_types.specs.Limits.{the_limits}
 use Rattle.iv_types.specs.Printing as p
@@ -65,13 +65,15 @@ never [] = refl
 never (b ∷ bytes) = refl
 
 -- nothing makes a longer token of an opening parenthesis or a point
-none_longer : (k : Terminal) (bytes : List ℕ) → (number_of k == number_of t.Open || number_of k == number_of t.Point) ≡ true → goes_on_with (lengthens k) bytes ≡ false
+none_longer : (k : Terminal) (bytes : List ℕ) → (same k t.Open || same k t.Point) ≡ true → goes_on_with (lengthens k) bytes ≡ false
+unfolding same
 none_longer t.Open bytes h = never bytes
 none_longer t.Point bytes h = never bytes
 none_longer _ bytes h = absurd cc
 
 -- what stands tight behind a piece makes no longer token of it
-tight_mark : (q : Piece) (k : Terminal) (more : List ℕ) → ((number_of k == number_of t.Close || number_of k == number_of t.Comma) || number_of k == number_of t.Point) ≡ true → goes_on_with (longer q) (spelling k ++ more) ≡ false
+tight_mark : (q : Piece) (k : Terminal) (more : List ℕ) → ((same k t.Close || same k t.Comma) || same k t.Point) ≡ true → goes_on_with (longer q) (spelling k ++ more) ≡ false
+unfolding same
 tight_mark q t.Close more h = (quiet q).1
 tight_mark q t.Comma more h = (quiet q).2
 tight_mark q t.Point more h = (quiet q).3

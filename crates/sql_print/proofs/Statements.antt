@@ -1,6 +1,6 @@
 -- What is printed of a statement is in the grammar.
 use Rattle.std.proofs.Common.{◌≡◌, ℕ, suc, ◌<◌, arith, length-append, Bool, true, false, List, [], ◌∷◌, ◌++◌, length, drop, Option, Some, None, inl, inr, refl, sym, ap, subst, ◌∙◌, append_assoc}
-use Rattle.std.specs.Prelude.{is_some, if◌then◌else◌}
+use Rattle.std.specs.Prelude.{if◌then◌else◌}
 use Rattle.std.specs.List.{flat_map}
 use Rattle.std.proofs.lemmas.List.{append-nil}
 use Rattle.std.proofs.lemmas.List.Concat.{flat_map-cons}
@@ -18,9 +18,10 @@ use Rattle.iv_types.specs.Limits.{Limits}
 use Rattle.iv_types.specs.Syntax as s
 use Rattle.iv_types.specs.Syntax.{Tree, JoinTree, ItemTree, QueryTree, SetTree, StatementTree}
 use Rattle.iv_types.specs.Expressions.{the, AName, ANumber, AReference, AnExpression}
-use Rattle.iv_types.specs.Grammar.{alone, snoc, Listed, Enclosed, Names, kind_of, column_of, AColumn, TableBody, table_of, ATable, index_of, AnIndex, AnAlias, sum_of, plain_of, all_of, AnItem, Items, relation_of, ASource, join_of, AJoin, Counted, Sources, first_source, with_join, From, or_none, AGrouping, query_of, AQuery, view_of, AView, ACreation, place_key, name_key, order_of, or_rising, direction_of, AnOrder, selection_of, ASelection, begin_of, commit_of, AStatement, ALine, ATuple, Tuples, insertion_of, AnInsertion, set_of, AnAssignment, update_of, AnUpdate, ACondition, deletion_of, ADeletion, AControl}
+use Rattle.iv_types.specs.Grammar.{singleton, snoc, Listed, Enclosed, Names, kind_of, column_of, AColumn, TableBody, table_of, ATable, index_of, AnIndex, AnAlias, sum_of, plain_of, all_of, AnItem, Items, relation_of, ASource, join_of, AJoin, Counted, Sources, first_source, with_join, From, or_none, AGrouping, query_of, AQuery, view_of, AView, ACreation, place_key, name_key, order_of, or_rising, direction_of, AnOrder, selection_of, ASelection, begin_of, commit_of, AStatement, ALine, ATuple, Tuples, insertion_of, AnInsertion, set_of, AnAssignment, update_of, AnUpdate, ACondition, deletion_of, ADeletion, AControl}
+use Rattle.iv_types.proofs.Spellings.{the_value}
 use Rattle.iv_types.specs.Printing as p
-use Rattle.iv_types.specs.Printing.{Piece, listed, enclosed, name_pieces, names_pieces, ref_pieces, tree_pieces, kind_mark, column_pieces, alias_pieces, item_pieces, relation_pieces, join_pieces, group_pieces, query_pieces, key_pieces, order_pieces, orders_pieces, perhaps_pieces, condition_pieces, set_pieces, tuple_pieces, statement_pieces}
+use Rattle.iv_types.specs.Printing.{Piece, with_commas, enclosed, name_pieces, names_pieces, ref_pieces, tree_pieces, kind_mark, column_pieces, alias_pieces, item_pieces, relation_pieces, join_pieces, group_pieces, query_pieces, key_pieces, order_pieces, orders_pieces, perhaps_pieces, condition_pieces, set_pieces, tuple_pieces, statement_pieces}
 use Rattle.sql_print.proofs.Printed.{symbols_of_pieces}
 use Rattle.sql_print.proofs.Facts.{AllReal, Real, all_front, number_facts}
 use Rattle.sql_print.proofs.Fine.{AllFine}
@@ -32,21 +33,21 @@ use Rattle.sql_print.proofs.Again.{Again, again_behind, again_then, again_before
 pub again_same : (N : List ℕ → Type 0) (l : Limits) {A : Type 0} (q : Lang Symbol A) (f g : A → List Piece) → ((ts : List Symbol) (x : A) → q ts x → g x ≡ f x) → Again N l q f → Again N l q g
 again_same N l q f g same again ts x h all = subst (λ (ps : List Piece). q (symbols_of_pieces ps) x × AllFine N l ps) (sym (same ts x h)) (again ts x h all)
 
-names_again : (N : List ℕ → Type 0) (l : Limits) → Again N l (Names l) (listed name_pieces)
+names_again : (N : List ℕ → Type 0) (l : Limits) → Again N l (Names l) (with_commas name_pieces)
 unfolding Names
 names_again N l = again_listed N l (AName l) name_pieces (again_name N l)
 
 in_parentheses : (N : List ℕ → Type 0) (l : Limits) → Again N l (Enclosed (Names l)) names_pieces
-in_parentheses N l = again_enclosed N l (Names l) (listed name_pieces) (names_again N l)
+in_parentheses N l = again_enclosed N l (Names l) (with_commas name_pieces) (names_again N l)
 
 pub alias_again : (N : List ℕ → Type 0) (l : Limits) → Again N l (AnAlias l) alias_pieces
 alias_again N l ts None h all = (refl, tt)
-alias_again N l ts (Some w) h all = again_behind N l t.As (AName l) name_pieces refl (again_name N l) ts w h all
+alias_again N l ts (Some w) h all = again_behind N l t.As (AName l) name_pieces (again_name N l) ts w h all
 
 pub condition_again : (N : List ℕ → Type 0) (l : Limits) → Again N l (ACondition l) condition_pieces
 unfolding ACondition
 condition_again N l ts None h all = (refl, tt)
-condition_again N l ts (Some e) h all = again_behind N l t.Where (AnExpression l) (tree_pieces 0) refl (again_expression N l) ts e h all
+condition_again N l ts (Some e) h all = again_behind N l t.Where (AnExpression l) (tree_pieces 0) (again_expression N l) ts e h all
 
 abbrev kind_pieces : Kind → List Piece
 kind_pieces k = p.fixed (kind_mark k) ∷ []
@@ -63,15 +64,15 @@ column_again : (N : List ℕ → Type 0) (l : Limits) → Again N l (AColumn l) 
 unfolding AColumn
 column_again N l =
     let both = Then (AName l) (One kind_of) in
-    again_before N l t.Comma (Mapped column_of both) (λ (c : ColumnDef). p.name c.name ∷ p.fixed (kind_mark c.kind) ∷ []) refl
+    again_before N l t.Comma (Mapped column_of both) (λ (c : ColumnDef). p.name c.name ∷ p.fixed (kind_mark c.kind) ∷ [])
     (again_mapped N l column_of both (λ x. name_pieces x.0 ++ kind_pieces x.1) (λ (c : ColumnDef). p.name c.name ∷ p.fixed (kind_mark c.kind) ∷ []) (λ x. refl) (again_then N l (AName l) (One kind_of) name_pieces kind_pieces (again_name N l) (kind_again N l)))
 
 column_more : (columns : List ColumnDef) (c : ColumnDef) → flat_map column_pieces (columns ++ c ∷ []) ≡ flat_map column_pieces columns ++ column_pieces c
 column_more columns c = flat_map-append column_pieces columns (c ∷ []) ∙ ap (λ (ps : List Piece). flat_map column_pieces columns ++ ps) (flat_map-cons column_pieces c [] ∙ append-nil (column_pieces c))
 
-columns_again : (N : List ℕ → Type 0) (l : Limits) → Again N l (Row alone snoc (AColumn l) (λ _. AColumn l)) (flat_map column_pieces)
+columns_again : (N : List ℕ → Type 0) (l : Limits) → Again N l (Row singleton snoc (AColumn l) (λ _. AColumn l)) (flat_map column_pieces)
 columns_again N l =
-    again_row N l alone snoc (AColumn l) (λ _. AColumn l) column_pieces (flat_map column_pieces) (λ _. Unit {0}) (λ c b begun. (column_more c b, tt)) (λ a. tt)
+    again_row N l singleton snoc (AColumn l) (λ _. AColumn l) column_pieces (flat_map column_pieces) (λ _. Unit {0}) (λ c b begun. (column_more c b, tt)) (λ a. tt)
     (again_same N l (AColumn l) column_pieces (λ c. flat_map column_pieces (c ∷ [])) (λ ts c h. flat_map-cons column_pieces c [] ∙ append-nil (column_pieces c)) (column_again N l)) (λ c. column_again N l)
 
 abbrev key_part : List (List ℕ) → List Piece
@@ -80,8 +81,8 @@ key_part primary = p.fixed t.Primary ∷ p.fixed t.Key ∷ names_pieces primary
 body_again : (N : List ℕ → Type 0) (l : Limits) → Again N l (TableBody l) (λ x. flat_map column_pieces x.0 ++ key_part x.1)
 unfolding TableBody
 body_again N l =
-    again_then N l (Row alone snoc (AColumn l) (λ _. AColumn l)) (Behind (the t.Primary) (Behind (the t.Key) (Enclosed (Names l)))) (flat_map column_pieces) key_part (columns_again N l)
-    (again_behind N l t.Primary (Behind (the t.Key) (Enclosed (Names l))) (λ x. p.fixed t.Key ∷ names_pieces x) refl (again_behind N l t.Key (Enclosed (Names l)) names_pieces refl (in_parentheses N l)))
+    again_then N l (Row singleton snoc (AColumn l) (λ _. AColumn l)) (Behind (the t.Primary) (Behind (the t.Key) (Enclosed (Names l)))) (flat_map column_pieces) key_part (columns_again N l)
+    (again_behind N l t.Primary (Behind (the t.Key) (Enclosed (Names l))) (λ x. p.fixed t.Key ∷ names_pieces x) (again_behind N l t.Key (Enclosed (Names l)) names_pieces (in_parentheses N l)))
 
 -- behind the first words of a statement
 abbrev pub behind_words : ℕ → StatementTree → List Piece
@@ -93,7 +94,7 @@ table_again N l =
     let body = Enclosed (TableBody l) in
     let both = Then (AName l) body in
     again_same N l (ATable l) (λ x. p.fixed t.Table ∷ behind_words 2 x) (behind_words 1) (λ ts x h. rw h.value.made refl)
-    (again_behind N l t.Table (Mapped table_of both) (behind_words 2) refl
+    (again_behind N l t.Table (Mapped table_of both) (behind_words 2)
     (again_mapped N l table_of both (λ x. name_pieces x.0 ++ enclosed (flat_map column_pieces x.1.0 ++ key_part x.1.1)) (behind_words 2) (λ x. refl)
     (again_then N l (AName l) body name_pieces (λ x. enclosed (flat_map column_pieces x.0 ++ key_part x.1)) (again_name N l) (again_enclosed N l (TableBody l) (λ x. flat_map column_pieces x.0 ++ key_part x.1) (body_again N l)))))
 
@@ -104,18 +105,18 @@ index_again N l =
     let table = Then (AName l) names in
     let both = Then (AName l) (Behind (the t.On) table) in
     again_same N l (AnIndex l) (λ x. p.fixed t.Index ∷ behind_words 2 x) (behind_words 1) (λ ts x h. rw h.value.made refl)
-    (again_behind N l t.Index (Mapped index_of both) (behind_words 2) refl
+    (again_behind N l t.Index (Mapped index_of both) (behind_words 2)
     (again_mapped N l index_of both (λ x. name_pieces x.0 ++ p.fixed t.On ∷ (name_pieces x.1.0 ++ names_pieces x.1.1)) (behind_words 2) (λ x. refl)
     (again_then N l (AName l) (Behind (the t.On) table) name_pieces (λ x. p.fixed t.On ∷ (name_pieces x.0 ++ names_pieces x.1)) (again_name N l)
-    (again_behind N l t.On table (λ x. name_pieces x.0 ++ names_pieces x.1) refl (again_then N l (AName l) names name_pieces names_pieces (again_name N l) (in_parentheses N l))))))
+    (again_behind N l t.On table (λ x. name_pieces x.0 ++ names_pieces x.1) (again_then N l (AName l) names name_pieces names_pieces (again_name N l) (in_parentheses N l))))))
 
 -- ---- rows
 
 tuple_again : (N : List ℕ → Type 0) (l : Limits) → Again N l (ATuple l) tuple_pieces
 unfolding ATuple
-tuple_again N l = again_enclosed N l (Listed (AnExpression l)) (listed (tree_pieces 0)) (again_listed N l (AnExpression l) (tree_pieces 0) (again_expression N l))
+tuple_again N l = again_enclosed N l (Listed (AnExpression l)) (with_commas (tree_pieces 0)) (again_listed N l (AnExpression l) (tree_pieces 0) (again_expression N l))
 
-tuples_again : (N : List ℕ → Type 0) (l : Limits) → Again N l (Tuples l) (listed tuple_pieces)
+tuples_again : (N : List ℕ → Type 0) (l : Limits) → Again N l (Tuples l) (with_commas tuple_pieces)
 unfolding Tuples
 tuples_again N l = again_listed_to N l l.rows (ATuple l) tuple_pieces (tuple_again N l)
 
@@ -125,10 +126,10 @@ insertion_again N l =
     let rows = Behind (the t.Values) (Tuples l) in
     let both = Then (AName l) rows in
     again_same N l (AnInsertion l) (λ x. p.fixed t.Insert ∷ p.fixed t.Into ∷ behind_words 2 x) statement_pieces (λ ts x h. rw h.value.value.made refl)
-    (again_behind N l t.Insert (Behind (the t.Into) (Mapped insertion_of both)) (λ x. p.fixed t.Into ∷ behind_words 2 x) refl
-    (again_behind N l t.Into (Mapped insertion_of both) (behind_words 2) refl
-    (again_mapped N l insertion_of both (λ x. name_pieces x.0 ++ p.fixed t.Values ∷ listed tuple_pieces x.1) (behind_words 2) (λ x. refl)
-    (again_then N l (AName l) rows name_pieces (λ x. p.fixed t.Values ∷ listed tuple_pieces x) (again_name N l) (again_behind N l t.Values (Tuples l) (listed tuple_pieces) refl (tuples_again N l))))))
+    (again_behind N l t.Insert (Behind (the t.Into) (Mapped insertion_of both)) (λ x. p.fixed t.Into ∷ behind_words 2 x)
+    (again_behind N l t.Into (Mapped insertion_of both) (behind_words 2)
+    (again_mapped N l insertion_of both (λ x. name_pieces x.0 ++ p.fixed t.Values ∷ with_commas tuple_pieces x.1) (behind_words 2) (λ x. refl)
+    (again_then N l (AName l) rows name_pieces (λ x. p.fixed t.Values ∷ with_commas tuple_pieces x) (again_name N l) (again_behind N l t.Values (Tuples l) (with_commas tuple_pieces) (tuples_again N l))))))
 
 assignment_again : (N : List ℕ → Type 0) (l : Limits) → Again N l (AnAssignment l) set_pieces
 unfolding AnAssignment
@@ -136,15 +137,15 @@ assignment_again N l =
     let value = Behind (the t.Equal) (AnExpression l) in
     let both = Then (AName l) value in
     again_mapped N l set_of both (λ x. name_pieces x.0 ++ p.fixed t.Equal ∷ tree_pieces 0 x.1) set_pieces (λ x. refl)
-    (again_then N l (AName l) value name_pieces (λ e. p.fixed t.Equal ∷ tree_pieces 0 e) (again_name N l) (again_behind N l t.Equal (AnExpression l) (tree_pieces 0) refl (again_expression N l)))
+    (again_then N l (AName l) value name_pieces (λ e. p.fixed t.Equal ∷ tree_pieces 0 e) (again_name N l) (again_behind N l t.Equal (AnExpression l) (tree_pieces 0) (again_expression N l)))
 
 pub deletion_again : (N : List ℕ → Type 0) (l : Limits) → Again N l (ADeletion l) statement_pieces
 unfolding ADeletion
 deletion_again N l =
     let both = Then (AName l) (ACondition l) in
     again_same N l (ADeletion l) (λ x. p.fixed t.Delete ∷ p.fixed t.From ∷ behind_words 2 x) statement_pieces (λ ts x h. rw h.value.value.made refl)
-    (again_behind N l t.Delete (Behind (the t.From) (Mapped deletion_of both)) (λ x. p.fixed t.From ∷ behind_words 2 x) refl
-    (again_behind N l t.From (Mapped deletion_of both) (behind_words 2) refl
+    (again_behind N l t.Delete (Behind (the t.From) (Mapped deletion_of both)) (λ x. p.fixed t.From ∷ behind_words 2 x)
+    (again_behind N l t.From (Mapped deletion_of both) (behind_words 2)
     (again_mapped N l deletion_of both (λ x. name_pieces x.0 ++ condition_pieces x.1) (behind_words 2) (λ x. refl)
     (again_then N l (AName l) (ACondition l) name_pieces condition_pieces (again_name N l) (condition_again N l)))))
 
@@ -154,16 +155,16 @@ update_again N l =
     let rest = Then (Listed (AnAssignment l)) (ACondition l) in
     let both = Then (AName l) (Behind (the t.Set) rest) in
     again_same N l (AnUpdate l) (λ x. p.fixed t.Update ∷ behind_words 1 x) statement_pieces (λ ts x h. rw h.value.made refl)
-    (again_behind N l t.Update (Mapped update_of both) (behind_words 1) refl
-    (again_mapped N l update_of both (λ x. name_pieces x.0 ++ p.fixed t.Set ∷ (listed set_pieces x.1.0 ++ condition_pieces x.1.1)) (behind_words 1) (λ x. refl)
-    (again_then N l (AName l) (Behind (the t.Set) rest) name_pieces (λ x. p.fixed t.Set ∷ (listed set_pieces x.0 ++ condition_pieces x.1)) (again_name N l)
-    (again_behind N l t.Set rest (λ x. listed set_pieces x.0 ++ condition_pieces x.1) refl
-    (again_then N l (Listed (AnAssignment l)) (ACondition l) (listed set_pieces) condition_pieces (again_listed N l (AnAssignment l) set_pieces (assignment_again N l)) (condition_again N l))))))
+    (again_behind N l t.Update (Mapped update_of both) (behind_words 1)
+    (again_mapped N l update_of both (λ x. name_pieces x.0 ++ p.fixed t.Set ∷ (with_commas set_pieces x.1.0 ++ condition_pieces x.1.1)) (behind_words 1) (λ x. refl)
+    (again_then N l (AName l) (Behind (the t.Set) rest) name_pieces (λ x. p.fixed t.Set ∷ (with_commas set_pieces x.0 ++ condition_pieces x.1)) (again_name N l)
+    (again_behind N l t.Set rest (λ x. with_commas set_pieces x.0 ++ condition_pieces x.1)
+    (again_then N l (Listed (AnAssignment l)) (ACondition l) (with_commas set_pieces) condition_pieces (again_listed N l (AnAssignment l) set_pieces (assignment_again N l)) (condition_again N l))))))
 
 -- ---- queries
 
 star_again : (N : List ℕ → Type 0) (l : Limits) → Again N l (One (the t.Star)) (λ _. p.fixed t.Star ∷ [])
-star_again N l ts x h all = (record { token = fixed t.Star; text = refl; value = refl }, (tt, tt))
+star_again N l ts x h all = (record { token = fixed t.Star; text = refl; value = the_value t.Star }, (tt, tt))
 
 abbrev behind_item : ℕ → ItemTree → List Piece
 behind_item n item = drop n (item_pieces item)
@@ -172,16 +173,16 @@ count_again : (N : List ℕ → Type 0) (l : Limits) → Again N l (Behind (the 
 count_again N l =
     let alias = Mapped s.count (AnAlias l) in
     again_same N l (Behind (the t.Count) (Behind (the t.Open) (Behind (the t.Star) (Behind (the t.Close) alias)))) (λ x. p.fixed t.Count ∷ p.fixed t.Open ∷ p.fixed t.Star ∷ p.fixed t.Close ∷ behind_item 4 x) item_pieces (λ ts x h. rw h.value.value.value.value.made refl)
-    (again_behind N l t.Count (Behind (the t.Open) (Behind (the t.Star) (Behind (the t.Close) alias))) (λ x. p.fixed t.Open ∷ p.fixed t.Star ∷ p.fixed t.Close ∷ behind_item 4 x) refl
-    (again_behind N l t.Open (Behind (the t.Star) (Behind (the t.Close) alias)) (λ x. p.fixed t.Star ∷ p.fixed t.Close ∷ behind_item 4 x) refl
-    (again_behind N l t.Star (Behind (the t.Close) alias) (λ x. p.fixed t.Close ∷ behind_item 4 x) refl
-    (again_behind N l t.Close alias (behind_item 4) refl (again_mapped N l s.count (AnAlias l) alias_pieces (behind_item 4) (λ x. refl) (alias_again N l))))))
+    (again_behind N l t.Count (Behind (the t.Open) (Behind (the t.Star) (Behind (the t.Close) alias))) (λ x. p.fixed t.Open ∷ p.fixed t.Star ∷ p.fixed t.Close ∷ behind_item 4 x)
+    (again_behind N l t.Open (Behind (the t.Star) (Behind (the t.Close) alias)) (λ x. p.fixed t.Star ∷ p.fixed t.Close ∷ behind_item 4 x)
+    (again_behind N l t.Star (Behind (the t.Close) alias) (λ x. p.fixed t.Close ∷ behind_item 4 x)
+    (again_behind N l t.Close alias (behind_item 4) (again_mapped N l s.count (AnAlias l) alias_pieces (behind_item 4) (λ x. refl) (alias_again N l))))))
 
 sum_again : (N : List ℕ → Type 0) (l : Limits) → Again N l (Behind (the t.Sum) (Mapped sum_of (Then (Enclosed (AReference l)) (AnAlias l)))) item_pieces
 sum_again N l =
     let both = Then (Enclosed (AReference l)) (AnAlias l) in
     again_same N l (Behind (the t.Sum) (Mapped sum_of both)) (λ x. p.fixed t.Sum ∷ behind_item 1 x) item_pieces (λ ts x h. rw h.value.made refl)
-    (again_behind N l t.Sum (Mapped sum_of both) (behind_item 1) refl
+    (again_behind N l t.Sum (Mapped sum_of both) (behind_item 1)
     (again_mapped N l sum_of both (λ x. enclosed (ref_pieces x.0) ++ alias_pieces x.1) (behind_item 1) (λ x. refl)
     (again_then N l (Enclosed (AReference l)) (AnAlias l) (λ x. enclosed (ref_pieces x)) alias_pieces (again_enclosed N l (AReference l) ref_pieces (again_reference N l)) (alias_again N l))))
 
@@ -194,7 +195,7 @@ item_again N l ts x (inr (inr (inr h))) all =
     as_right (as_right (as_right (again_mapped N l plain_of (Then (AnExpression l) (AnAlias l)) (λ y. tree_pieces 0 y.0 ++ alias_pieces y.1) item_pieces (λ y. refl)
     (again_then N l (AnExpression l) (AnAlias l) (tree_pieces 0) alias_pieces (again_expression N l) (alias_again N l)) ts x h all)))
 
-items_again : (N : List ℕ → Type 0) (l : Limits) → Again N l (Items l) (listed item_pieces)
+items_again : (N : List ℕ → Type 0) (l : Limits) → Again N l (Items l) (with_commas item_pieces)
 unfolding Items
 items_again N l = again_listed_to N l l.items (AnItem l) item_pieces (item_again N l)
 
@@ -228,7 +229,7 @@ joined_again : (N : List ℕ → Type 0) (l : Limits) (have : ℕ) → Again N l
 joined_again N l have ts (None, e) h all = absurd (no_counted N l have l.relations (ASource l) h.front h.first (all_front (Real N) h.front h.back (subst (AllReal N) h.text all)))
 joined_again N l have ts (Some r, e) h all =
     again_then N l (Counted have l.relations (ASource l)) (Behind (the t.On) (AnExpression l)) (or_nothing relation_pieces) on_pieces
-    (again_counted N l have l.relations (ASource l) relation_pieces (source_again N l)) (again_behind N l t.On (AnExpression l) (tree_pieces 0) refl (again_expression N l)) ts (Some r, e) h all
+    (again_counted N l have l.relations (ASource l) relation_pieces (source_again N l)) (again_behind N l t.On (AnExpression l) (tree_pieces 0) (again_expression N l)) ts (Some r, e) h all
 
 no_join : (N : List ℕ → Type 0) (l : Limits) (have : ℕ) (ts : List Symbol) (x : Option Relation × Tree) → Joined l have ts x → AllReal N ts → None ≡ join_of x → ⊥
 no_join N l have ts (None, e) h all made = no_counted N l have l.relations (ASource l) h.front h.first (all_front (Real N) h.front h.back (subst (AllReal N) h.text all))
@@ -238,7 +239,7 @@ join_again : (N : List ℕ → Type 0) (l : Limits) (have : ℕ) → Again N l (
 unfolding AJoin
 join_again N l have ts None h all = absurd (no_join N l have h.back h.value.value h.value.spelled (subst (AllReal N) h.text all).1 h.value.made)
 join_again N l have ts (Some j) h all =
-    again_behind N l t.Join (Mapped join_of (Joined l have)) behind_join refl (again_mapped N l join_of (Joined l have) joined_pieces behind_join joined_same (joined_again N l have)) ts (Some j) h all
+    again_behind N l t.Join (Mapped join_of (Joined l have)) behind_join (again_mapped N l join_of (Joined l have) joined_pieces behind_join joined_same (joined_again N l have)) ts (Some j) h all
 
 abbrev sources_pieces : Sources → List Piece
 sources_pieces f = relation_pieces f.0 ++ flat_map join_pieces f.1
@@ -260,7 +261,7 @@ many_some acc [] h = h
 many_some acc (x ∷ xs) h = many_some (snoc acc x) xs (omega (arith, length-append acc (x ∷ [])))
 
 listed_some : {A : Type 0} (q : Lang Symbol A) (ts : List Symbol) (xs : List A) → Listed q ts xs → 0 < length xs
-listed_some q ts xs h = subst (λ (ys : List _). 0 < length ys) (sym h.made) (many_some (alone h.value.0) h.value.1 (omega arith))
+listed_some q ts xs h = subst (λ (ys : List _). 0 < length ys) (sym h.made) (many_some (singleton h.value.0) h.value.1 (omega arith))
 
 none_listed : {A : Type 0} (q : Lang Symbol A) (ts : List Symbol) → Listed q ts [] → ⊥
 none_listed q ts h = let some : 0 < 0 = listed_some q ts [] h in omega arith
@@ -268,13 +269,13 @@ none_listed q ts h = let some : 0 < 0 = listed_some q ts [] h in omega arith
 -- where there are some, they stand behind two words
 abbrev two_words : {A : Type 0} → Terminal → Terminal → (A → List Piece) → List A → List Piece
 two_words j k f [] = []
-two_words j k f (x ∷ xs) = p.fixed j ∷ p.fixed k ∷ listed f (x ∷ xs)
+two_words j k f (x ∷ xs) = p.fixed j ∷ p.fixed k ∷ with_commas f (x ∷ xs)
 
-words_again : (N : List ℕ → Type 0) (l : Limits) {A : Type 0} (j k : Terminal) (q : Lang Symbol A) (f : A → List Piece) → is_some (the j (fixed j)) ≡ true → is_some (the k (fixed k)) ≡ true → Again N l q f → (o : Option (List A)) (ts : List Symbol) → Perhaps (Behind (the j) (Behind (the k) (Listed q))) ts o → AllReal N ts → Perhaps (Behind (the j) (Behind (the k) (Listed q))) (symbols_of_pieces (two_words j k f (or_none o))) o × AllFine N l (two_words j k f (or_none o))
-words_again N l j k q f one two again None ts h all = (refl, tt)
-words_again N l j k q f one two again (Some []) ts h all = absurd (none_listed q h.value.back h.value.value)
-words_again N l j k q f one two again (Some (x ∷ xs)) ts h all =
-    again_behind N l j (Behind (the k) (Listed q)) (λ ys. p.fixed k ∷ listed f ys) one (again_behind N l k (Listed q) (listed f) two (again_listed N l q f again)) ts (x ∷ xs) h all
+words_again : (N : List ℕ → Type 0) (l : Limits) {A : Type 0} (j k : Terminal) (q : Lang Symbol A) (f : A → List Piece) → Again N l q f → (o : Option (List A)) (ts : List Symbol) → Perhaps (Behind (the j) (Behind (the k) (Listed q))) ts o → AllReal N ts → Perhaps (Behind (the j) (Behind (the k) (Listed q))) (symbols_of_pieces (two_words j k f (or_none o))) o × AllFine N l (two_words j k f (or_none o))
+words_again N l j k q f again None ts h all = (refl, tt)
+words_again N l j k q f again (Some []) ts h all = absurd (none_listed q h.value.back h.value.value)
+words_again N l j k q f again (Some (x ∷ xs)) ts h all =
+    again_behind N l j (Behind (the k) (Listed q)) (λ ys. p.fixed k ∷ with_commas f ys) (again_behind N l k (Listed q) (with_commas f) (again_listed N l q f again)) ts (x ∷ xs) h all
 
 group_same : (refs : List Ref) → group_pieces refs ≡ two_words t.Group t.By ref_pieces refs
 group_same [] = refl
@@ -283,13 +284,13 @@ group_same (ref ∷ refs) = refl
 grouping_again : (N : List ℕ → Type 0) (l : Limits) → Again N l (AGrouping l) group_pieces
 unfolding AGrouping
 grouping_again N l ts x h all =
-    let found = words_again N l t.Group t.By (AReference l) ref_pieces refl refl (again_reference N l) h.value ts h.spelled all in
+    let found = words_again N l t.Group t.By (AReference l) ref_pieces (again_reference N l) h.value ts h.spelled all in
     let pieces : group_pieces x ≡ two_words t.Group t.By ref_pieces (or_none h.value) = group_same x ∙ ap (two_words t.Group t.By ref_pieces) h.made in
     let moved = subst (λ (ps : List Piece). Perhaps (Behind (the t.Group) (Behind (the t.By) (Listed (AReference l)))) (symbols_of_pieces ps) h.value × AllFine N l ps) (sym pieces) found in
     (record { value = h.value; spelled = moved.0; made = h.made }, moved.1)
 
-query_more : (x : List ItemTree × (Sources × (Option Tree × List Ref))) → query_pieces (query_of x) ≡ p.fixed t.Select ∷ (listed item_pieces x.0 ++ p.fixed t.From ∷ (sources_pieces x.1.0 ++ (condition_pieces x.1.1.0 ++ group_pieces x.1.1.1)))
-query_more x = ap (λ (ps : List Piece). p.fixed t.Select ∷ (listed item_pieces x.0 ++ p.fixed t.From ∷ ps)) (sym (append_assoc (relation_pieces x.1.0.0) (flat_map join_pieces x.1.0.1) (condition_pieces x.1.1.0 ++ group_pieces x.1.1.1)))
+query_more : (x : List ItemTree × (Sources × (Option Tree × List Ref))) → query_pieces (query_of x) ≡ p.fixed t.Select ∷ (with_commas item_pieces x.0 ++ p.fixed t.From ∷ (sources_pieces x.1.0 ++ (condition_pieces x.1.1.0 ++ group_pieces x.1.1.1)))
+query_more x = ap (λ (ps : List Piece). p.fixed t.Select ∷ (with_commas item_pieces x.0 ++ p.fixed t.From ∷ ps)) (sym (append_assoc (relation_pieces x.1.0.0) (flat_map join_pieces x.1.0.1) (condition_pieces x.1.1.0 ++ group_pieces x.1.1.1)))
 
 query_again : (N : List ℕ → Type 0) (l : Limits) → Again N l (AQuery l) query_pieces
 unfolding AQuery
@@ -298,10 +299,10 @@ query_again N l =
     let rest = Then (From l) ends in
     let all = Then (Items l) (Behind (the t.From) rest) in
     again_same N l (AQuery l) (λ q. p.fixed t.Select ∷ drop 1 (query_pieces q)) query_pieces (λ ts q h. refl)
-    (again_behind N l t.Select (Mapped query_of all) (λ q. drop 1 (query_pieces q)) refl
-    (again_mapped N l query_of all (λ x. listed item_pieces x.0 ++ p.fixed t.From ∷ (sources_pieces x.1.0 ++ (condition_pieces x.1.1.0 ++ group_pieces x.1.1.1))) (λ q. drop 1 (query_pieces q)) (λ x. ap (drop 1) (query_more x))
-    (again_then N l (Items l) (Behind (the t.From) rest) (listed item_pieces) (λ x. p.fixed t.From ∷ (sources_pieces x.0 ++ (condition_pieces x.1.0 ++ group_pieces x.1.1))) (items_again N l)
-    (again_behind N l t.From rest (λ x. sources_pieces x.0 ++ (condition_pieces x.1.0 ++ group_pieces x.1.1)) refl
+    (again_behind N l t.Select (Mapped query_of all) (λ q. drop 1 (query_pieces q))
+    (again_mapped N l query_of all (λ x. with_commas item_pieces x.0 ++ p.fixed t.From ∷ (sources_pieces x.1.0 ++ (condition_pieces x.1.1.0 ++ group_pieces x.1.1.1))) (λ q. drop 1 (query_pieces q)) (λ x. ap (drop 1) (query_more x))
+    (again_then N l (Items l) (Behind (the t.From) rest) (with_commas item_pieces) (λ x. p.fixed t.From ∷ (sources_pieces x.0 ++ (condition_pieces x.1.0 ++ group_pieces x.1.1))) (items_again N l)
+    (again_behind N l t.From rest (λ x. sources_pieces x.0 ++ (condition_pieces x.1.0 ++ group_pieces x.1.1))
     (again_then N l (From l) ends sources_pieces (λ x. condition_pieces x.0 ++ group_pieces x.1) (from_again N l)
     (again_then N l (ACondition l) (AGrouping l) condition_pieces group_pieces (condition_again N l) (grouping_again N l)))))))
 
@@ -311,10 +312,10 @@ view_again N l =
     let query = Behind (the t.As) (AQuery l) in
     let both = Then (AName l) query in
     again_same N l (AView l) (λ x. p.fixed t.Indexed ∷ p.fixed t.View ∷ behind_words 3 x) (behind_words 1) (λ ts x h. rw h.value.value.made refl)
-    (again_behind N l t.Indexed (Behind (the t.View) (Mapped view_of both)) (λ x. p.fixed t.View ∷ behind_words 3 x) refl
-    (again_behind N l t.View (Mapped view_of both) (behind_words 3) refl
+    (again_behind N l t.Indexed (Behind (the t.View) (Mapped view_of both)) (λ x. p.fixed t.View ∷ behind_words 3 x)
+    (again_behind N l t.View (Mapped view_of both) (behind_words 3)
     (again_mapped N l view_of both (λ x. name_pieces x.0 ++ p.fixed t.As ∷ query_pieces x.1) (behind_words 3) (λ x. refl)
-    (again_then N l (AName l) query name_pieces (λ x. p.fixed t.As ∷ query_pieces x) (again_name N l) (again_behind N l t.As (AQuery l) query_pieces refl (query_again N l))))))
+    (again_then N l (AName l) query name_pieces (λ x. p.fixed t.As ∷ query_pieces x) (again_name N l) (again_behind N l t.As (AQuery l) query_pieces (query_again N l))))))
 
 -- a statement that makes a table, an index or a view
 created : (l : Limits) (ts : List Symbol) (x : StatementTree) → ACreation l ts x → statement_pieces x ≡ p.fixed t.Create ∷ behind_words 1 x
@@ -332,7 +333,7 @@ unfolding ACreation
 creation_again N l =
     let kinds = Either (ATable l) (Either (AnIndex l) (AView l)) in
     again_same N l (ACreation l) (λ x. p.fixed t.Create ∷ behind_words 1 x) statement_pieces (created l)
-    (again_behind N l t.Create kinds (behind_words 1) refl (again_either N l (ATable l) (Either (AnIndex l) (AView l)) (behind_words 1) (table_again N l) (again_either N l (AnIndex l) (AView l) (behind_words 1) (index_again N l) (view_again N l))))
+    (again_behind N l t.Create kinds (behind_words 1) (again_either N l (ATable l) (Either (AnIndex l) (AView l)) (behind_words 1) (table_again N l) (again_either N l (AnIndex l) (AView l) (behind_words 1) (index_again N l) (view_again N l))))
 
 -- ---- ORDER BY
 
@@ -366,7 +367,7 @@ orders_same (order ∷ orders) = refl
 
 orders_again : (N : List ℕ → Type 0) (l : Limits) → Again N l (Mapped or_none (Perhaps (Behind (the t.Order) (Behind (the t.By) (Listed (AnOrder l)))))) orders_pieces
 orders_again N l ts x h all =
-    let found = words_again N l t.Order t.By (AnOrder l) order_pieces refl refl (order_again N l) h.value ts h.spelled all in
+    let found = words_again N l t.Order t.By (AnOrder l) order_pieces (order_again N l) h.value ts h.spelled all in
     let pieces : orders_pieces x ≡ two_words t.Order t.By order_pieces (or_none h.value) = orders_same x ∙ ap (two_words t.Order t.By order_pieces) h.made in
     let moved = subst (λ (ps : List Piece). Perhaps (Behind (the t.Order) (Behind (the t.By) (Listed (AnOrder l)))) (symbols_of_pieces ps) h.value × AllFine N l ps) (sym pieces) found in
     (record { value = h.value; spelled = moved.0; made = h.made }, moved.1)
@@ -385,7 +386,7 @@ begin_same (Some x) = refl
 
 mode_of : (N : List ℕ → Type 0) (l : Limits) (o : Option (Unit {0})) → Mapped begin_of (Perhaps (One (the t.Snapshot))) (symbols_of_pieces (behind_words 1 (begin_of o))) (begin_of o) × AllFine N l (behind_words 1 (begin_of o))
 mode_of N l None = (record { value = None; spelled = refl; made = refl }, tt)
-mode_of N l (Some x) = (record { value = Some x; spelled = record { token = fixed t.Snapshot; text = refl; value = refl }; made = refl }, (tt, tt))
+mode_of N l (Some x) = (record { value = Some x; spelled = record { token = fixed t.Snapshot; text = refl; value = the_value t.Snapshot }; made = refl }, (tt, tt))
 
 mode_again : (N : List ℕ → Type 0) (l : Limits) → Again N l (Mapped begin_of (Perhaps (One (the t.Snapshot)))) (behind_words 1)
 mode_again N l ts x h all =
@@ -393,27 +394,27 @@ mode_again N l ts x h all =
 
 to_again : (N : List ℕ → Type 0) (l : Limits) → Again N l (Perhaps (Behind (the t.To) (AName l))) (perhaps_pieces t.To name_pieces)
 to_again N l ts None h all = (refl, tt)
-to_again N l ts (Some w) h all = again_behind N l t.To (AName l) name_pieces refl (again_name N l) ts w h all
+to_again N l ts (Some w) h all = again_behind N l t.To (AName l) name_pieces (again_name N l) ts w h all
 
 begin_again : (N : List ℕ → Type 0) (l : Limits) → Again N l (Behind (the t.Begin) (Mapped begin_of (Perhaps (One (the t.Snapshot))))) statement_pieces
 begin_again N l =
     let mode = Mapped begin_of (Perhaps (One (the t.Snapshot))) in
     again_same N l (Behind (the t.Begin) mode) (λ x. p.fixed t.Begin ∷ behind_words 1 x) statement_pieces (λ ts x h. rw h.value.made (begin_same h.value.value))
-    (again_behind N l t.Begin mode (behind_words 1) refl (mode_again N l))
+    (again_behind N l t.Begin mode (behind_words 1) (mode_again N l))
 
 commit_again : (N : List ℕ → Type 0) (l : Limits) → Again N l (Mapped commit_of (One (the t.Commit))) statement_pieces
-commit_again N l = again_mapped N l commit_of (One (the t.Commit)) (λ _. p.fixed t.Commit ∷ []) statement_pieces (λ x. refl) (λ ts x h all. (record { token = fixed t.Commit; text = refl; value = refl }, (tt, tt)))
+commit_again N l = again_mapped N l commit_of (One (the t.Commit)) (λ _. p.fixed t.Commit ∷ []) statement_pieces (λ x. refl) (λ ts x h all. (record { token = fixed t.Commit; text = refl; value = the_value t.Commit }, (tt, tt)))
 
 rollback_again : (N : List ℕ → Type 0) (l : Limits) → Again N l (Behind (the t.Rollback) (Mapped s.rollback (Perhaps (Behind (the t.To) (AName l))))) statement_pieces
 rollback_again N l =
     let to = Perhaps (Behind (the t.To) (AName l)) in
     again_same N l (Behind (the t.Rollback) (Mapped s.rollback to)) (λ x. p.fixed t.Rollback ∷ behind_words 1 x) statement_pieces (λ ts x h. rw h.value.made refl)
-    (again_behind N l t.Rollback (Mapped s.rollback to) (behind_words 1) refl (again_mapped N l s.rollback to (perhaps_pieces t.To name_pieces) (behind_words 1) (λ x. refl) (to_again N l)))
+    (again_behind N l t.Rollback (Mapped s.rollback to) (behind_words 1) (again_mapped N l s.rollback to (perhaps_pieces t.To name_pieces) (behind_words 1) (λ x. refl) (to_again N l)))
 
 savepoint_again : (N : List ℕ → Type 0) (l : Limits) → Again N l (Behind (the t.Savepoint) (Mapped s.savepoint (AName l))) statement_pieces
 savepoint_again N l =
     again_same N l (Behind (the t.Savepoint) (Mapped s.savepoint (AName l))) (λ x. p.fixed t.Savepoint ∷ behind_words 1 x) statement_pieces (λ ts x h. rw h.value.made refl)
-    (again_behind N l t.Savepoint (Mapped s.savepoint (AName l)) (behind_words 1) refl (again_mapped N l s.savepoint (AName l) name_pieces (behind_words 1) (λ x. refl) (again_name N l)))
+    (again_behind N l t.Savepoint (Mapped s.savepoint (AName l)) (behind_words 1) (again_mapped N l s.savepoint (AName l) name_pieces (behind_words 1) (λ x. refl) (again_name N l)))
 
 control_again : (N : List ℕ → Type 0) (l : Limits) → Again N l (AControl l) statement_pieces
 unfolding AControl

@@ -1,32 +1,31 @@
 -- Kinds of tokens that are apart.
-use Rattle.std.proofs.Common.{◌≡◌, ℕ, Bool, true, false, cond, Option, Some, None, refl, ap, ◌∙◌, arith}
-use Rattle.std.specs.Prelude.{is_some, ◌==◌, ◌||◌}
+use Rattle.std.proofs.Common.{◌≡◌, ℕ, List, Bool, true, false, cond, Option, Some, None, refl, ap, ◌∙◌}
+use Rattle.std.specs.Prelude.{is_some, ◌||◌}
+use Rattle.std.specs.Str.{bytes_eq}
+use Rattle.iv_types.proofs.Spellings.{same_alike}
 use Rattle.text_grammar.specs.Readers.{is}
 use Rattle.iv_types.specs.declared.terminal.Terminal.{Terminal}
 use Rattle.iv_types.specs.declared.terminal.Terminal.TheVariants as t
-use Rattle.iv_types.specs.Terminals.{number_of}
+use Rattle.iv_types.specs.Terminals.{spelling, same}
 use Rattle.iv_types.specs.Tokens.{Symbol, fixed, name, number, text}
 use Rattle.iv_types.specs.Expressions.{the, name_in, number_in, text_in, or_op, and_op, comparison_op, sum_op, product_op}
 use Rattle.sql_readers.specs.Ladder.{is_name, is_number, is_text}
 
 -- ---- keywords and marks
 
-same_number : (a b : ℕ) → is_some (cond (a == b) (Some (tt {0})) None) ≡ true → a ≡ b
-same_number a b h = grind arith
+some_of : {A : Type 0} (b : Bool) (a : A) → is_some (cond b (Some a) None) ≡ true → b ≡ true
+some_of true a h = refl
+some_of false a h = absurd cc
 
 -- a token of one kind is of no other
-pub apart_kinds : (j k : Terminal) (x : Symbol) → (number_of j == number_of k) ≡ false → is (the j) x ≡ true → is (the k) x ≡ false
+pub apart_kinds : (j k : Terminal) (x : Symbol) → bytes_eq (spelling j) (spelling k) ≡ false → is (the j) x ≡ true → is (the k) x ≡ false
+unfolding same
 apart_kinds j k (fixed i) e h =
-    let same : number_of i ≡ number_of j = same_number (number_of i) (number_of j) h in
-    let differ : (number_of i == number_of k) ≡ false = ap (λ (n : ℕ). n == number_of k) same ∙ e in
+    let differ : same i k ≡ false = ap (λ (z : List ℕ). bytes_eq z (spelling k)) (same_alike i j (some_of (same i j) (tt {0}) h)) ∙ e in
     rw differ refl
 apart_kinds j k _ e h = absurd cc
 
 -- ---- names, numbers and texts
-
-some_of : {A : Type 0} (b : Bool) (a : A) → is_some (cond b (Some a) None) ≡ true → b ≡ true
-some_of true a h = refl
-some_of false a h = absurd cc
 
 pub name_is : (most : Option ℕ) (x : Symbol) → is (name_in most) x ≡ true → is_name x ≡ true
 name_is most (name n) h = refl
@@ -81,6 +80,7 @@ text_not_number _ h = absurd cc
 
 -- an operator of one rule is none of the rules that bind more tightly
 pub product_ends : (x : Symbol) → is product_op x ≡ true → is (the t.Point) x ≡ false
+unfolding same
 product_ends (fixed t.Star) h = refl
 product_ends _ h = absurd cc
 
@@ -104,11 +104,13 @@ abbrev pub on_expression : Symbol → Bool
 on_expression x = on_conjunction x || is or_op x
 
 pub sum_ends : (x : Symbol) → is sum_op x ≡ true → on_product x ≡ false
+unfolding same
 sum_ends (fixed t.Plus) h = refl
 sum_ends (fixed t.Minus) h = refl
 sum_ends _ h = absurd cc
 
 pub comparison_ends : (x : Symbol) → is comparison_op x ≡ true → on_sum x ≡ false
+unfolding same
 comparison_ends (fixed t.Equal) h = refl
 comparison_ends (fixed t.NotEqual) h = refl
 comparison_ends (fixed t.Less) h = refl
@@ -118,18 +120,17 @@ comparison_ends (fixed t.AtLeast) h = refl
 comparison_ends _ h = absurd cc
 
 pub and_ends : (x : Symbol) → is and_op x ≡ true → on_comparison x ≡ false
+unfolding same
 and_ends (fixed t.And) h = refl
 and_ends _ h = absurd cc
 
 pub or_ends : (x : Symbol) → is or_op x ≡ true → on_conjunction x ≡ false
+unfolding same
 or_ends (fixed t.Or) h = refl
 or_ends _ h = absurd cc
 
--- a keyword or mark that no expression goes on with
-pub the_only : (k : Terminal) (x : Symbol) → is (the k) x ≡ true → (i : Terminal) × (x ≡ fixed i) × (number_of i ≡ number_of k)
-the_only k (fixed i) h = (i, refl, same_number (number_of i) (number_of k) h)
-the_only k _ h = absurd cc
-
+-- a closing parenthesis goes on with no expression
 pub close_ends : (x : Symbol) → is (the t.Close) x ≡ true → on_expression x ≡ false
+unfolding same
 close_ends (fixed t.Close) h = refl
 close_ends _ h = absurd cc

@@ -1,5 +1,5 @@
 -- The readers of what stands in lists go forward.
-use Rattle.text_grammar.proofs.Laws.{never}
+use Rattle.text_grammar.proofs.Exactness.{never}
 use Rattle.text_grammar.proofs.Extends.{Stays, exact_stays}
 use Rattle.iv_types.specs.Limits.{the_limits}
 use Rattle.iv_types.specs.Expressions.{AName, AReference, AnExpression}
@@ -9,7 +9,9 @@ use Rattle.sql_readers.specs.Ladder.{name_reader, reference, expression}
 use Rattle.sql_readers.specs.Statements.{tuple, assignment, item, order}
 use Rattle.sql_readers.proofs.Apart.{on_unary, on_expression}
 use Rattle.sql_readers.proofs.Ladder.{name-exact, reference-exact, expression-exact}
-use Rattle.sql_readers.proofs.Whole.{on_item, tuple-exact, assignment-exact, item-exact, order-exact}
+use Rattle.sql_readers.proofs.GoingOn.{on_item}
+use Rattle.sql_readers.proofs.Queries.{item-exact, order-exact}
+use Rattle.sql_readers.proofs.Changes.{tuple-exact, assignment-exact}
 
 pub name_stays : Stays (name_reader the_limits)
 name_stays = exact_stays (AName the_limits) never (name_reader the_limits) (name-exact the_limits)

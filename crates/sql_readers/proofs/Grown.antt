@@ -1,158 +1,33 @@
 -- The readers of a statement under larger limits: they read the same, and go beyond where a limit was met.
-use Rattle.std.proofs.Common.{◌≡◌, ℕ, suc, ◌+◌, ◌<◌, ◌≤◌, Bool, true, false, cond, List, [], ◌∷◌, length, Option, Some, None, Result, Ok, Err, refl, sym, ap, subst, ◌∙◌, arith, nat_lt, inl, inr, ◌⊎◌}
-use Rattle.std.specs.Prelude.{nat_le}
-use Rattle.std.proofs.lemmas.List.{length-append}
-use Rattle.text_grammar.specs.declared.fault.Cause.TheVariants.{Limit}
-use Rattle.text_grammar.specs.declared.fault.Fault.{Fault}
-use Rattle.text_grammar.specs.Readers.{◌>>=◌, Reader, is, starts, one, both, mapped, behind, before, either, perhaps, blocked}
-use Rattle.text_grammar.specs.Languages.{Lang, One, Then, Both, Either, Perhaps}
-use Rattle.text_grammar.proofs.Laws.{Exact, never, StartsWith, the_test, takes, ok_is, bind_ok, choose}
+use Rattle.std.proofs.Common.{◌≡◌, ℕ, suc, ◌≤◌, List, length, Option, Some, None, Ok, refl, sym, ap, subst, ◌∙◌, arith, inl, inr}
+use Rattle.text_grammar.specs.Readers.{◌>>=◌, Reader, is, one, both, mapped, behind, either, perhaps}
+use Rattle.text_grammar.specs.Languages.{One, Then, Both, Either, Perhaps}
+use Rattle.text_grammar.proofs.Exactness.{never, StartsWith, ok_is, bind_ok}
+use Rattle.text_grammar.proofs.Repeating.{takes}
 use Rattle.text_grammar.proofs.Starts.{behind_starts, mapped_starts, either_starts, both_starts, wider_starts, row_starts, one_starts}
-use Rattle.text_grammar.proofs.Extends.{Extends, Stays, exact_stays, one_extends, one_stays, mapped_extends, both_extends, behind_extends, either_extends, perhaps_extends, row_extends, row_extends_in, blocked_same, blocked_raised, mapped_stays, both_stays, behind_stays, perhaps_stays, either_stays, blocked_stays}
-use Rattle.text_grammar.proofs.Lines.{Family}
-use Rattle.iv_types.specs.declared.terminal.Terminal.{Terminal}
+use Rattle.text_grammar.proofs.Extends.{Extends, Stays, exact_stays, one_extends, one_stays, mapped_extends, both_extends, behind_extends, either_extends, perhaps_extends, row_extends, row_extends_in, behind_stays, perhaps_stays}
 use Rattle.iv_types.specs.declared.terminal.Terminal.TheVariants as t
 use Rattle.iv_types.specs.declared.statement.Relation.{Relation}
 use Rattle.iv_types.specs.Tokens.{Symbol}
-use Rattle.iv_types.specs.Limits.{Limits, Agree}
+use Rattle.iv_types.specs.Limits.{Limits}
 use Rattle.iv_types.specs.Syntax as s
-use Rattle.iv_types.specs.Syntax.{Tree, JoinTree, ItemTree, QueryTree, SetTree, StatementTree}
-use Rattle.iv_types.specs.Expressions.{the, joined, AName, Signed, comparison_op, AnExpression, Operand, Conjunction, Negation, Disjunction, Comparison, Sum, Product, Unary, or_op, and_op, sum_op, product_op, compared, positive, nested, Nested}
+use Rattle.iv_types.specs.Syntax.{Tree, JoinTree}
+use Rattle.iv_types.specs.Expressions.{the, paired, comparison_op, AnExpression, or_op, and_op, sum_op, product_op, compared, positive}
+use Rattle.sql_readers.proofs.Budget.{Signed, Operand, Conjunction, Negation, Disjunction, Comparison, Sum, Product, Unary, nested, Nested}
 use Rattle.iv_types.specs.Grammar as g
-use Rattle.iv_types.specs.Grammar.{alone, snoc, Listed, or_none, the_hole, no_item, an_item, add, Counted, ListedTo, Enclosed, Names, kind_of, column_of, AColumn, TableBody, table_of, ATable, index_of, AnIndex, AnAlias, sum_of, plain_of, AnItem, Items, relation_of, ASource, join_of, AJoin, Sources, first_source, with_join, From, ACondition, AGrouping, query_of, AQuery, view_of, AView, ACreation, direction_of, or_rising, place_key, name_key, order_of, AnOrder, selection_of, ASelection, ATuple, Tuples, insertion_of, AnInsertion, set_of, AnAssignment, update_of, AnUpdate, deletion_of, ADeletion, begin_of, commit_of, AControl, AStatement, ALine}
+use Rattle.iv_types.specs.Grammar.{singleton, snoc, or_none, add, Enclosed, Names, kind_of, column_of, AColumn, TableBody, table_of, index_of, AnAlias, sum_of, plain_of, AnItem, relation_of, ASource, join_of, AJoin, Sources, first_source, with_join, From, ACondition, query_of, AQuery, view_of, direction_of, or_rising, place_key, name_key, order_of, selection_of, ATuple, Tuples, insertion_of, set_of, update_of, deletion_of, begin_of, commit_of}
 use Rattle.sql_readers.specs.Ladder.{is_name, is_number, name_reader, number_reader, reference, expression, inner, Inner}
-use Rattle.sql_readers.specs.Statements.{comma_item, listed, counted, listed_to, enclosed, names, column, columns, table_body, table, index, alias, item, items, source, join, from, condition, grouping, query, view, creation, key_reader, direction, order, ordering, selection, tuple, tuples, insertion, assignment, update, deletion, control, statement, line}
+use Rattle.sql_readers.specs.Statements.{comma_list, enclosed, names, column, columns, table_body, table, index, alias, item, items, source, join, from, condition, grouping, query, view, creation, key_reader, direction, order, ordering, selection, tuple, tuples, insertion, assignment, update, deletion, control, statement, line}
 use Rattle.sql_readers.proofs.Apart.{on_expression}
-use Rattle.sql_readers.proofs.Ladder.{ExactNested, nested-exact, name-exact, reference-exact, expression-exact, Numeral, numeral_starts}
+use Rattle.sql_readers.proofs.Ladder.{countable, ExactNested, nested-exact, reference-exact, expression-exact, Numeral, numeral_starts}
 use Rattle.sql_readers.proofs.Lists.{comma}
-use Rattle.sql_readers.proofs.Whole.{typed, Primary, primary, primary-exact, enclosed_names-exact, enclosed_body-exact, Place, place, place-exact, CountTail, count_tail, SumTail, sum_tail, PlainItem, plain_item, AllItem, all_item, CountItem, SumItem, counted_source, OnPart, on_part, on_part-exact, by_references, Tail, tail, tail-exact, Body, body, body-exact, selected, view_tail, created, Direction, direction-exact, by_orders, Ordering, ordering-exact, inserted, Assignments, assignments, assignments-exact, updated, deleted, begun, returned, as_token, on_item, on_query, on_line, column-exact, alias-exact, item-exact, source-exact, source_starts, join-exact, condition-exact, grouping-exact, query-exact, order-exact, tuple-exact, tuple_starts, tuples-exact, assignment-exact, line-exact, line_begins}
+use Rattle.sql_readers.proofs.GoingOn.{as_token, on_item, on_query}
+use Rattle.sql_readers.proofs.Creations.{typed, Primary, primary, primary-exact, enclosed_names-exact, enclosed_body-exact, Place, place, place-exact, view_tail, created, column-exact}
+use Rattle.sql_readers.proofs.Queries.{CountTail, count_tail, SumTail, sum_tail, PlainItem, plain_item, AllItem, all_item, CountItem, SumItem, counted_source, OnPart, on_part, on_part-exact, by_references, Tail, tail, tail-exact, Body, body, body-exact, selected, Direction, direction-exact, by_orders, Ordering, ordering-exact, alias-exact, item-exact, source-exact, source_starts, join-exact, condition-exact, grouping-exact, query-exact, order-exact}
+use Rattle.sql_readers.proofs.Changes.{inserted, Assignments, assignments, assignments-exact, updated, deleted, tuple-exact, tuple_starts, tuples-exact, assignment-exact}
+use Rattle.sql_readers.proofs.Whole.{begun, returned}
 use Rattle.sql_readers.proofs.Larger.{Raised, above, name_extends, number_extends, reference_extends, expression_extends, anything, signed_starts}
-
--- ---- lists
-
-abbrev Grows : {A : Type 0} → ℕ → (r s : Limits → Reader Symbol A) → Type 0
-Grows w r s = (l m : Limits) → Raised w l m → Extends w (r l) (s m)
-
-listed_extends : {A : Type 0} (w : ℕ) (r s : Reader Symbol A) → Extends w r s → Stays s → Extends w (listed r) (listed s)
-listed_extends w r s e stays = row_extends w comma alone snoc r s (λ _. comma_item r) (λ _. comma_item s) e (λ c ts h. behind_extends w (the t.Comma) r s e ts) (λ c. behind_stays (the t.Comma) s stays)
-
-listed_stays : {A : Type 0} (p : Lang Symbol A) (on : Symbol → Bool) (r : Reader Symbol A) → Exact p on r → Stays r
-listed_stays p on r e = exact_stays p on r e
-
-enclosed_extends : {A : Type 0} (w : ℕ) (r s : Reader Symbol A) → Extends w r s → Extends w (enclosed r) (enclosed s)
-enclosed_extends w r s e =
-    behind_extends w (the t.Open) (before (the t.Close) r) (before (the t.Close) s)
-    (mapped_extends w (λ x. x.0) (both r (λ _. one (the t.Close))) (both s (λ _. one (the t.Close)))
-    (both_extends w r s (λ _. one (the t.Close)) (λ _. one (the t.Close)) e (λ _. one_extends w (the t.Close)) (λ _. one_stays (the t.Close))))
-
-enclosed_stays : {A : Type 0} (r : Reader Symbol A) → Stays r → Stays (enclosed r)
-enclosed_stays r w = behind_stays (the t.Open) (before (the t.Close) r) (mapped_stays (λ x. x.0) (both r (λ _. one (the t.Close))) (both_stays r (λ _. one (the t.Close)) w (λ _. one_stays (the t.Close))))
-
--- a name and what follows it
-named_extends : {A : Type 0} (w : ℕ) (l m : Limits) (r s : Reader Symbol A) → Raised w l m → Extends w r s → Stays s → Extends w (both (name_reader l) (λ _. r)) (both (name_reader m) (λ _. s))
-named_extends w l m r s up e stays = both_extends w (name_reader l) (name_reader m) (λ _. r) (λ _. s) (name_extends w l m up) (λ _. e) (λ _. stays)
-
-name_stays : (m : Limits) → Stays (name_reader m)
-name_stays m = exact_stays (AName m) never (name_reader m) (name-exact m)
-
--- how limits compare where one may be raised
-abbrev More : ℕ → ℕ → ℕ → ℕ → Type 0
-More w v most big = (nat_le w v ≡ false → most ≡ big) × (nat_le w v ≡ true → suc most < big)
-
-under : (m n : ℕ) → nat_lt m n ≡ true → m < n
-under m n h = grind arith
-
-under_all : (m n : ℕ) → m < n → nat_lt m n ≡ true
-under_all m n h = grind arith
-
-not_under : (m n : ℕ) → nat_lt m n ≡ false → n ≤ m
-not_under m n h = grind arith
-
-over_all : (m n : ℕ) → n ≤ m → nat_lt m n ≡ false
-over_all m n h = grind arith
-
-bound : {A B : Type 0} (f : A → B) (z : Result (A × List Symbol) Fault) (x : B × List Symbol) (n : ℕ) → ((y : A × List Symbol) → z ≡ Ok y → length y.1 < n) → (z >>= (λ y. Ok (f y.0, y.1))) ≡ Ok x → length x.1 < n
-bound f (Ok y) x n moves e = let same : (f y.0, y.1) ≡ x = ok_is (f y.0, y.1) x e in subst (λ (u : _ × List Symbol). length u.1 < n) same (moves y refl)
-bound f (Err d) x n moves e = absurd cc
-
-mapped_moves : {A : Type 0} (r : Reader Symbol A) → ((ts : List Symbol) (x : A × List Symbol) → r ts ≡ Ok x → length x.1 < length ts) → (ts : List Symbol) (x : Option A × List Symbol) → mapped an_item r ts ≡ Ok x → length x.1 < length ts
-mapped_moves r moves ts x e = bound an_item (r ts) x (length ts) (moves ts) e
-
--- one more of a list, or the first token of one too many
-limited_extends : {A : Type 0} (w v have most big : ℕ) (r s : Reader Symbol A) → Extends w r s → Stays r → ((ts : List Symbol) (x : A × List Symbol) → r ts ≡ Ok x → length x.1 < length ts) → More w v most big → have ≤ suc most → Extends w (λ us. cond (nat_lt have most) (r us) (blocked (Limit v) r us)) (λ us. cond (nat_lt have big) (s us) (blocked (Limit v) s us))
-limited_extends w v have most big r s e stays moves g le ts =
-    elim (the_test (nat_lt have most)) [
-      | inl room ↦
-          let lt = under have most room in
-          let again : nat_lt have big ≡ true = under_all have big (elim (the_test (nat_le w v)) [ inl up ↦ (let b = g.1 up in omega (arith, b, lt)) | inr same ↦ (let b = g.0 same in omega (arith, b, lt)) ]) in
-          rw (room, again) (e ts)
-      | inr full ↦
-          let at_end = not_under have most full in
-          elim (the_test (nat_le w v)) [
-            | inl up ↦
-                let b = g.1 up in
-                let again : nat_lt have big ≡ true = under_all have big (omega (arith, b, le)) in
-                rw (full, again) (blocked_raised w v r s up e stays moves ts)
-            | inr same ↦
-                let b = g.0 same in
-                let again : nat_lt have big ≡ false = over_all have big (omega (arith, b, at_end)) in
-                rw (full, again) (blocked_same w v r s same e stays ts)
-          ]
-    ]
-
-counted_extends : {A : Type 0} (w v have most big : ℕ) (r s : Reader Symbol A) → Extends w r s → Stays r → ((ts : List Symbol) (x : A × List Symbol) → r ts ≡ Ok x → length x.1 < length ts) → More w v most big → have ≤ suc most → Extends w (counted v have most r) (counted v have big s)
-counted_extends w v have most big r s e stays moves g le =
-    either_extends w (is the_hole) (mapped no_item (one the_hole)) (mapped no_item (one the_hole)) (λ us. cond (nat_lt have most) (mapped an_item r us) (blocked (Limit v) (mapped an_item r) us)) (λ us. cond (nat_lt have big) (mapped an_item s us) (blocked (Limit v) (mapped an_item s) us))
-    (λ ts h. mapped_extends w no_item (one the_hole) (one the_hole) (one_extends w the_hole) ts)
-    (limited_extends w v have most big (mapped an_item r) (mapped an_item s) (mapped_extends w an_item r s e) (mapped_stays an_item r stays) (mapped_moves r moves) g le)
-
-add_long : {A : Type 0} (xs : List A) (x : Option A) → length (add xs x) ≤ suc (length xs)
-add_long xs None = omega arith
-add_long xs (Some x) = omega (arith, length-append xs (x ∷ []))
-
--- a list keeps its size where one more may not be
-kept : {A : Type 0} (v have most : ℕ) (r : Reader Symbol A) (ts : List Symbol) (x : Option A × List Symbol) → counted v have most r ts ≡ Ok x → have ≤ suc most → (x.0 ≡ None) ⊎ (have < most)
-kept v have most r ts x e le =
-    elim (choose (starts (is the_hole) ts) (mapped no_item (one the_hole) ts) (cond (nat_lt have most) (mapped an_item r ts) (blocked (Limit v) (mapped an_item r) ts)) (Ok x) e) [
-      | inl h ↦ (let b = bind_ok (one the_hole ts) (λ y. Ok (no_item y.0, y.1)) x h.1 in let same : (None, b.0.1) ≡ x = ok_is (None, b.0.1) x b.2 in inl (sym (ap (λ (u : Option _ × List Symbol). u.0) same)))
-      | inr h ↦
-          elim (choose (nat_lt have most) (mapped an_item r ts) (blocked (Limit v) (mapped an_item r) ts) (Ok x) h.1) [
-            | inl room ↦ inr (under have most room.0)
-            | inr full ↦ absurd (let bad = full.1 in cc)
-          ]
-    ]
-
-add_within : {A : Type 0} (most : ℕ) (xs : List A) (x : Option A) → length xs ≤ suc most → (x ≡ None) ⊎ (length xs < most) → length (add xs x) ≤ suc most
-add_within most xs x le h = elim h [
-  | inl none ↦ subst (λ (o : Option _). length (add xs o) ≤ suc most) (sym none) le
-  | inr lt ↦ (let k = add_long xs x in omega (arith, k, lt))
-]
-
-pub behind_reads : {A : Type 0} (k : Terminal) (r : Reader Symbol A) (ts : List Symbol) (x : A × List Symbol) → behind (the k) r ts ≡ Ok x → (us : List Symbol) × (r us ≡ Ok x)
-behind_reads k r [] x e = absurd cc
-behind_reads k r (t ∷ ts) x e = elim (choose (is (the k) t) (r ts) (Err _) (Ok x) e) [ inl h ↦ (ts, h.1) | inr h ↦ absurd (let bad = h.1 in cc) ]
-
-counted_add : {A : Type 0} (v most : ℕ) (r : Reader Symbol A) (have : List A) (ts : List Symbol) (x : Option A × List Symbol) → length have ≤ suc most → comma_item (counted v (length have) most r) ts ≡ Ok x → length (add have x.0) ≤ suc most
-counted_add v most r have ts x le e =
-    let b = behind_reads t.Comma (counted v (length have) most r) ts x e in
-    add_within most have x.0 le (kept v (length have) most r b.0 x b.1 le)
-
-cond_stays : {A : Type 0} (b : Bool) (r s : Reader Symbol A) → Stays r → Stays s → Stays (λ us. cond b (r us) (s us))
-cond_stays true r s h k ts = h ts
-cond_stays false r s h k ts = k ts
-
-pub counted_stays : {A : Type 0} (v have most : ℕ) (s : Reader Symbol A) → Stays s → Stays (counted v have most s)
-counted_stays v have most s stays =
-    either_stays (is the_hole) (mapped no_item (one the_hole)) (λ us. cond (nat_lt have most) (mapped an_item s us) (blocked (Limit v) (mapped an_item s) us)) (mapped_stays no_item (one the_hole) (one_stays the_hole))
-    (cond_stays (nat_lt have most) (mapped an_item s) (blocked (Limit v) (mapped an_item s)) (mapped_stays an_item s stays) (blocked_stays (Limit v) (mapped an_item s)))
-
-listed_to_extends : {A : Type 0} (w v most big : ℕ) (p : Lang Symbol A) (on test : Symbol → Bool) (r s : Reader Symbol A) → Exact p on r → StartsWith p test → Extends w r s → Stays s → More w v most big → Extends w (listed_to v most r) (listed_to v big s)
-listed_to_extends w v most big p on test r s exact with e stays g =
-    row_extends_in w comma alone add r s (λ have. comma_item (counted v (length have) most r)) (λ have. comma_item (counted v (length have) big s)) (λ have. length have ≤ suc most) e
-    (λ ts x h. omega arith)
-    (λ have le ts h. behind_extends w (the t.Comma) (counted v (length have) most r) (counted v (length have) big s) (counted_extends w v (length have) most big r s e (exact_stays p on r exact) (takes test p on r exact with) g le) ts)
-    (λ have ts x le h. counted_add v most r have ts x le h)
-    (λ have. behind_stays (the t.Comma) (counted v (length have) big s) (counted_stays v (length have) big s stays))
+use Rattle.sql_readers.proofs.GrownLists.{Grows, listed_extends, enclosed_extends, named_extends, name_stays, counted_extends, add_long, kept, behind_reads, listed_to_extends}
 
 -- ---- statements
 
@@ -176,7 +51,7 @@ column_extends w l m up =
 
 columns_extends : (w : ℕ) → Grows w columns columns
 unfolding columns
-columns_extends w l m up = row_extends w is_name alone snoc (column l) (column m) (λ _. column l) (λ _. column m) (column_extends w l m up) (λ c ts h. column_extends w l m up ts) (λ c. exact_stays (AColumn m) never (column m) (column-exact m))
+columns_extends w l m up = row_extends w is_name singleton snoc (column l) (column m) (λ _. column l) (λ _. column m) (column_extends w l m up) (λ c ts h. column_extends w l m up ts) (λ c. exact_stays (AColumn m) never (column m) (column-exact m))
 
 table_body_extends : (w : ℕ) → Grows w table_body table_body
 unfolding table_body
@@ -241,19 +116,19 @@ unfolding Comparison Sum Product Unary
 comparison_starts l n i e b =
     mapped_starts compared (Both (Sum l n b) (λ a. Perhaps (Operand comparison_op (Sum l n) b a))) anything
     (both_starts (Sum l n b) (λ a. Perhaps (Operand comparison_op (Sum l n) b a)) anything
-    (row_starts (λ a. a) joined (Product l n b) (Operand sum_op (Product l n) b) anything
-    (row_starts (λ a. a) joined (Unary l n b) (Operand product_op (Unary l n) b) anything
+    (row_starts (λ a. a) paired (Product l n b) (Operand sum_op (Product l n) b) anything
+    (row_starts (λ a. a) paired (Unary l n b) (Operand product_op (Unary l n) b) anything
     (either_starts (Numeral l positive) (Signed l n b) anything (wider_starts (Numeral l positive) is_number anything (numeral_starts l positive) (λ x h. refl)) (signed_starts l n i e b)))))
 
 expression_starts : (l : Limits) → StartsWith (AnExpression l) anything
-unfolding AnExpression Disjunction Conjunction Negation
-expression_starts l =
+unfolding Disjunction Conjunction Negation
+expression_starts l ts a h =
     let n = nested l l.nesting in
     let e = nested-exact l l.nesting in
     let b = l.operations in
-    row_starts (λ a. a) joined (Conjunction l n b) (Operand or_op (Conjunction l n) b) anything
-    (row_starts (λ a. a) joined (Negation l n b) (Operand and_op (Negation l n) b) anything
-    (either_starts (n.inversion b) (Comparison l n b) anything (wider_starts (n.inversion b) (is (the t.Not)) anything (e.inversion_starts b) (λ x h. refl)) (comparison_starts l n (inner l l.nesting) e b)))
+    row_starts (λ a. a) paired (Conjunction l n b) (Operand or_op (Conjunction l n) b) anything
+    (row_starts (λ a. a) paired (Negation l n b) (Operand and_op (Negation l n) b) anything
+    (either_starts (n.inversion b) (Comparison l n b) anything (wider_starts (n.inversion b) (is (the t.Not)) anything (e.inversion_starts b) (λ x h. refl)) (comparison_starts l n (inner l l.nesting) e b))) ts a (countable l ts a h)
 
 item_starts : (l : Limits) → StartsWith (AnItem l) anything
 unfolding AnItem
@@ -333,7 +208,7 @@ grouping_extends w l m up =
     mapped_extends w or_none (perhaps (is (the t.Group)) (behind (the t.Group) (by_references l))) (perhaps (is (the t.Group)) (behind (the t.Group) (by_references m)))
     (perhaps_extends w (is (the t.Group)) (behind (the t.Group) (by_references l)) (behind (the t.Group) (by_references m))
     (behind_extends w (the t.Group) (by_references l) (by_references m)
-    (behind_extends w (the t.By) (listed (reference l)) (listed (reference m))
+    (behind_extends w (the t.By) (comma_list (reference l)) (comma_list (reference m))
     (listed_extends w (reference l) (reference m) (reference_extends w l m up) (exact_stays _ _ (reference m) (reference-exact m))))))
 
 query_extends : (w : ℕ) → Grows w query query
@@ -380,7 +255,7 @@ ordering_extends w l m up =
     mapped_extends w or_none (perhaps (is (the t.Order)) (behind (the t.Order) (by_orders l))) (perhaps (is (the t.Order)) (behind (the t.Order) (by_orders m)))
     (perhaps_extends w (is (the t.Order)) (behind (the t.Order) (by_orders l)) (behind (the t.Order) (by_orders m))
     (behind_extends w (the t.Order) (by_orders l) (by_orders m)
-    (behind_extends w (the t.By) (listed (order l)) (listed (order m))
+    (behind_extends w (the t.By) (comma_list (order l)) (comma_list (order m))
     (listed_extends w (order l) (order m) (order_extends w l m up) (exact_stays _ _ (order m) (order-exact m))))))
 
 selection_extends : (w : ℕ) → Grows w selection selection
@@ -391,7 +266,7 @@ selection_extends w l m up =
 
 tuple_extends : (w : ℕ) → Grows w tuple tuple
 unfolding tuple
-tuple_extends w l m up = enclosed_extends w (listed (expression l)) (listed (expression m)) (listed_extends w (expression l) (expression m) (expression_extends w l m up) (exact_stays (AnExpression m) on_expression (expression m) (expression-exact m)))
+tuple_extends w l m up = enclosed_extends w (comma_list (expression l)) (comma_list (expression m)) (listed_extends w (expression l) (expression m) (expression_extends w l m up) (exact_stays (AnExpression m) on_expression (expression m) (expression-exact m)))
 
 tuples_extends : (w : ℕ) → Grows w tuples tuples
 unfolding tuples
@@ -418,7 +293,7 @@ update_extends w l m up =
     (mapped_extends w update_of (updated l) (updated m)
     (named_extends w l m (behind (the t.Set) (assignments l)) (behind (the t.Set) (assignments m)) up
     (behind_extends w (the t.Set) (assignments l) (assignments m)
-    (both_extends w (listed (assignment l)) (listed (assignment m)) (λ _. condition l) (λ _. condition m) (listed_extends w (assignment l) (assignment m) (assignment_extends w l m up) (exact_stays _ _ (assignment m) (assignment-exact m))) (λ _. condition_extends w l m up) (λ _. condition_stays m)))
+    (both_extends w (comma_list (assignment l)) (comma_list (assignment m)) (λ _. condition l) (λ _. condition m) (listed_extends w (assignment l) (assignment m) (assignment_extends w l m up) (exact_stays _ _ (assignment m) (assignment-exact m))) (λ _. condition_extends w l m up) (λ _. condition_stays m)))
     (behind_stays (the t.Set) (assignments m) (exact_stays (Assignments m) _ (assignments m) (assignments-exact m)))))
 
 deletion_extends : (w : ℕ) → Grows w deletion deletion
@@ -448,7 +323,7 @@ statement_extends w l m up =
     (either_extends w (is (the t.Delete)) (deletion l) (deletion m) (either (is (the t.Select)) (selection l) (control l)) (either (is (the t.Select)) (selection m) (control m)) (λ ts h. deletion_extends w l m up ts)
     (either_extends w (is (the t.Select)) (selection l) (selection m) (control l) (control m) (λ ts h. selection_extends w l m up ts) (control_extends w l m up)))))
 
-line_extends : (w : ℕ) → Grows w line line
+pub line_extends : (w : ℕ) → Grows w line line
 unfolding line
 line_extends w l m up =
     let r : Reader Symbol _ = perhaps (is (the t.Semicolon)) (one (the t.Semicolon)) in
@@ -456,108 +331,3 @@ line_extends w l m up =
     (both_extends w (statement l) (statement m) (λ _. perhaps (is (the t.Semicolon)) (one (the t.Semicolon))) (λ _. perhaps (is (the t.Semicolon)) (one (the t.Semicolon))) (statement_extends w l m up)
     (λ _. perhaps_extends w (is (the t.Semicolon)) (one (the t.Semicolon)) (one (the t.Semicolon)) (one_extends w (the t.Semicolon)))
     (λ _. perhaps_stays (is (the t.Semicolon)) (one (the t.Semicolon)) (one_stays (the t.Semicolon))))
-
--- ---- limits that are raised
-
-abbrev none_if : Bool → Option ℕ → Option ℕ
-none_if true o = None
-none_if false o = o
-
-abbrev more_if : Bool → ℕ → ℕ → ℕ
-more_if true n more = more
-more_if false n more = n
-
-not_at_most : (w v : ℕ) → v < w → nat_le w v ≡ false
-not_at_most w v lt = grind arith
-
-kept_most : (w v : ℕ) (o : Option ℕ) → v < w → none_if (nat_le w v) o ≡ o
-kept_most w v o lt = let f = not_at_most w v lt in rw f refl
-
-kept_more : (w v n more : ℕ) → v < w → more_if (nat_le w v) n more ≡ n
-kept_more w v n more lt = let f = not_at_most w v lt in rw f refl
-
-no_most : (w v : ℕ) (o : Option ℕ) → nat_le w v ≡ true → none_if (nat_le w v) o ≡ None
-no_most w v o h = rw h refl
-
-is_more : (w v n more : ℕ) → nat_le w v ≡ true → more_if (nat_le w v) n more ≡ more
-is_more w v n more h = rw h refl
-
--- limits that agree with l below w, and from w on are larger than those of l and of k
-abbrev above_both : (w : ℕ) (l k : Limits) → Limits
-above_both w l k = record {
-  name_bytes = none_if (nat_le w 1) l.name_bytes;
-  number_value = none_if (nat_le w 2) l.number_value;
-  text_bytes = none_if (nat_le w 3) l.text_bytes;
-  nesting = more_if (nat_le w 4) l.nesting (l.nesting + k.nesting + 1);
-  rows = more_if (nat_le w 5) l.rows (l.rows + k.rows + 2);
-  relations = more_if (nat_le w 7) l.relations (l.relations + k.relations + 2);
-  items = more_if (nat_le w 17) l.items (l.items + k.items + 2);
-  operations = more_if (nat_le w 18) l.operations (l.operations + l.nesting + (k.operations + k.nesting) + 1);
-}
-
-raised_left : (w : ℕ) (l k : Limits) → Raised w l (above_both w l k)
-raised_left w l k = record {
-  agree = record {
-    name_bytes = λ lt. sym (kept_most w 1 l.name_bytes lt);
-    number_value = λ lt. sym (kept_most w 2 l.number_value lt);
-    text_bytes = λ lt. sym (kept_most w 3 l.text_bytes lt);
-    nesting = λ lt. sym (kept_more w 4 l.nesting (l.nesting + k.nesting + 1) lt);
-    rows = λ lt. sym (kept_more w 5 l.rows (l.rows + k.rows + 2) lt);
-    relations = λ lt. sym (kept_more w 7 l.relations (l.relations + k.relations + 2) lt);
-    items = λ lt. sym (kept_more w 17 l.items (l.items + k.items + 2) lt);
-    operations = λ lt. sym (kept_more w 18 l.operations (l.operations + l.nesting + (k.operations + k.nesting) + 1) lt);
-  };
-  name_bytes = λ h. no_most w 1 l.name_bytes h;
-  number_value = λ h. no_most w 2 l.number_value h;
-  text_bytes = λ h. no_most w 3 l.text_bytes h;
-  nesting = λ h. let e = is_more w 4 l.nesting (l.nesting + k.nesting + 1) h in omega (arith, e);
-  rows = λ h. let e = is_more w 5 l.rows (l.rows + k.rows + 2) h in omega (arith, e);
-  relations = λ h. let e = is_more w 7 l.relations (l.relations + k.relations + 2) h in omega (arith, e);
-  items = λ h. let e = is_more w 17 l.items (l.items + k.items + 2) h in omega (arith, e);
-  operations = λ h. let e = is_more w 18 l.operations (l.operations + l.nesting + (k.operations + k.nesting) + 1) h in omega (arith, e);
-}
-
-raised_right : (w : ℕ) (l k : Limits) → Agree w l k → Raised w k (above_both w l k)
-raised_right w l k a = record {
-  agree = record {
-    name_bytes = λ lt. sym (a.name_bytes lt) ∙ sym (kept_most w 1 l.name_bytes lt);
-    number_value = λ lt. sym (a.number_value lt) ∙ sym (kept_most w 2 l.number_value lt);
-    text_bytes = λ lt. sym (a.text_bytes lt) ∙ sym (kept_most w 3 l.text_bytes lt);
-    nesting = λ lt. sym (a.nesting lt) ∙ sym (kept_more w 4 l.nesting (l.nesting + k.nesting + 1) lt);
-    rows = λ lt. sym (a.rows lt) ∙ sym (kept_more w 5 l.rows (l.rows + k.rows + 2) lt);
-    relations = λ lt. sym (a.relations lt) ∙ sym (kept_more w 7 l.relations (l.relations + k.relations + 2) lt);
-    items = λ lt. sym (a.items lt) ∙ sym (kept_more w 17 l.items (l.items + k.items + 2) lt);
-    operations = λ lt. sym (a.operations lt) ∙ sym (kept_more w 18 l.operations (l.operations + l.nesting + (k.operations + k.nesting) + 1) lt);
-  };
-  name_bytes = λ h. no_most w 1 l.name_bytes h;
-  number_value = λ h. no_most w 2 l.number_value h;
-  text_bytes = λ h. no_most w 3 l.text_bytes h;
-  nesting = λ h. let e = is_more w 4 l.nesting (l.nesting + k.nesting + 1) h in omega (arith, e);
-  rows = λ h. let e = is_more w 5 l.rows (l.rows + k.rows + 2) h in omega (arith, e);
-  relations = λ h. let e = is_more w 7 l.relations (l.relations + k.relations + 2) h in omega (arith, e);
-  items = λ h. let e = is_more w 17 l.items (l.items + k.items + 2) h in omega (arith, e);
-  operations = λ h. let e = is_more w 18 l.operations (l.operations + l.nesting + (k.operations + k.nesting) + 1) h in omega (arith, e);
-}
-
-none_agree : (l m : Limits) → Agree 0 l m
-none_agree l m = record {
-  name_bytes = λ lt. absurd (omega arith);
-  number_value = λ lt. absurd (omega arith);
-  text_bytes = λ lt. absurd (omega arith);
-  nesting = λ lt. absurd (omega arith);
-  rows = λ lt. absurd (omega arith);
-  relations = λ lt. absurd (omega arith);
-  items = λ lt. absurd (omega arith);
-  operations = λ lt. absurd (omega arith);
-}
-
--- the readers of a line are a family over the limits
-pub family : Family ALine Agree Raised on_line line
-family = record {
-  exact = line-exact;
-  some = line_begins;
-  grows = λ w l m up. line_extends w l m up;
-  none_agree = none_agree;
-  join = λ w l m a. (above_both w l m, raised_left w l m, raised_right w l m a);
-  raise = λ w l. (above_both w l l, raised_left w l l, (raised_left w l l).agree);
-}

@@ -1,23 +1,30 @@
 -- The readers of an expression read its grammar.
-use Rattle.std.proofs.Common.{◌≡◌, ℕ, zero, suc, ◌-◌, Bool, true, false, cond, List, [], Option, Some, None, refl, ap, arith, nat_lt}
-use Rattle.std.specs.Prelude.{is_some, ◌||◌, ◌==◌}
+use Rattle.std.proofs.Common.{◌≡◌, ℕ, zero, suc, ◌-◌, Bool, true, false, cond, List, [], Option, Some, None, refl, arith, nat_lt}
+use Rattle.std.specs.Prelude.{◌||◌}
+use Rattle.iv_types.proofs.Spellings.{the_value, the_some}
 use Rattle.text_grammar.specs.declared.fault.Cause.{Cause}
 use Rattle.text_grammar.specs.declared.fault.Cause.TheVariants.{Limit}
 use Rattle.text_grammar.specs.Readers.{Reader, is, one, both, mapped, behind, before, either, perhaps, refused, blocked}
 use Rattle.text_grammar.specs.Languages.{Lang, One, Then, Both, Behind, Mapped, Before, Either, Nothing, Perhaps}
 use Rattle.text_grammar.specs.Places.{Begins}
-use Rattle.text_grammar.proofs.Laws.{Exact, never, StartsWith, StartsWithout, FitsBehind, one-exact, one_or-exact, behind-exact, mapped-exact, then-exact, both-exact, free_behind, fits_perhaps, refused-exact, blocked-exact, either-exact, widened, perhaps-exact, row-exact, along}
+use Rattle.text_grammar.proofs.Exactness.{Exact, never, StartsWith, StartsWithout, widened, along}
+use Rattle.text_grammar.proofs.Tokens.{one-exact, one_or-exact, behind-exact}
+use Rattle.text_grammar.proofs.Combining.{FitsBehind, mapped-exact, then-exact, both-exact, free_behind, fits_perhaps, refused-exact, either-exact, perhaps-exact}
+use Rattle.text_grammar.proofs.Repeating.{row-exact}
+use Rattle.text_grammar.proofs.Blocking.{blocked-exact}
 use Rattle.text_grammar.proofs.Starts.{one_starts, behind_starts, both_starts, mapped_starts, wider_starts, without, either_without, mapped_without, both_without, row_without, one_begins, behind_begins_some, both_begins, mapped_begins, row_begins, perhaps_begins, left_begins, right_begins, or_false}
 use Rattle.iv_types.specs.declared.terminal.Terminal.{Terminal}
 use Rattle.iv_types.specs.declared.terminal.Terminal.TheVariants as t
 use Rattle.iv_types.specs.declared.expression.Op.{Op}
-use Rattle.iv_types.specs.Terminals.{number_of}
 use Rattle.iv_types.specs.Tokens.{Symbol, fixed, name, number}
 use Rattle.iv_types.specs.Limits.{Limits, allows}
 use Rattle.iv_types.specs.Syntax as s
 use Rattle.iv_types.specs.Syntax.{Tree}
-use Rattle.iv_types.specs.Expressions.{the, name_in, number_in, text_in, or_op, and_op, comparison_op, sum_op, product_op, operations, Only, Spent, joined, Operand, Chain, Nested, AName, ANumber, ref_of, AReference, positive, negative, Signed, Unary, Negated, Product, Sum, compared, Comparison, Negation, Conjunction, Disjunction, nested, AnExpression}
+use Rattle.iv_types.specs.Expressions.{nested as plain_nested, the, name_in, number_in, text_in, or_op, and_op, comparison_op, sum_op, product_op, operations, paired, AName, ANumber, ref_of, AReference, positive, negative, compared, AnExpression}
+use Rattle.iv_types.specs.Grammar.{Only}
+use Rattle.sql_readers.proofs.Budget.{Spent, Operand, Chain, Nested, Signed, Unary, Negated, Product, Sum, Comparison, Negation, Conjunction, Disjunction, nested}
 use Rattle.sql_readers.specs.Ladder.{is_name, is_number, is_text, unless, name_reader, number_reader, text_reader, spent, spent_late, operand, chain, Inner, reference, signed, unary, negated, product, sum, comparison, negation, conjunction, disjunction, inner, expression}
+use Rattle.sql_readers.proofs.Counting.{disjunction_counts, nested_counts}
 use Rattle.sql_readers.proofs.Apart.{apart_kinds, name_is, number_is, text_is, fixed_not_number, name_not_fixed, number_not_fixed, text_not_fixed, name_not_number, name_not_text, text_not_number, product_ends, on_unary, on_product, on_sum, on_comparison, on_conjunction, on_expression, sum_ends, comparison_ends, and_ends, or_ends, close_ends}
 
 -- ---- single tokens
@@ -53,15 +60,6 @@ text_starts l = wider_starts (One (text_in l.text_bytes)) (is (text_in l.text_by
 -- behind a keyword or mark
 pub behind_the : {A : Type 0} (k : Terminal) (q : Lang Symbol A) (on : Symbol → Bool) (r : Reader Symbol A) → Exact q on r → Begins q [] → Exact (Behind (the k) q) on (behind (the k) r)
 behind_the k q on r e some = behind-exact (the k) q on r e some
-
-equal_to_itself : (n : ℕ) → (n == n) ≡ true
-equal_to_itself n = grind arith
-
-the_value : (k : Terminal) → the k (fixed k) ≡ Some tt
-the_value k = rw (equal_to_itself (number_of k)) refl
-
-pub the_some : (k : Terminal) → is (the k) (fixed k) ≡ true
-the_some k = ap is_some (the_value k)
 
 pub behind_some : {A : Type 0} (k : Terminal) (q : Lang Symbol A) → Begins q [] → Begins (Behind (the k) q) []
 behind_some k q some = behind_begins_some (the k) q (fixed k) (the_some k) some
@@ -120,7 +118,7 @@ operand_starts pick p b a = only_starts (nat_lt (operations a) b) (Then (One pic
 
 pub chain-exact : (pick : Symbol → Option Op) (p : ℕ → Lang Symbol Tree) (on : Symbol → Bool) (r : ℕ → Reader Symbol Tree) → ((c : ℕ) → Exact (p c) on (r c)) → ((c : ℕ) → Begins (p c) []) → ((x : Symbol) → is pick x ≡ true → on x ≡ false) → (b : ℕ) → Exact (Chain pick p b) (λ x. on x || is pick x) (chain pick r b)
 chain-exact pick p on r e some ends b =
-    row-exact (is pick) (λ a. a) joined (p b) (Operand pick p b) on (λ x. on x || is pick x) (r b) (operand pick r b) (e b)
+    row-exact (is pick) (λ a. a) paired (p b) (Operand pick p b) on (λ x. on x || is pick x) (r b) (operand pick r b) (e b)
     (operand-exact pick p on r e some b)
     (operand_starts pick p b)
     (ends, λ x h. or_false (on x) (is pick x) h)
@@ -246,7 +244,7 @@ unfolding Negated
 negated_begins l n b = left_begins (Numeral l negative) (Spent (Negation_of l n) b) (numeral_begins l negative)
 
 chain_begins : (pick : Symbol → Option Op) (p : ℕ → Lang Symbol Tree) (b : ℕ) → Begins (p b) [] → Begins (Chain pick p b) []
-chain_begins pick p b some = row_begins (λ a. a) joined (p b) (Operand pick p b) some
+chain_begins pick p b some = row_begins (λ a. a) paired (p b) (Operand pick p b) some
 
 pub product_begins : (l : Limits) (n : Nested) (b : ℕ) → Begins (Product l n b) []
 unfolding Product
@@ -305,8 +303,8 @@ unfolding Comparison Sum Product Unary
 comparison_without l n i other e num w b =
     mapped_without compared (Both (Sum l n b) (Compared l n b)) other
     (both_without (Sum l n b) (Compared l n b) other
-    (row_without (λ a. a) joined (Product l n b) (Operand sum_op (Product l n) b) other
-    (row_without (λ a. a) joined (Unary l n b) (Operand product_op (Unary l n) b) other
+    (row_without (λ a. a) paired (Product l n b) (Operand sum_op (Product l n) b) other
+    (row_without (λ a. a) paired (Unary l n b) (Operand product_op (Unary l n) b) other
     (either_without (Numeral l positive) (Signed l n b) other (without (Numeral l positive) is_number other (numeral_starts l positive) num) (w b)))))
 
 pub negation-exact : (l : Limits) (n : Nested) (i : Inner) → ExactNested n i → (b : ℕ) → Exact (Negation l n b) on_comparison (negation l i b)
@@ -369,23 +367,37 @@ nested-exact l (suc n) =
       inversion_starts = λ b. spent_starts (Inverted l (nested l n)) (is (the t.Not)) (λ c. behind_starts (the t.Not) (Mapped s.not (Negation l (nested l n) c))) b;
     }
 
+-- the grammar of an expression by its budget
+abbrev pub CountedExpression : Limits → Lang Symbol Tree
+CountedExpression l = Disjunction l (nested l l.nesting) l.operations
+
+-- it is the grammar
+pub counted : (l : Limits) (ts : List Symbol) (e : Tree) → CountedExpression l ts e → AnExpression l ts e
+unfolding AnExpression
+counted l ts e h = (disjunction_counts l (nested l l.nesting) (plain_nested l l.nesting) (nested_counts l l.nesting)).only l.operations ts e h
+
+pub countable : (l : Limits) (ts : List Symbol) (e : Tree) → AnExpression l ts e → CountedExpression l ts e
+unfolding AnExpression
+countable l ts e h = (disjunction_counts l (nested l l.nesting) (plain_nested l l.nesting) (nested_counts l l.nesting)).all l.operations ts e h.0 h.1
+
 pub expression-exact : (l : Limits) → Exact (AnExpression l) on_expression (expression l)
-unfolding AnExpression expression
-expression-exact l = disjunction-exact l (nested l l.nesting) (inner l l.nesting) (nested-exact l l.nesting) l.operations
+unfolding expression
+expression-exact l = along (CountedExpression l) (AnExpression l) on_expression (expression l) (counted l) (countable l) (disjunction-exact l (nested l l.nesting) (inner l l.nesting) (nested-exact l l.nesting) l.operations)
 
 pub expression_begins : (l : Limits) → Begins (AnExpression l) []
-unfolding AnExpression
-expression_begins l = disjunction_begins l (nested l l.nesting) l.operations
+expression_begins l =
+    let b = disjunction_begins l (nested l l.nesting) l.operations in
+    record { more = b.more; value = b.value; spelled = counted l b.more b.value b.spelled }
 
 -- what an expression does not begin with
 pub expression_without : (l : Limits) (other : Symbol → Bool) → ((x : Symbol) → is (the t.Not) x ≡ true → other x ≡ false) → ((x : Symbol) → is (the t.Minus) x ≡ true → other x ≡ false) → ((x : Symbol) → is (the t.Open) x ≡ true → other x ≡ false) → ((x : Symbol) → is_number x ≡ true → other x ≡ false) → ((x : Symbol) → is_text x ≡ true → other x ≡ false) → ((x : Symbol) → is_name x ≡ true → other x ≡ false) → StartsWithout (AnExpression l) other
-unfolding AnExpression Disjunction Conjunction Negation
-expression_without l other v m o d w c =
+unfolding Disjunction Conjunction Negation
+expression_without l other v m o d w c ts rest a h =
     let n = nested l l.nesting in
     let i = inner l l.nesting in
     let e = nested-exact l l.nesting in
     let b = l.operations in
-    row_without (λ a. a) joined (Conjunction l n b) (Operand or_op (Conjunction l n) b) other
-    (row_without (λ a. a) joined (Negation l n b) (Operand and_op (Negation l n) b) other
+    row_without (λ a. a) paired (Conjunction l n b) (Operand or_op (Conjunction l n) b) other
+    (row_without (λ a. a) paired (Negation l n b) (Operand and_op (Negation l n) b) other
     (either_without (n.inversion b) (Comparison l n b) other (without (n.inversion b) (is (the t.Not)) other (e.inversion_starts b) v)
-    (comparison_without l n i other e d (signed_without l n i other e m o w c) b)))
+    (comparison_without l n i other e d (signed_without l n i other e m o w c) b))) ts rest a (countable l ts a h)

@@ -5,7 +5,9 @@ use Rattle.text_grammar.specs.declared.fault.Cause.TheVariants.{Syntax, Limit}
 use Rattle.text_grammar.specs.Readers.{Reader, is, accept, one, one_or, both, mapped, behind, before, either, perhaps}
 use Rattle.text_grammar.specs.Languages.{Lang, One, Before, Either}
 use Rattle.text_grammar.specs.Places.{Begins}
-use Rattle.text_grammar.proofs.Laws.{Exact, never, StartsWith, one-exact, the_test, takes}
+use Rattle.text_grammar.proofs.Exactness.{Exact, never, StartsWith, the_test}
+use Rattle.text_grammar.proofs.Tokens.{one-exact}
+use Rattle.text_grammar.proofs.Repeating.{takes}
 use Rattle.text_grammar.proofs.Starts.{mapped_starts, either_starts, wider_starts}
 use Rattle.text_grammar.proofs.Extends.{raised, Beyond, Extends, ExtendsOn, Stays, Leaves, exact_stays, picks_more, one_or_extends, one_or_same, one_extends, mapped_extends, both_extends, both_extends_in, behind_extends, either_extends, perhaps_extends, perhaps_extends_on, row_extends_in, behind_leaves, both_leaves, mapped_stays, perhaps_stays, refused_extends, refused_raised, blocked_same, blocked_raised}
 use Rattle.iv_types.specs.declared.terminal.Terminal.TheVariants as t
@@ -14,11 +16,12 @@ use Rattle.iv_types.specs.Tokens.{Symbol, name, number, text}
 use Rattle.iv_types.specs.Limits.{Limits, Agree, allows}
 use Rattle.iv_types.specs.Syntax as s
 use Rattle.iv_types.specs.Syntax.{Tree}
-use Rattle.iv_types.specs.Expressions.{the, name_in, number_in, text_in, or_op, and_op, comparison_op, sum_op, product_op, operations, joined, Operand, Nested, ref_of, positive, negative, Signed, Unary, Negated, Product, Sum, compared, Negation, Conjunction, Disjunction, nested}
+use Rattle.iv_types.specs.Expressions.{the, name_in, number_in, text_in, or_op, and_op, comparison_op, sum_op, product_op, operations, paired, Nested as PlainNested, nested as plain_nested, Unary as PlainUnary, Product as PlainProduct, Sum as PlainSum, Negation as PlainNegation, Conjunction as PlainConjunction, ref_of, positive, negative, compared}
+use Rattle.sql_readers.proofs.Budget.{Operand, Nested, Signed, Unary, Negated, Product, Sum, Negation, Conjunction, Disjunction, nested}
 use Rattle.sql_readers.specs.Ladder.{is_name, is_number, is_text, unless, name_reader, number_reader, text_reader, spent, spent_late, operand, chain, Inner, reference, signed, unary, negated, product, sum, comparison, negation, conjunction, disjunction, inner, expression}
 use Rattle.sql_readers.proofs.Apart.{on_unary, on_product, on_sum, on_comparison, on_conjunction}
 use Rattle.sql_readers.proofs.Ladder.{ExactNested, nested-exact, Column, column-exact, operand-exact, Word, word, word_starts, Named, named, named_starts, numeral, Negation_of, negation_of, negation_of-exact, unary-exact, negated-exact, unary_begins, product_begins, sum_begins, negation_begins, conjunction_begins, product-exact, sum-exact, negation-exact, conjunction-exact, grouped-exact, inverted, further}
-use Rattle.sql_readers.proofs.Counting.{Bounded, below, operand_bounded, BoundedNested, nested_bounded, unary_bounded, product_bounded, sum_bounded, negation_bounded, conjunction_bounded}
+use Rattle.sql_readers.proofs.Counting.{Bounded, bounded, below, operand_bounded, CountsNested, nested_counts, unary_counts, product_counts, sum_counts, negation_counts, conjunction_counts}
 
 -- The limits of all numbers from w on are raised: those of single tokens to none, the others by so much that a reader goes
 -- beyond where one was met.
@@ -193,12 +196,12 @@ record Operands (w n : ℕ) (p q : ℕ → Lang Symbol Tree) (on : Symbol → Bo
 first_bounded : (p : ℕ → Lang Symbol Tree) (on : Symbol → Bool) (r : ℕ → Reader Symbol Tree) → ((c : ℕ) → Exact (p c) on (r c)) → Bounded p → (b : ℕ) (ts : List Symbol) (x : Tree × List Symbol) → r b ts ≡ Ok x → operations x.0 ≤ b
 first_bounded p on r e q b ts x h = let k = (e b).ok ts x h in q b k.front x.0 k.spelled
 
-next_bounded : (pick : Symbol → Option Op) (p : ℕ → Lang Symbol Tree) (on : Symbol → Bool) (r : ℕ → Reader Symbol Tree) → ((c : ℕ) → Exact (p c) on (r c)) → ((c : ℕ) → Begins (p c) []) → Bounded p → (b : ℕ) (a : Tree) (ts : List Symbol) (x : (Op × Tree) × List Symbol) → operand pick r b a ts ≡ Ok x → operations (joined a x.0) ≤ b
+next_bounded : (pick : Symbol → Option Op) (p : ℕ → Lang Symbol Tree) (on : Symbol → Bool) (r : ℕ → Reader Symbol Tree) → ((c : ℕ) → Exact (p c) on (r c)) → ((c : ℕ) → Begins (p c) []) → Bounded p → (b : ℕ) (a : Tree) (ts : List Symbol) (x : (Op × Tree) × List Symbol) → operand pick r b a ts ≡ Ok x → operations (paired a x.0) ≤ b
 next_bounded pick p on r e some q b a ts x h = let k = (operand-exact pick p on r e some b a).ok ts x h in operand_bounded pick p q b a k.front x.0 k.spelled
 
 chain_extends : (w n : ℕ) (pick : Symbol → Option Op) (p q : ℕ → Lang Symbol Tree) (on : Symbol → Bool) (r s : ℕ → Reader Symbol Tree) → Operands w n p q on r s → (b c : ℕ) → Gap w n b c → Extends w (chain pick r b) (chain pick s c)
 chain_extends w n pick p q on r s k b c g =
-    row_extends_in w (is pick) (λ a. a) joined (r b) (s c) (operand pick r b) (operand pick s c) (λ a. operations a ≤ b) (k.extends b c g)
+    row_extends_in w (is pick) (λ a. a) paired (r b) (s c) (operand pick r b) (operand pick s c) (λ a. operations a ≤ b) (k.extends b c g)
     (λ ts x h. first_bounded p on r k.exact k.bounded b ts x h)
     (λ a le. operand_extends w n pick r s k.extends (λ d. exact_stays (q d) on (s d) (k.other d)) b c a g le)
     (λ a ts x le h. next_bounded pick p on r k.exact k.some k.bounded b a ts x h)
@@ -213,12 +216,13 @@ pub record Larger (w n : ℕ) (i j : Inner) : Type 0 where
   pub inversion : (b c : ℕ) → Gap w n b c → ExtendsOn w (is (the t.Not)) (i.inversion b) (j.inversion c)
 
 -- the two sides of a step: limits, languages and readers of both
-record Sides (w k : ℕ) (l m : Limits) (n o : Nested) (i j : Inner) : Type 0 where
+record Sides (w k : ℕ) (l m : Limits) (n o : Nested) (i j : Inner) : Type 1 where
   up : Raised w l m
   larger : Larger w k i j
   exact : ExactNested n i
   other : ExactNested o j
-  bounded : BoundedNested n
+  plain : PlainNested
+  counts : CountsNested n plain
 
 signed_extends : (w k : ℕ) (l m : Limits) (n o : Nested) (i j : Inner) → Sides w k l m n o i j → ExtendsBy w k (signed l i) (signed m j)
 unfolding signed
@@ -276,10 +280,10 @@ negated_extends w k l m n o i j d b c g = either_extends w is_number (numeral l 
 product_extends : (w k : ℕ) (l m : Limits) (n o : Nested) (i j : Inner) → Sides w k l m n o i j → ExtendsBy w k (product l i) (product m j)
 unfolding product
 product_extends w k l m n o i j d b c g =
-    chain_extends w k product_op (Unary l n) (Unary m o) on_unary (unary l i) (unary m j) (record { exact = unary-exact l n i d.exact; other = unary-exact m o j d.other; some = unary_begins l n; other_some = unary_begins m o; bounded = unary_bounded l n d.bounded; extends = unary_extends w k l m n o i j d }) b c g
+    chain_extends w k product_op (Unary l n) (Unary m o) on_unary (unary l i) (unary m j) (record { exact = unary-exact l n i d.exact; other = unary-exact m o j d.other; some = unary_begins l n; other_some = unary_begins m o; bounded = bounded (Unary l n) (PlainUnary l d.plain) (unary_counts l n d.plain d.counts); extends = unary_extends w k l m n o i j d }) b c g
 
 products : (w k : ℕ) (l m : Limits) (n o : Nested) (i j : Inner) → Sides w k l m n o i j → Operands w k (Product l n) (Product m o) on_product (product l i) (product m j)
-products w k l m n o i j d = record { exact = product-exact l n i d.exact; other = product-exact m o j d.other; some = product_begins l n; other_some = product_begins m o; bounded = product_bounded l n d.bounded; extends = product_extends w k l m n o i j d }
+products w k l m n o i j d = record { exact = product-exact l n i d.exact; other = product-exact m o j d.other; some = product_begins l n; other_some = product_begins m o; bounded = bounded (Product l n) (PlainProduct l d.plain) (product_counts l n d.plain d.counts); extends = product_extends w k l m n o i j d }
 
 sum_extends : (w k : ℕ) (l m : Limits) (n o : Nested) (i j : Inner) → Sides w k l m n o i j → ExtendsBy w k (sum l i) (sum m j)
 unfolding sum
@@ -291,7 +295,7 @@ comparison_extends w k l m n o i j d b c g =
     let e = sum-exact m o j d.other in
     mapped_extends w compared (both (sum l i b) (further l i b)) (both (sum m j c) (further m j c))
     (both_extends_in w (sum l i b) (sum m j c) (further l i b) (further m j c) (λ a. operations a ≤ b) (sum_extends w k l m n o i j d b c g)
-    (λ ts x h. first_bounded (Sum l n) on_sum (sum l i) (sum-exact l n i d.exact) (sum_bounded l n d.bounded) b ts x h)
+    (λ ts x h. first_bounded (Sum l n) on_sum (sum l i) (sum-exact l n i d.exact) (bounded (Sum l n) (PlainSum l d.plain) (sum_counts l n d.plain d.counts)) b ts x h)
     (λ a le. perhaps_extends_on w (is comparison_op) (operand comparison_op (sum l i) b a) (operand comparison_op (sum m j) c a) (operand_extends w k comparison_op (sum l i) (sum m j) (sum_extends w k l m n o i j d) (λ f. exact_stays (Sum m o f) on_sum (sum m j f) (e f)) b c a g le))
     (λ a. perhaps_stays (is comparison_op) (operand comparison_op (sum m j) c a) (exact_stays (Operand comparison_op (Sum m o) c a) on_sum (operand comparison_op (sum m j) c a) (operand-exact comparison_op (Sum m o) on_sum (sum m j) e (sum_begins m o) c a))))
 
@@ -302,12 +306,12 @@ negation_extends w k l m n o i j d b c g = either_extends w (is (the t.Not)) (i.
 conjunction_extends : (w k : ℕ) (l m : Limits) (n o : Nested) (i j : Inner) → Sides w k l m n o i j → ExtendsBy w k (conjunction l i) (conjunction m j)
 unfolding conjunction
 conjunction_extends w k l m n o i j d b c g =
-    chain_extends w k and_op (Negation l n) (Negation m o) on_comparison (negation l i) (negation m j) (record { exact = negation-exact l n i d.exact; other = negation-exact m o j d.other; some = negation_begins l n; other_some = negation_begins m o; bounded = negation_bounded l n d.bounded; extends = negation_extends w k l m n o i j d }) b c g
+    chain_extends w k and_op (Negation l n) (Negation m o) on_comparison (negation l i) (negation m j) (record { exact = negation-exact l n i d.exact; other = negation-exact m o j d.other; some = negation_begins l n; other_some = negation_begins m o; bounded = bounded (Negation l n) (PlainNegation l d.plain) (negation_counts l n d.plain d.counts); extends = negation_extends w k l m n o i j d }) b c g
 
 disjunction_extends : (w k : ℕ) (l m : Limits) (n o : Nested) (i j : Inner) → Sides w k l m n o i j → ExtendsBy w k (disjunction l i) (disjunction m j)
 unfolding disjunction
 disjunction_extends w k l m n o i j d b c g =
-    chain_extends w k or_op (Conjunction l n) (Conjunction m o) on_conjunction (conjunction l i) (conjunction m j) (record { exact = conjunction-exact l n i d.exact; other = conjunction-exact m o j d.other; some = conjunction_begins l n; other_some = conjunction_begins m o; bounded = conjunction_bounded l n d.bounded; extends = conjunction_extends w k l m n o i j d }) b c g
+    chain_extends w k or_op (Conjunction l n) (Conjunction m o) on_conjunction (conjunction l i) (conjunction m j) (record { exact = conjunction-exact l n i d.exact; other = conjunction-exact m o j d.other; some = conjunction_begins l n; other_some = conjunction_begins m o; bounded = bounded (Conjunction l n) (PlainConjunction l d.plain) (conjunction_counts l n d.plain d.counts); extends = conjunction_extends w k l m n o i j d }) b c g
 
 -- ---- levels
 
@@ -373,11 +377,11 @@ inner_extends w l m up zero (suc k) v =
 inner_extends w l m up (suc n) zero v =
     elim (the_test (nat_le w 4)) [ inl raise ↦ absurd (let lt = v.1 raise in omega (arith, lt)) | inr same ↦ absurd (let e = v.0 same in omega (arith, e)) ]
 inner_extends w l m up (suc n) (suc k) v =
-    inner_step w l m n k (record { up = up; larger = inner_extends w l m up n k (λ h. (let e = v.0 h in omega (arith, e)), λ h. (let lt = v.1 h in omega (arith, lt))); exact = nested-exact l n; other = nested-exact m k; bounded = nested_bounded l n })
+    inner_step w l m n k (record { up = up; larger = inner_extends w l m up n k (λ h. (let e = v.0 h in omega (arith, e)), λ h. (let lt = v.1 h in omega (arith, lt))); exact = nested-exact l n; other = nested-exact m k; plain = plain_nested l n; counts = nested_counts l n })
 
 pub expression_extends : (w : ℕ) (l m : Limits) → Raised w l m → Extends w (expression l) (expression m)
 unfolding expression
 expression_extends w l m up =
     disjunction_extends w l.nesting l m (nested l l.nesting) (nested m m.nesting) (inner l l.nesting) (inner m m.nesting)
-    (record { up = up; larger = inner_extends w l m up l.nesting m.nesting (λ h. up.agree.nesting (above w 4 h), up.nesting); exact = nested-exact l l.nesting; other = nested-exact m m.nesting; bounded = nested_bounded l l.nesting })
+    (record { up = up; larger = inner_extends w l m up l.nesting m.nesting (λ h. up.agree.nesting (above w 4 h), up.nesting); exact = nested-exact l l.nesting; other = nested-exact m m.nesting; plain = plain_nested l l.nesting; counts = nested_counts l l.nesting })
     l.operations m.operations (λ h. up.agree.operations (above w 18 h), up.operations)

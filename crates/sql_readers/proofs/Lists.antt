@@ -5,14 +5,18 @@ use Rattle.text_grammar.specs.declared.fault.Cause.TheVariants.{Limit}
 use Rattle.text_grammar.specs.Readers.{Reader, is, starts, one, both, mapped, behind, before, perhaps, blocked}
 use Rattle.text_grammar.specs.Languages.{Lang, One, Then, Behind, Mapped, Before, Nothing, Perhaps}
 use Rattle.text_grammar.specs.Places.{Begins}
-use Rattle.text_grammar.proofs.Laws.{Exact, never, StartsWith, StartsWithout, Stops, FitsBehind, one-exact, mapped-exact, then-exact, fits_perhaps, blocked-exact, either-exact, widened, perhaps-exact, row-exact}
+use Rattle.text_grammar.proofs.Exactness.{Exact, never, StartsWith, StartsWithout, Stops, widened}
+use Rattle.text_grammar.proofs.Tokens.{one-exact}
+use Rattle.text_grammar.proofs.Combining.{FitsBehind, mapped-exact, then-exact, fits_perhaps, either-exact, perhaps-exact}
+use Rattle.text_grammar.proofs.Repeating.{row-exact}
+use Rattle.text_grammar.proofs.Blocking.{blocked-exact}
 use Rattle.text_grammar.proofs.Starts.{one_starts, behind_starts, without, mapped_starts, mapped_without, one_begins, both_begins, mapped_begins, row_begins, left_begins, or_false}
 use Rattle.iv_types.specs.declared.terminal.Terminal.{Terminal}
 use Rattle.iv_types.specs.declared.terminal.Terminal.TheVariants as t
 use Rattle.iv_types.specs.Tokens.{Symbol, hole}
-use Rattle.iv_types.specs.Expressions.{the, Only}
-use Rattle.iv_types.specs.Grammar.{alone, snoc, Listed, the_hole, no_item, an_item, add, Counted, ListedTo, Enclosed}
-use Rattle.sql_readers.specs.Statements.{listed, counted, listed_to, enclosed, comma_item}
+use Rattle.iv_types.specs.Expressions.{the}
+use Rattle.iv_types.specs.Grammar.{Only, singleton, snoc, Listed, the_hole, no_item, an_item, add, Counted, ListedTo, Enclosed}
+use Rattle.sql_readers.specs.Statements.{comma_list, counted, listed_to, enclosed, comma_item}
 use Rattle.sql_readers.proofs.Ladder.{behind_the, behind_some, the_begins, only-exact}
 
 -- ---- what follows
@@ -84,15 +88,15 @@ enclosed_begins p some = behind_some t.Open (Before (the t.Close) p) (mapped_beg
 abbrev pub comma : Symbol → Bool
 comma = is (the t.Comma)
 
-pub listed-exact : {A : Type 0} (p : Lang Symbol A) (on : Symbol → Bool) (r : Reader Symbol A) → Exact p on r → Begins p [] → Ends comma on → Exact (Listed p) (λ x. on x || comma x) (listed r)
+pub listed-exact : {A : Type 0} (p : Lang Symbol A) (on : Symbol → Bool) (r : Reader Symbol A) → Exact p on r → Begins p [] → Ends comma on → Exact (Listed p) (λ x. on x || comma x) (comma_list r)
 listed-exact p on r e some ends =
-    row-exact comma alone snoc p (λ _. Behind (the t.Comma) p) on (λ x. on x || comma x) r (λ _. comma_item r) e
+    row-exact comma singleton snoc p (λ _. Behind (the t.Comma) p) on (λ x. on x || comma x) r (λ _. comma_item r) e
     (λ c. behind_the t.Comma p on r e some)
     (λ c. behind_starts (the t.Comma) p)
     (ends, λ x h. or_false (on x) (comma x) h)
 
 pub listed_begins : {A : Type 0} (p : Lang Symbol A) → Begins p [] → Begins (Listed p) []
-listed_begins p some = row_begins alone snoc p (λ _. Behind (the t.Comma) p) some
+listed_begins p some = row_begins singleton snoc p (λ _. Behind (the t.Comma) p) some
 
 only_without : {A : Type 0} (b : Bool) (p : Lang Symbol A) (other : Symbol → Bool) → StartsWithout p other → StartsWithout (Only b p) other
 only_without b p other w ts rest a h = w ts rest a h.1
@@ -114,10 +118,10 @@ counted_begins have most p = left_begins (Mapped no_item (One the_hole)) (Only (
 
 pub listed_to-exact : {A : Type 0} (limit most : ℕ) (p : Lang Symbol A) (on : Symbol → Bool) (r : Reader Symbol A) → Exact p on r → StartsWithout p (is the_hole) → Ends comma on → Exact (ListedTo most p) (λ x. on x || comma x) (listed_to limit most r)
 listed_to-exact limit most p on r e w ends =
-    row-exact comma alone add p (λ have. Behind (the t.Comma) (Counted (length have) most p)) on (λ x. on x || comma x) r (λ have. comma_item (counted limit (length have) most r)) e
+    row-exact comma singleton add p (λ have. Behind (the t.Comma) (Counted (length have) most p)) on (λ x. on x || comma x) r (λ have. comma_item (counted limit (length have) most r)) e
     (λ have. behind_the t.Comma (Counted (length have) most p) on (counted limit (length have) most r) (counted-exact limit (length have) most p on r e w) (counted_begins (length have) most p))
     (λ have. behind_starts (the t.Comma) (Counted (length have) most p))
     (ends, λ x h. or_false (on x) (comma x) h)
 
 pub listed_to_begins : {A : Type 0} (most : ℕ) (p : Lang Symbol A) → Begins p [] → Begins (ListedTo most p) []
-listed_to_begins most p some = row_begins alone add p (λ have. Behind (the t.Comma) (Counted (length have) most p)) some
+listed_to_begins most p some = row_begins singleton add p (λ have. Behind (the t.Comma) (Counted (length have) most p)) some

@@ -4,7 +4,8 @@ use Rattle.text_grammar.specs.declared.fault.Cause.{Cause}
 use Rattle.text_grammar.specs.declared.fault.Cause.TheVariants.{Limit}
 use Rattle.text_grammar.specs.declared.fault.Fault.{Fault}
 use Rattle.text_grammar.specs.Readers.{◌>>=◌, Reader, is, starts, behind, both, mapped, blocked, fault_of_first, folded}
-use Rattle.text_grammar.proofs.Laws.{Consumes, consumes, never, err_is}
+use Rattle.text_grammar.proofs.Exactness.{never, err_is}
+use Rattle.text_grammar.proofs.Repeating.{Consumes, consumes}
 use Rattle.text_grammar.proofs.Loops.{row_on, row_fails, row_ends}
 use Rattle.text_grammar.proofs.Extends.{Stays, Within}
 use Rattle.iv_types.specs.declared.terminal.Terminal.{Terminal}
@@ -17,11 +18,12 @@ use Rattle.iv_types.specs.declared.statement.Relation.{Relation}
 use Rattle.iv_types.specs.Limits.{Limits}
 use Rattle.iv_types.specs.Syntax.{Tree, JoinTree}
 use Rattle.sql_readers.specs.Ladder.{is_name, expression}
-use Rattle.sql_readers.specs.Statements.{comma_item, counted, column, source, join_one, joined, join}
+use Rattle.sql_readers.specs.Statements.{comma_item, counted, column, source, join_one, joined_source, join}
 use Rattle.sql_readers.proofs.Apart.{on_expression}
-use Rattle.sql_readers.proofs.Whole.{column-exact, column_starts, join-exact, join_starts}
+use Rattle.sql_readers.proofs.Creations.{column-exact, column_starts}
+use Rattle.sql_readers.proofs.Queries.{join-exact, join_starts}
 use Rattle.sql_readers.proofs.Lists.{comma}
-use Rattle.sql_readers.proofs.Grown.{counted_stays}
+use Rattle.sql_readers.proofs.GrownLists.{counted_stays}
 
 within_ok : {A : Type 0} (n : ℕ) (z : Result (A × List Symbol) Fault) (x : A × List Symbol) → Within n z → z ≡ Ok x → length x.1 ≤ n
 within_ok n z x w e = subst (λ (y : Result (_ × List Symbol) Fault). Within n y) e w
@@ -135,7 +137,7 @@ same_pair : (z : Result (Relation × List Symbol) Fault) (s : Reader Symbol Tree
 same_pair (Err f) s = refl
 same_pair (Ok x) s = same_rest x.0 x.1 (s x.1)
 
-join_room : (l : Limits) (have : ℕ) (x : Symbol) (ts after : List Symbol) → ts ≡ x ∷ after → is (the t.Join) x ≡ true → starts (is the_hole) after ≡ false → have < l.relations → join l have ts ≡ mapped an_item (joined l) after
+join_room : (l : Limits) (have : ℕ) (x : Symbol) (ts after : List Symbol) → ts ≡ x ∷ after → is (the t.Join) x ≡ true → starts (is the_hole) after ≡ false → have < l.relations → join l have ts ≡ mapped an_item (joined_source l) after
 unfolding join
 join_room l have x ts after text found h lt =
     behind_passed t.Join (mapped join_of (both (counted 7 have l.relations (source l)) (λ _. behind (the t.On) (expression l)))) x ts after text found
@@ -144,10 +146,10 @@ join_room l have x ts after text found h lt =
 join_consumes : (l : Limits) (c : Sources) → Consumes (is (the t.Join)) (join l (suc (length c.1)))
 join_consumes l c = consumes (is (the t.Join)) (AJoin l (suc (length c.1))) on_expression (join l (suc (length c.1))) (join-exact l (suc (length c.1))) (join_starts l (suc (length c.1)))
 
-pub source_on : (l : Limits) (acc : Sources) (x : Symbol) (ts after mid : List Symbol) (j : JoinTree) → ts ≡ x ∷ after → is (the t.Join) x ≡ true → starts (is the_hole) after ≡ false → suc (length acc.1) < l.relations → joined l after ≡ Ok (j, mid) → more_sources l (acc.0, snoc acc.1 j) mid ≡ more_sources l acc ts
+pub source_on : (l : Limits) (acc : Sources) (x : Symbol) (ts after mid : List Symbol) (j : JoinTree) → ts ≡ x ∷ after → is (the t.Join) x ≡ true → starts (is the_hole) after ≡ false → suc (length acc.1) < l.relations → joined_source l after ≡ Ok (j, mid) → more_sources l (acc.0, snoc acc.1 j) mid ≡ more_sources l acc ts
 source_on l acc x ts after mid j text found h lt e = row_on (is (the t.Join)) with_join (λ f. join l (suc (length f.1))) acc ts mid (Some j) (join_consumes l) (comes_first t.Join x ts after text found) (join_room l (suc (length acc.1)) x ts after text found h lt ∙ rw e refl)
 
-pub source_fails : (l : Limits) (acc : Sources) (x : Symbol) (ts after : List Symbol) (f : Fault) → ts ≡ x ∷ after → is (the t.Join) x ≡ true → starts (is the_hole) after ≡ false → suc (length acc.1) < l.relations → joined l after ≡ Err f → more_sources l acc ts ≡ Err f
+pub source_fails : (l : Limits) (acc : Sources) (x : Symbol) (ts after : List Symbol) (f : Fault) → ts ≡ x ∷ after → is (the t.Join) x ≡ true → starts (is the_hole) after ≡ false → suc (length acc.1) < l.relations → joined_source l after ≡ Err f → more_sources l acc ts ≡ Err f
 source_fails l acc x ts after f text found h lt e = row_fails (is (the t.Join)) with_join (λ f. join l (suc (length f.1))) acc ts f (comes_first t.Join x ts after text found) (join_room l (suc (length acc.1)) x ts after text found h lt ∙ rw e refl)
 
 pub source_over : (l : Limits) (acc : Sources) (x : Symbol) (ts after : List Symbol) (f : Fault) → ts ≡ x ∷ after → is (the t.Join) x ≡ true → starts (is the_hole) after ≡ false → l.relations ≤ suc (length acc.1) → blocked (Limit 7) (source l) after ≡ Err f → more_sources l acc ts ≡ Err f

@@ -4,7 +4,7 @@ use Rattle.std.specs.Prelude.{is_some}
 use Rattle.text_grammar.specs.declared.fault.Cause.TheVariants.{Limit}
 use Rattle.text_grammar.specs.declared.fault.Fault.{Fault}
 use Rattle.text_grammar.specs.Readers.{Reader, is, starts, fault_at, mapped, behind, before, folded}
-use Rattle.text_grammar.proofs.Laws.{Consumes, consumes}
+use Rattle.text_grammar.proofs.Repeating.{Consumes, consumes}
 use Rattle.text_grammar.proofs.Loops.{row_on, row_fails, row_ends}
 use Rattle.iv_types.specs.declared.terminal.Terminal.{Terminal}
 use Rattle.iv_types.specs.declared.terminal.Terminal.TheVariants as t
@@ -13,7 +13,8 @@ use Rattle.iv_types.specs.Tokens.{Symbol}
 use Rattle.iv_types.specs.Limits.{Limits}
 use Rattle.iv_types.specs.Syntax as s
 use Rattle.iv_types.specs.Syntax.{Tree}
-use Rattle.iv_types.specs.Expressions.{the, operations, joined, or_op, and_op, comparison_op, sum_op, product_op, Operand, Conjunction, Negation, Sum, Product, Unary, nested}
+use Rattle.iv_types.specs.Expressions.{the, operations, paired, or_op, and_op, comparison_op, sum_op, product_op}
+use Rattle.sql_readers.proofs.Budget.{Operand, Conjunction, Negation, Sum, Product, Unary, nested}
 use Rattle.sql_readers.specs.declared.expressions.Level.{Level}
 use Rattle.sql_readers.specs.declared.expressions.Level.TheVariants as level
 use Rattle.sql_readers.specs.Ladder.{operand, inner, conjunction, negation, product, sum, unary, disjunction, signed, negated, spent}
@@ -26,7 +27,7 @@ abbrev pub item : Limits → ℕ → Level → ℕ → Tree → Reader Symbol (O
 item l n lv b = operand (pick_of lv) (operands l (inner l n) lv) b
 
 abbrev pub rest_of : Limits → ℕ → Level → ℕ → Tree → Reader Symbol Tree
-rest_of l n lv b = folded (is (pick_of lv)) joined (item l n lv b)
+rest_of l n lv b = folded (is (pick_of lv)) paired (item l n lv b)
 
 item_consumes : (l : Limits) (n : ℕ) (lv : Level) (b : ℕ) (a : Tree) → Consumes (is (pick_of lv)) (item l n lv b a)
 unfolding Sum sum
@@ -55,19 +56,19 @@ item_err l n lv b a x op rest f lt found h = let r = room (operations a) b lt in
 -- one turn more
 pub chain_turn : (l : Limits) (n : ℕ) (lv : Level) (b : ℕ) (a e : Tree) (ts : List Symbol) (x : Symbol) (op : Op) (rest mid : List Symbol) → ts ≡ x ∷ rest → operations a < b → pick_of lv x ≡ Some op → operands l (inner l n) lv (b - suc (operations a)) rest ≡ Ok (e, mid) → rest_of l n lv b (s.pair op a e) mid ≡ rest_of l n lv b a ts
 chain_turn l n lv b a e ts x op rest mid text lt found h =
-    row_on (is (pick_of lv)) joined (item l n lv b) a ts mid (op, e) (item_consumes l n lv b) (comes lv x op ts rest text found) (ap (item l n lv b a) text ∙ item_ok l n lv b a e x op rest mid lt found h)
+    row_on (is (pick_of lv)) paired (item l n lv b) a ts mid (op, e) (item_consumes l n lv b) (comes lv x op ts rest text found) (ap (item l n lv b a) text ∙ item_ok l n lv b a e x op rest mid lt found h)
 
 pub chain_fails : (l : Limits) (n : ℕ) (lv : Level) (b : ℕ) (a : Tree) (ts : List Symbol) (x : Symbol) (op : Op) (rest : List Symbol) (f : Fault) → ts ≡ x ∷ rest → operations a < b → pick_of lv x ≡ Some op → operands l (inner l n) lv (b - suc (operations a)) rest ≡ Err f → rest_of l n lv b a ts ≡ Err f
 chain_fails l n lv b a ts x op rest f text lt found h =
-    row_fails (is (pick_of lv)) joined (item l n lv b) a ts f (comes lv x op ts rest text found) (ap (item l n lv b a) text ∙ item_err l n lv b a x op rest f lt found h)
+    row_fails (is (pick_of lv)) paired (item l n lv b) a ts f (comes lv x op ts rest text found) (ap (item l n lv b a) text ∙ item_err l n lv b a x op rest f lt found h)
 
 -- no operation is left
 pub chain_full : (l : Limits) (n : ℕ) (lv : Level) (b : ℕ) (a : Tree) (ts : List Symbol) (x : Symbol) (op : Op) (rest : List Symbol) → ts ≡ x ∷ rest → b ≤ operations a → pick_of lv x ≡ Some op → rest_of l n lv b a ts ≡ Err (fault_at (Limit 18) ts)
 chain_full l n lv b a ts x op rest text le found =
-    row_fails (is (pick_of lv)) joined (item l n lv b) a ts (fault_at (Limit 18) ts) (comes lv x op ts rest text found) (let r = full (operations a) b le in rw r refl)
+    row_fails (is (pick_of lv)) paired (item l n lv b) a ts (fault_at (Limit 18) ts) (comes lv x op ts rest text found) (let r = full (operations a) b le in rw r refl)
 
 pub chain_ends : (l : Limits) (n : ℕ) (lv : Level) (b : ℕ) (a : Tree) (ts : List Symbol) → starts (is (pick_of lv)) ts ≡ false → rest_of l n lv b a ts ≡ Ok (a, ts)
-chain_ends l n lv b a ts h = row_ends (is (pick_of lv)) joined (item l n lv b) a ts h
+chain_ends l n lv b a ts h = row_ends (is (pick_of lv)) paired (item l n lv b) a ts h
 
 -- ---- one level further in
 

@@ -12,7 +12,7 @@ use Rattle.iv_types.specs.Tokens.{Symbol, name, number, text}
 use Rattle.iv_types.specs.Limits.{Limits}
 use Rattle.iv_types.specs.Syntax as s
 use Rattle.iv_types.specs.Syntax.{Tree}
-use Rattle.iv_types.specs.Expressions.{the, name_in, number_in, text_in, or_op, and_op, comparison_op, sum_op, product_op, operations, joined, ref_of, positive, negative, compared}
+use Rattle.iv_types.specs.Expressions.{the, name_in, number_in, text_in, or_op, and_op, comparison_op, sum_op, product_op, operations, paired, ref_of, positive, negative, compared}
 
 -- ---- single tokens
 
@@ -57,7 +57,7 @@ abbrev pub operand : (Symbol → Option Op) → (ℕ → Reader Symbol Tree) →
 operand pick r b a ts = if nat_lt (operations a) b then both (one pick) (λ _. r (b - suc (operations a))) ts else refused (Limit 18) ts
 
 abbrev pub chain : (Symbol → Option Op) → (ℕ → Reader Symbol Tree) → ℕ → Reader Symbol Tree
-chain pick r b = row (is pick) (λ a. a) joined (r b) (operand pick r b)
+chain pick r b = row (is pick) (λ a. a) paired (r b) (operand pick r b)
 
 -- ---- the ladder
 

@@ -18,27 +18,27 @@ use Rattle.iv_types.specs.Syntax as s
 use Rattle.iv_types.specs.Syntax.{Tree, JoinTree, ItemTree, QueryTree, SetTree, StatementTree}
 use Rattle.iv_types.specs.Expressions.{the}
 use Rattle.iv_types.specs.Grammar as g
-use Rattle.iv_types.specs.Grammar.{alone, snoc, or_none, the_hole, no_item, an_item, add, kind_of, column_of, table_of, index_of, sum_of, plain_of, relation_of, join_of, Sources, first_source, with_join, query_of, view_of, direction_of, or_rising, place_key, name_key, order_of, selection_of, insertion_of, set_of, update_of, deletion_of, begin_of, commit_of}
+use Rattle.iv_types.specs.Grammar.{singleton, snoc, or_none, the_hole, no_item, an_item, add, kind_of, column_of, table_of, index_of, sum_of, plain_of, relation_of, join_of, Sources, first_source, with_join, query_of, view_of, direction_of, or_rising, place_key, name_key, order_of, selection_of, insertion_of, set_of, update_of, deletion_of, begin_of, commit_of}
 use Rattle.sql_readers.specs.Ladder.{is_name, is_number, name_reader, number_reader, reference, expression}
 
 abbrev pub comma_item : {A : Type 0} → Reader Symbol A → Reader Symbol A
 comma_item r = behind (the t.Comma) r
 
-abbrev pub listed : {A : Type 0} → Reader Symbol A → Reader Symbol (List A)
-listed r = row (is (the t.Comma)) alone snoc r (λ _. comma_item r)
+abbrev pub comma_list : {A : Type 0} → Reader Symbol A → Reader Symbol (List A)
+comma_list r = row (is (the t.Comma)) singleton snoc r (λ _. comma_item r)
 
 -- one more of what there are so many of already, or its first token is one too many
 abbrev pub counted : {A : Type 0} → ℕ → ℕ → ℕ → Reader Symbol A → Reader Symbol (Option A)
 counted limit have most r = either (is the_hole) (mapped no_item (one the_hole)) (λ ts. if nat_lt have most then mapped an_item r ts else blocked (Limit limit) (mapped an_item r) ts)
 
 abbrev pub listed_to : {A : Type 0} → ℕ → ℕ → Reader Symbol A → Reader Symbol (List A)
-listed_to limit most r = row (is (the t.Comma)) alone add r (λ have. comma_item (counted limit (length have) most r))
+listed_to limit most r = row (is (the t.Comma)) singleton add r (λ have. comma_item (counted limit (length have) most r))
 
 abbrev pub enclosed : {A : Type 0} → Reader Symbol A → Reader Symbol A
 enclosed r = behind (the t.Open) (before (the t.Close) r)
 
 unfoldable pub names : Limits → Reader Symbol (List (List ℕ))
-names l = listed (name_reader l)
+names l = comma_list (name_reader l)
 
 -- ---- CREATE
 
@@ -49,7 +49,7 @@ unfoldable pub column : Limits → Reader Symbol ColumnDef
 column l = before (the t.Comma) (mapped column_of (both (name_reader l) (λ _. one kind_of)))
 
 unfoldable pub columns : Limits → Reader Symbol (List ColumnDef)
-columns l = row is_name alone snoc (column l) (λ _. column l)
+columns l = row is_name singleton snoc (column l) (λ _. column l)
 
 unfoldable pub table_body : Limits → Reader Symbol (List ColumnDef × List (List ℕ))
 table_body l = both (columns l) (λ _. behind (the t.Primary) (behind (the t.Key) (enclosed (names l))))
@@ -92,8 +92,8 @@ unfoldable pub source : Limits → Reader Symbol Relation
 source l = mapped relation_of (both (name_reader l) (λ _. alias l))
 
 -- a relation and its condition, behind a JOIN
-abbrev pub joined : Limits → Reader Symbol JoinTree
-joined l = mapped join_one (both (source l) (λ _. behind (the t.On) (expression l)))
+abbrev pub joined_source : Limits → Reader Symbol JoinTree
+joined_source l = mapped join_one (both (source l) (λ _. behind (the t.On) (expression l)))
 
 unfoldable pub join : Limits → ℕ → Reader Symbol (Option JoinTree)
 join l have = behind (the t.Join) (mapped join_of (both (counted 7 have l.relations (source l)) (λ _. behind (the t.On) (expression l))))
@@ -105,7 +105,7 @@ unfoldable pub condition : Limits → Reader Symbol (Option Tree)
 condition l = perhaps (is (the t.Where)) (behind (the t.Where) (expression l))
 
 unfoldable pub grouping : Limits → Reader Symbol (List Ref)
-grouping l = mapped or_none (perhaps (is (the t.Group)) (behind (the t.Group) (behind (the t.By) (listed (reference l)))))
+grouping l = mapped or_none (perhaps (is (the t.Group)) (behind (the t.Group) (behind (the t.By) (comma_list (reference l)))))
 
 unfoldable pub query : Limits → Reader Symbol QueryTree
 query l = behind (the t.Select) (mapped query_of (both (items l) (λ _. behind (the t.From) (both (from l) (λ _. both (condition l) (λ _. grouping l))))))
@@ -126,7 +126,7 @@ unfoldable pub order : Limits → Reader Symbol Order
 order l = mapped order_of (both (key_reader l) (λ _. direction))
 
 abbrev pub ordering : Limits → Reader Symbol (List Order)
-ordering l = mapped or_none (perhaps (is (the t.Order)) (behind (the t.Order) (behind (the t.By) (listed (order l)))))
+ordering l = mapped or_none (perhaps (is (the t.Order)) (behind (the t.Order) (behind (the t.By) (comma_list (order l)))))
 
 unfoldable pub selection : Limits → Reader Symbol StatementTree
 selection l = mapped selection_of (both (query l) (λ _. ordering l))
@@ -134,7 +134,7 @@ selection l = mapped selection_of (both (query l) (λ _. ordering l))
 -- ---- rows
 
 unfoldable pub tuple : Limits → Reader Symbol (List Tree)
-tuple l = enclosed (listed (expression l))
+tuple l = enclosed (comma_list (expression l))
 
 unfoldable pub tuples : Limits → Reader Symbol (List (List Tree))
 tuples l = listed_to 5 l.rows (tuple l)
@@ -146,7 +146,7 @@ unfoldable pub assignment : Limits → Reader Symbol SetTree
 assignment l = mapped set_of (both (name_reader l) (λ _. behind (the t.Equal) (expression l)))
 
 unfoldable pub update : Limits → Reader Symbol StatementTree
-update l = behind (the t.Update) (mapped update_of (both (name_reader l) (λ _. behind (the t.Set) (both (listed (assignment l)) (λ _. condition l)))))
+update l = behind (the t.Update) (mapped update_of (both (name_reader l) (λ _. behind (the t.Set) (both (comma_list (assignment l)) (λ _. condition l)))))
 
 unfoldable pub deletion : Limits → Reader Symbol StatementTree
 deletion l = behind (the t.Delete) (behind (the t.From) (mapped deletion_of (both (name_reader l) (λ _. condition l))))

@@ -3,7 +3,7 @@ ghost use Rattle.std.specs.Prelude.{◌≡◌, ◌<◌, ◌≤◌, length, map, 
 ghost use Rattle.text_grammar.specs.Readers.{Gives};
 ghost use Rattle.iv_types.specs.Limits.{the_limits};
 ghost use Rattle.iv_types.specs.Trees.{trees, set_tree, statement_tree};
-ghost use Rattle.sql_readers.specs.Statements.{listed, tuples, assignment, insertion, update, deletion, control};
+ghost use Rattle.sql_readers.specs.Statements.{comma_list, tuples, assignment, insertion, update, deletion, control};
 
 use crate::cursor::Cursor;
 use crate::part::{listed, listed_to};
@@ -39,7 +39,7 @@ pub fn insertion_of(alloc: Global, cursor: &mut Cursor) -> Result<Statement, Par
 
 #[tactic(auto, using(crate::proofs::Forward::assignment_stays))]
 fn sets_of(alloc: Global, cursor: &mut Cursor) -> Result<SetList, ParseError>
-    ensures reads { Gives (λ x. (map set_tree x, cursor.new)) result (listed (assignment the_limits) cursor.old) }
+    ensures reads { Gives (λ x. (map set_tree x, cursor.new)) result (comma_list (assignment the_limits) cursor.old) }
     ensures shorter { IfOk result (λ _. length cursor.new < length cursor.old) }
 {
     listed::<Set>(alloc, cursor)

@@ -22,6 +22,7 @@ fn names_of(alloc: Global, cursor: &mut Cursor) -> Result<NameList, ParseError>
 }
 
 // A column's type.
+#[tactic(auto, unfolding(iv_types::specs::Terminals::same))]
 fn kind_of(cursor: &mut Cursor) -> Result<Kind, ParseError>
     ensures reads { Gives (λ x. (x, cursor.new)) result (kind_reader cursor.old) }
     ensures shorter { IfOk result (λ _. length cursor.new < length cursor.old) }

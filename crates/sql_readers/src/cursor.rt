@@ -80,7 +80,7 @@ impl<'a> Cursor<'a> {
         match self.tokens {
             [] => false,
             [token, ..] => match token.kind {
-                TokenKind::Fixed(j) => j.number() == k.number(),
+                TokenKind::Fixed(j) => j == k,
                 _ => false,
             },
         }

@@ -4,7 +4,7 @@ ghost use Rattle.text_grammar.specs.Readers.{Gives, Fails, Reader, blocked};
 ghost use Rattle.text_grammar.specs.declared.fault.Cause.TheVariants.{Limit};
 ghost use Rattle.text_grammar.proofs.Extends.{Stays};
 ghost use Rattle.iv_types.specs.Tokens.{Symbol};
-ghost use Rattle.sql_readers.specs.Statements.{listed, listed_to, enclosed};
+ghost use Rattle.sql_readers.specs.Statements.{comma_list, listed_to, enclosed};
 
 use crate::cursor::Cursor;
 use crate::expressions::goes_first;
@@ -31,7 +31,7 @@ pub trait Part: Drop + Sized {
 /// One, and more with commas between.
 pub fn listed<P: Part>(alloc: Global, cursor: &mut Cursor) -> Result<Sequence<P>, ParseError>
     requires forward { Stays P.reader }
-    ensures reads { Gives (λ x. (map P.seen x, cursor.new)) result (listed P.reader cursor.old) }
+    ensures reads { Gives (λ x. (map P.seen x, cursor.new)) result (comma_list P.reader cursor.old) }
     ensures shorter { IfOk result (λ _. length cursor.new < length cursor.old) }
 {
     let first = P::read(alloc, cursor)?;
@@ -93,7 +93,7 @@ pub fn enclosed<P: Part>(alloc: Global, cursor: &mut Cursor) -> Result<P, ParseE
 /// Lists in parentheses.
 pub fn enclosed_list<P: Part>(alloc: Global, cursor: &mut Cursor) -> Result<Sequence<P>, ParseError>
     requires forward { Stays P.reader }
-    ensures reads { Gives (λ x. (map P.seen x, cursor.new)) result (enclosed (listed P.reader) cursor.old) }
+    ensures reads { Gives (λ x. (map P.seen x, cursor.new)) result (enclosed (comma_list P.reader) cursor.old) }
     ensures shorter { IfOk result (λ _. length cursor.new < length cursor.old) }
 {
     cursor.expect(Terminal::Open)?;

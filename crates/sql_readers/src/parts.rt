@@ -172,6 +172,7 @@ fn key_of(alloc: Global, cursor: &mut Cursor) -> Result<OrderKey, ParseError>
 }
 
 /// Whether the order falls: it does behind a DESC.
+#[tactic(auto, unfolding(iv_types::specs::Terminals::same))]
 fn direction_of(cursor: &mut Cursor) -> Result<bool, ParseError>
     ensures reads { Gives (λ x. (x, cursor.new)) result (direction cursor.old) }
     ensures shorter { IfOk result (λ _. length cursor.new ≤ length cursor.old) }

@@ -3,7 +3,7 @@ ghost use Rattle.std.specs.Prelude.{◌≡◌, ◌<◌, ◌≤◌, ◌+◌, leng
 ghost use Rattle.text_grammar.specs.Readers.{Gives};
 ghost use Rattle.iv_types.specs.Limits.{the_limits};
 ghost use Rattle.iv_types.specs.Trees.{item_tree, join_tree, perhaps_tree, query_tree, statement_tree};
-ghost use Rattle.sql_readers.specs.Statements.{items, counted, source, joined, from, condition, grouping, ordering, query, selection};
+ghost use Rattle.sql_readers.specs.Statements.{items, counted, source, joined_source, from, condition, grouping, ordering, query, selection};
 ghost use Rattle.sql_readers.specs.Passing.{sources};
 
 use crate::cursor::Cursor;
@@ -49,7 +49,7 @@ fn items_of(alloc: Global, cursor: &mut Cursor) -> Result<ItemList, ParseError>
 
 // A relation that is joined and its condition, behind the JOIN.
 fn join_of(alloc: Global, cursor: &mut Cursor) -> Result<Join, ParseError>
-    ensures reads { Gives (λ x. (join_tree x, cursor.new)) result (joined the_limits cursor.old) }
+    ensures reads { Gives (λ x. (join_tree x, cursor.new)) result (joined_source the_limits cursor.old) }
     ensures shorter { IfOk result (λ _. length cursor.new < length cursor.old) }
 {
     let relation = Relation::read(alloc, cursor)?;

@@ -7,7 +7,9 @@ use Rattle.text_grammar.specs.declared.fault.Cause.TheVariants.{Syntax, Limit}
 use Rattle.text_grammar.specs.declared.fault.Fault.{Fault}
 use Rattle.text_grammar.specs.Readers.{Reader, ◌>>=◌, fault_at, starts, accept, one, one_or, both, mapped, behind, either, perhaps, refused, goes_first, blocked, folded_by, folded, row}
 use Rattle.text_grammar.specs.Languages.{Lang}
-use Rattle.text_grammar.proofs.Laws.{Exact, the_test, the_result, err_is, first_goes, first_is, blocked_first, blocked_else, Consumes}
+use Rattle.text_grammar.proofs.Exactness.{Exact, the_test, the_result, err_is}
+use Rattle.text_grammar.proofs.Repeating.{Consumes}
+use Rattle.text_grammar.proofs.Blocking.{first_goes, first_is, blocked_first, blocked_else}
 
 -- read or faulted with fewer than n tokens left
 abbrev pub Beyond : {T A : Type 0} → ℕ → Result (A × List T) Fault → Type 0

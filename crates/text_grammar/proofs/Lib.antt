@@ -1,4 +1,8 @@
-pub mod Laws
+pub mod Exactness
+pub mod Tokens
+pub mod Combining
+pub mod Repeating
+pub mod Blocking
 pub mod Starts
 pub mod Extends
 pub mod Loops

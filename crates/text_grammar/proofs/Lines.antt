@@ -9,7 +9,7 @@ use Rattle.text_grammar.specs.Readers.{Reader, fault_at, ended, all_of}
 use Rattle.text_grammar.specs.Languages.{Lang}
 use Rattle.text_grammar.specs.Places.{Begins, Stuck, GoesOn, IsCause, FirstFault}
 use Rattle.text_grammar.proofs.Extends.{Beyond, raised, Extends, outruns_ok, outruns_same, outruns_beyond}
-use Rattle.text_grammar.proofs.Laws.{Exact, bind_ok, bind_err, ok_is, err_is, done, failed, begins_of, SameStart, the_result}
+use Rattle.text_grammar.proofs.Exactness.{Exact, bind_ok, bind_err, ok_is, err_is, done, failed, begins_of, SameStart, the_result}
 
 -- each text of the language is read
 pub line_complete : {T A : Type 0} (p : Lang T A) (on : T → Bool) (r : Reader T A) → Exact p on r → (ts : List T) (a : A) → p ts a → all_of r ts ≡ Ok a

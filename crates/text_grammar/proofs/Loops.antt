@@ -7,7 +7,8 @@ use Rattle.text_grammar.specs.declared.fault.Fault.{Fault}
 use Rattle.text_grammar.specs.declared.fault.ParseError.{ParseError}
 use Rattle.text_grammar.specs.declared.fault.ParseError.TheVariants as errors
 use Rattle.text_grammar.specs.Readers.{accept, one, behind, Reader, Fails, starts, folded}
-use Rattle.text_grammar.proofs.Laws.{ok_is, Consumes, folded_stop, folded_turn, folded_fault, folded_enough}
+use Rattle.text_grammar.proofs.Exactness.{ok_is}
+use Rattle.text_grammar.proofs.Repeating.{Consumes, folded_stop, folded_turn, folded_fault, folded_enough}
 
 -- an error that is passed on
 pub passed_on : {A B : Type 0} (e : ParseError) (r : Result A Fault) (s : Result B Fault) → ((f : Fault) → r ≡ Err f → s ≡ Err f) → Fails e r → Fails e s

@@ -5,7 +5,7 @@ use Rattle.std.proofs.lemmas.List.{append-nil}
 use Rattle.text_grammar.specs.Readers.{starts}
 use Rattle.text_grammar.specs.Languages.{Lang, One, Both, Behind, Mapped, Either, Perhaps, Many, fold_left, Row}
 use Rattle.text_grammar.specs.Places.{Begins}
-use Rattle.text_grammar.proofs.Laws.{StartsWith, StartsWithout, starts_more}
+use Rattle.text_grammar.proofs.Exactness.{StartsWith, StartsWithout, starts_more}
 
 -- what a token, and what stands behind a token, begins with
 pub one_starts : {T A : Type 0} (pick : T → Option A) → StartsWith (One pick) (λ t. is_some (pick t))

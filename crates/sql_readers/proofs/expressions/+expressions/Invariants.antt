@@ -2,7 +2,7 @@ use Rattle.std.proofs.Common.{◌≡◌, ◌<◌, length, ℕ, ◌+◌, ◌*◌}
 use Rattle.text_grammar.specs.Readers.{folded, is}
 use Rattle.iv_types.specs.Limits.{the_limits}
 use Rattle.iv_types.specs.Trees.{tree}
-use Rattle.iv_types.specs.Expressions.{operations, joined}
+use Rattle.iv_types.specs.Expressions.{operations, paired}
 use Rattle.sql_readers.specs.declared.expressions.Level.{Level}
 use Rattle.sql_readers.specs.declared.expressions.Level.TheVariants as level
 use Rattle.sql_readers.specs.Ladder.{inner, operand}
@@ -40,7 +40,7 @@ decreases-unary_of l = l.depth * 16 + 2
 -- what is left, folded onto what was made so far, is the chain
 abbrev pub invariant-chain_of-loop-op : goal.invariant-chain_of-loop-op
 invariant-chain_of-loop-op l = record {
-  same : folded (is (pick_of l.level)) joined (operand (pick_of l.level) (operands the_limits (inner the_limits l.depth) l.level) l.fn.left) (tree l.made) l.cursor ≡ chain_at the_limits (inner the_limits l.depth) l.level l.fn.left l.fn.cursor;
+  same : folded (is (pick_of l.level)) paired (operand (pick_of l.level) (operands the_limits (inner the_limits l.depth) l.level) l.fn.left) (tree l.made) l.cursor ≡ chain_at the_limits (inner the_limits l.depth) l.level l.fn.left l.fn.cursor;
   spent : l.left + operations (tree l.made) ≡ l.fn.left;
   shorter : length l.cursor < length l.fn.cursor;
 }
