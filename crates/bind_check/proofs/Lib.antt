@@ -3,3 +3,4 @@ pub mod ShapeLemmas
 pub mod SeenLemmas
 pub mod TestLemmas
 pub mod ViewLemmas
+pub mod CountLemmas

@@ -1,24 +1,28 @@
 -- No clause of `run` rests on this module: it serves contracts between crates.
 --
 -- Tests of resolved statements as they are made, part by part.
-use Rattle.std.specs.Prelude.{◌==◌, ◌&&◌, ◌||◌, not, is_some, length, Bool, List, [], ◌∷◌, Option, Some, None}
-use Rattle.std.specs.List.{list_all, list_any}
+use Rattle.std.specs.Prelude.{ℕ, pos, ◌+◌, ◌==◌, ◌&&◌, nat_lt, not, is_some, length, Bool, List, [], ◌∷◌, Option, Some, None, Result}
+use Rattle.std.specs.List.{filter_map, list_all, list_any}
 use Rattle.iv_types.specs.declared.value.Kind.{Kind}
 use Rattle.iv_types.specs.declared.bound.BoundSet.{BoundSet}
+use Rattle.iv_types.specs.declared.statement.ColumnDef.{ColumnDef}
+use Rattle.iv_types.specs.declared.statement.Order.{Order}
 use Rattle.iv_types.specs.declared.expression.Expr.{Expr}
-use Rattle.iv_types.specs.declared.refusal.Refusal.TheVariants.{WrongType}
+use Rattle.iv_types.specs.declared.refusal.Refusal.{Refusal}
+use Rattle.iv_types.specs.declared.refusal.Refusal.TheVariants.{Limit, WrongType}
 use Rattle.iv_types.specs.Syntax.{Tree}
 use Rattle.iv_types.specs.Trees.{perhaps_tree, trees}
-use Rattle.iv_meaning.specs.Schema.{Object, as_index, object_columns, primary_of}
+use Rattle.iv_meaning.specs.Schema.{Schema, Object, as_view, kind_at, object_columns, primary_of}
 use Rattle.iv_meaning.specs.Bound.{set_tree}
-use Rattle.iv_meaning.specs.Shape.{is_aggregate, is_empty, is_grouped, repeats, same_place}
+use Rattle.iv_meaning.specs.Shape.{key_width, object_number, readers, repeats, sums_in, width}
 use Rattle.iv_meaning.specs.Types.{family, is_of, is_truth, is_value}
-use Rattle.iv_meaning.specs.Typing.{condition_typed, item_typed, set_typed, sources_of, tuple_typed}
-use Rattle.iv_meaning.specs.Tests.{Test, is_many_to_one, is_table, rule}
-use Rattle.iv_types.specs.declared.expression.ColumnAt.{ColumnAt}
-use Rattle.bind_resolve.specs.declared.resolved.NamedItem.{NamedItem}
+use Rattle.iv_meaning.specs.Resolving as meant
+use Rattle.iv_meaning.specs.Resolving.{Resolved, table, index, and_then}
+use Rattle.iv_meaning.specs.Typing.{condition_typed, item_typed, kinds_seen, set_typed, sources_of, tuple_typed, query_typed, well_typed}
+use Rattle.iv_meaning.specs.Passes.{passed, refuse_if}
+use Rattle.iv_meaning.specs.Tests.{Test, at_most, is_table, index_test, item_named, query_rules, rule, tests, view_rules}
 use Rattle.bind_resolve.specs.declared.resolved.ResolvedQuery.{ResolvedQuery}
-use Rattle.bind_resolve.specs.Seen.{item_seen, joined_seen, query_seen}
+use Rattle.bind_resolve.specs.Seen.{item_seen, joined_seen}
 
 -- the types of a query whose relations have columns of these kinds
 abbrev pub query_by : List (List Kind) → ResolvedQuery → Bool
@@ -44,7 +48,7 @@ insert_tests o kinds tuples =
 abbrev pub update_tests : Object → List (List Kind) → List BoundSet → Option Tree → List Test
 update_tests o kinds sets condition =
     (not (list_all (λ a. set_typed kinds (set_tree a)) sets && condition_typed kinds condition), WrongType)
-    ∷ rule 3 (list_any (λ a. list_any (λ key. key == a.column) (primary_of o)) sets)
+    ∷ rule 3 (list_any (λ a. list_any (λ key. key == a.column) (primary_of (Some o))) sets)
     ∷ rule 4 (repeats (λ a b. a.column == b.column) sets)
     ∷ rule 5 (not (is_table o))
     ∷ []
@@ -52,17 +56,39 @@ update_tests o kinds sets condition =
 abbrev pub delete_tests : Object → List (List Kind) → Option Tree → List Test
 delete_tests o kinds condition = (not (condition_typed kinds condition), WrongType) ∷ rule 5 (not (is_table o)) ∷ []
 
--- ---- queries
+-- ---- CREATE
 
--- by whether FROM names an index, and may be grouped
-abbrev pub group_tests : List ColumnAt → List NamedItem → Bool → Bool → List Test
-group_tests group items index many =
-    rule 1 (repeats same_place group)
-    ∷ rule 5 index
-    ∷ rule 6 (not (not (is_empty group)) && list_any (λ i. is_aggregate (item_seen i).item) items)
-    ∷ rule 7 (not (is_empty group) && not (list_all (λ i. is_aggregate (item_seen i).item || is_grouped group (item_seen i).item) items))
-    ∷ rule 8 (not (is_empty group) && not many)
+-- those of a resolved statement of so many bytes as it is printed
+abbrev pub every_test : Schema → ℕ → Resolved → List Test
+every_test objects size statement = (not (well_typed objects statement), WrongType) ∷ tests objects size statement
+
+-- whatever the new names are
+abbrev pub table_tests : Schema → ℕ → List ColumnDef → List ℕ → List Test
+table_tests objects size columns primary = every_test objects size (table [] columns primary)
+
+abbrev pub index_tests : Schema → ℕ → Object → List ℕ → List Test
+index_tests objects size target columns = every_test objects size (index [] target columns)
+
+abbrev pub view_limits : Schema → ℕ → meant.ResolvedQuery → List Test
+view_limits objects size query =
+    at_most 6 32 (length query.group)
+    ∷ at_most 10 64 (length (filter_map as_view objects) + 1)
+    ∷ (list_any (λ o. nat_lt 8 (readers objects (object_number o) + 1)) (sources_of query), Limit 11 (pos 8))
+    ∷ at_most 12 1024 (width key_width (filter_map (kind_at (kinds_seen objects query)) query.group))
+    ∷ at_most 14 8 (sums_in query.items)
+    ∷ at_most 15 4096 size
     ∷ []
 
-abbrev pub query_tests : ResolvedQuery → List Test
-query_tests q = group_tests q.group q.items (list_any (λ o. is_some (as_index o)) (sources_of (query_seen q))) (is_many_to_one (query_seen q).first (query_seen q).joins)
+-- a view, by its types and four lists of tests
+abbrev pub view_chain : Schema → ℕ → meant.ResolvedQuery → Result (Unit {0}) Refusal
+view_chain objects size query =
+    and_then (refuse_if (not (query_typed objects query), WrongType)) (λ typed.
+    and_then (passed (query_rules query)) (λ shaped.
+    and_then (passed (view_rules query)) (λ listed.
+    and_then (passed (view_limits objects size query)) (λ limited. passed (index_test objects query)))))
+
+abbrev pub select_chain : Schema → meant.ResolvedQuery → List Order → Result (Unit {0}) Refusal
+select_chain objects query order =
+    and_then (refuse_if (not (query_typed objects query), WrongType)) (λ typed.
+    and_then (passed (query_rules query)) (λ shaped.
+    passed (rule 12 (not (list_all (λ o. is_some (item_named query.items o.by)) order)) ∷ at_most 6 32 (length query.group) ∷ [])))

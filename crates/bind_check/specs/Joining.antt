@@ -1,9 +1,9 @@
 -- No clause of `run` rests on this module: it serves contracts between crates.
 --
 -- The terms by which two tables are joined, and the index that a join needs.
-use Rattle.std.specs.Prelude.{ℕ, Bool, true, false, ◌&&◌, ◌==◌, List, [], ◌∷◌, map, slice_get, Option, Some, None, if◌then◌else◌}
-use Rattle.std.specs.List.{list_any}
-use Rattle.std.specs.Option.{option_map, option_map_or}
+use Rattle.std.specs.Prelude.{ℕ, Bool, true, false, ◌&&◌, ◌==◌, List, map, slice_get, Option, Some, None, if◌then◌else◌}
+use Rattle.std.specs.List.{find, list_any}
+use Rattle.std.specs.Option.{option_and_then, option_map, option_map_or}
 use Rattle.iv_types.specs.declared.expression.Op.{Op}
 use Rattle.iv_types.specs.declared.expression.Op.TheVariants as op
 use Rattle.iv_types.specs.declared.expression.ColumnAt.{ColumnAt}
@@ -11,9 +11,9 @@ use Rattle.iv_types.specs.declared.catalog.TableDef.{TableDef}
 use Rattle.iv_types.specs.Encoding.{kinds_of}
 use Rattle.iv_types.specs.Syntax as s
 use Rattle.iv_types.specs.Syntax.{Tree}
-use Rattle.iv_meaning.specs.Schema.{as_table}
+use Rattle.iv_meaning.specs.Schema.{Object, as_table, index}
 use Rattle.iv_meaning.specs.Shape.{terms, joins_by, both_kinds}
-use Rattle.iv_meaning.specs.Binding.{join_columns}
+use Rattle.iv_meaning.specs.Binding.{begins_with, join_columns}
 use Rattle.iv_meaning.specs.Resolving.{Joined}
 use denote.Ref.{Bor}
 
@@ -57,23 +57,17 @@ place_in e = None
 
 -- ---- the columns of the first table
 
--- the first that is found
-abbrev pub or_else : {Y : Type 0} → Option Y → Option Y → Option Y
-or_else None other = other
-or_else (Some y) other = Some y
+abbrev pub left_in : Option (ℕ × ℕ) → Option ℕ
+left_in = option_map (λ p. p.0)
 
-abbrev pub first_some : {X Y : Type 0} → (X → Option Y) → List X → Option Y
-first_some find [] = None
-first_some find (x ∷ xs) = or_else (find x) (first_some find xs)
+-- the first column that a term holds equal to the column of this place
+abbrev pub first_left : List (Option (ℕ × ℕ)) → ℕ → Option ℕ
+first_left pairs place = option_and_then left_in (find (is_of_column place) pairs)
 
--- the column that a term holds equal to the column of this place
-abbrev pub left_of : ℕ → Option (ℕ × ℕ) → Option ℕ
-left_of place None = None
-left_of place (Some p) = if p.1 == place then Some p.0 else None
-
-abbrev pub is_at : ℕ → Option ℕ → Bool
-is_at place None = false
-is_at place (Some other) = place == other
+-- an index of a table that begins with these columns
+abbrev pub serves : ℕ → List ℕ → Object → Bool
+serves number columns (index i) = (i.table == number) && begins_with columns i.columns
+serves number columns _ = false
 
 abbrev pub second_seen : Bor TableDef × List ℕ → TableDef × List ℕ
 second_seen p = (p.0.now, p.1)

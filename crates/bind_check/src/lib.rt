@@ -3,20 +3,23 @@
 #![tactic(auto)]
 
 mod changing;
+mod checking;
+mod counting;
+mod creating;
 mod family;
 mod joining;
 mod kinds;
 mod objects;
+mod ordering;
 mod queries;
 mod refusing;
 mod shape;
 mod typing;
 mod view_joins;
 mod view_lists;
+mod widths;
 
-pub use changing::{check_delete, check_insert, check_update};
-pub use kinds::{kinds_of_one, kinds_seen};
-pub use objects::number_of;
-pub use queries::{check_query, check_view_query};
-pub use typing::query_typed;
-pub use view_joins::{begins_with, second_of};
+pub use checking::check;
+pub use objects::{as_table, number_of};
+pub use ordering::item_named;
+pub use view_joins::{join_index, second_of};

@@ -1,5 +1,5 @@
 //! What is known of an object.
-ghost use Rattle.std.specs.Prelude.{◌≡◌, is_some, length};
+ghost use Rattle.std.specs.Prelude.{◌≡◌, is_some, length, Some};
 ghost use Rattle.std.specs.Option.{option_copied};
 ghost use Rattle.iv_meaning.specs.Schema.{object_columns, as_table, as_index, as_view, primary_of};
 ghost use Rattle.iv_meaning.specs.Objects.{object_of};
@@ -60,7 +60,7 @@ pub fn width_of(definition: &Definition) -> usize
 
 /// The columns of its primary key, of which what is no table has none.
 pub fn primary_of(definition: &Definition) -> &[u32]
-    ensures { result.now ≡ primary_of (object_of definition.now) }
+    ensures { result.now ≡ primary_of (Some (object_of definition.now)) }
 {
     match definition {
         Definition::Table(table) => table.primary.as_slice(),

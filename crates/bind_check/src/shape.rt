@@ -27,23 +27,13 @@ fn has_place(places: &[ColumnAt], place: ColumnAt) -> bool
     places.iter().any(|other| same_place(place, *other))
 }
 
-/// Whether a column of a GROUP BY stands twice.
-pub fn groups_twice(places: &[ColumnAt]) -> bool
+/// Whether a column stands twice.
+pub fn repeats_place(places: &[ColumnAt]) -> bool
     ensures { result ≡ repeats same_place places.now }
 {
     match places.split_first() {
-        Some((place, rest)) => has_place(rest, *place) || groups_twice(rest),
+        Some((place, rest)) => has_place(rest, *place) || repeats_place(rest),
         None => false,
-    }
-}
-
-/// Whether a query with these group columns groups.
-pub fn is_grouping(group: &[ColumnAt]) -> bool
-    ensures { result ≡ not (is_empty group.now) }
-{
-    match group {
-        [] => false,
-        [_, ..] => true,
     }
 }
 
@@ -110,8 +100,8 @@ fn has_length(count: usize, values: &[Expr]) -> bool
     values.len() == count
 }
 
-// Whether an item is COUNT(*) or SUM.
-fn is_aggregate(item: &BoundItem) -> bool
+/// Whether an item is COUNT(*) or SUM.
+pub fn is_aggregate(item: &BoundItem) -> bool
     ensures { result ≡ is_aggregate (item_tree item.now) }
 {
     match item {
@@ -119,13 +109,6 @@ fn is_aggregate(item: &BoundItem) -> bool
         BoundItem::Sum(_) => true,
         BoundItem::Plain(_) => false,
     }
-}
-
-/// Whether an item is COUNT(*) or SUM.
-pub fn has_aggregate(items: &[NamedItem<'_>]) -> bool
-    ensures { result ≡ list_any (λ i. is_aggregate (item_seen i).item) items.now }
-{
-    items.iter().any(|i| is_aggregate(&i.item))
 }
 
 /// Whether an item is a column by which the query groups.
@@ -138,18 +121,11 @@ pub fn is_grouped(group: &[ColumnAt], item: &BoundItem) -> bool
     }
 }
 
-// Whether an item may stand in a query that groups.
-fn is_of_group(group: &[ColumnAt], item: &BoundItem) -> bool
+/// Whether an item may stand in a query that groups.
+pub fn is_of_group(group: &[ColumnAt], item: &BoundItem) -> bool
     ensures { result ≡ (is_aggregate (item_tree item.now) || is_grouped group.now (item_tree item.now)) }
 {
     is_aggregate(item) || is_grouped(group, item)
-}
-
-/// Whether each item may stand in a query that groups.
-pub fn are_of_group(group: &[ColumnAt], items: &[NamedItem<'_>]) -> bool
-    ensures { result ≡ list_all (λ i. is_aggregate (item_seen i).item || is_grouped group.now (item_seen i).item) items.now }
-{
-    items.iter().all(|i| is_of_group(group, &i.item))
 }
 
 // Whether an operator is arithmetic.

@@ -1,48 +1,33 @@
-//! The columns by which a view joins its second table.
-ghost use Rattle.std.specs.Prelude.{◌≡◌, ◌++◌, [], map, slice_get, IfOk, OnOk};
+//! The columns by which a view joins its second table, and the index by which it does.
+ghost use Rattle.std.specs.Prelude.{◌≡◌, find, map, IfOk};
 ghost use Rattle.std.specs.List.{filter_map};
-ghost use Rattle.std.specs.Option.{option_map, option_to_list};
-ghost use Rattle.iv_meaning.specs.Binding.{begins_with};
+ghost use Rattle.std.specs.Option.{option_copied, option_map};
+ghost use Rattle.iv_meaning.specs.Binding.{begins_with, join_index};
+ghost use Rattle.iv_meaning.specs.Objects.{object_of, schema_of};
 ghost use Rattle.iv_meaning.specs.Tests as meant;
 ghost use Rattle.bind_resolve.specs.Seen.{joined_seen, query_seen};
-ghost use Rattle.bind_check.specs.Joining.{first_some, is_at, joined_second, left_of, second_seen};
+ghost use Rattle.bind_check.specs.Joining.{first_left, is_of_column, joined_second, second_seen, serves};
 
-use crate::joining::pairs_of;
-use crate::objects::as_table;
+use crate::joining::{is_of_column, pairs_of};
+use crate::objects::{as_table, number_of};
 use bind_resolve::{Joined, ResolvedQuery};
-use iv_types::{NoMemory, Places, TableDef};
+use iv_types::{Catalog, Definition, NoMemory, Places, TableDef};
 use std::alloc::Global;
 
-// The column that a term holds equal to the column of this place.
-fn left_of(place: u32, pair: Option<(u32, u32)>) -> Option<u32>
-    ensures { result ≡ left_of place pair }
+// The first term that holds a column equal to that of this place.
+fn first_joined(pairs: &[Option<(u32, u32)>], place: u32) -> Option<&Option<(u32, u32)>>
+    ensures { option_copied result ≡ find (is_of_column place) pairs.now }
 {
-    match pair {
-        Some((left, right)) => { if right == place { Some(left) } else { None } }
-        None => None,
-    }
+    pairs.iter().find(|pair| is_of_column(place, **pair))
 }
 
-// The first column that a term holds equal to the column of this place.
-fn joined_with(pairs: &[Option<(u32, u32)>], place: u32) -> Option<u32>
-    ensures { result ≡ first_some (left_of place) pairs.now }
+// The column that it holds equal to it.
+fn first_left(pairs: &[Option<(u32, u32)>], place: u32) -> Option<u32>
+    ensures { result ≡ first_left pairs.now place }
 {
-    for index in 0..pairs.len() {
-        match left_of(place, pairs[index]) {
-            Some(left) => return Some(left),
-            None => {}
-        }
-    }
-    None
-}
-
-// Adds a place, if there is one.
-fn push_place(places: &mut Places, place: Option<u32>) -> Result<(), NoMemory>
-    ensures { OnOk result (places.new ≡ places.old ++ option_to_list place) }
-{
-    match place {
-        Some(place) => places.push(place),
-        None => Ok(()),
+    match first_joined(pairs, place) {
+        Some(Some((left, _))) => Some(*left),
+        _ => None,
     }
 }
 
@@ -51,36 +36,15 @@ fn join_columns(
     alloc: Global,
     pairs: &[Option<(u32, u32)>],
     primary: &[u32],
-) -> Result<Places, NoMemory>
-    ensures { IfOk result (λ columns. columns ≡ filter_map (λ place. first_some (left_of place) pairs.now) primary.now) }
+) -> Result<Vec<u32>, NoMemory>
+    ensures { IfOk result (λ columns. columns.items ≡ filter_map (first_left pairs.now) primary.now) }
 {
-    let mut columns = Places::new(alloc);
-    for index in 0..primary.len() {
-        push_place(&mut columns, joined_with(pairs, primary[index]))?;
-    }
-    Ok(columns)
-}
-
-// Whether a place stands at another.
-fn is_at(column: u32, places: &[u32], place: usize) -> bool
-    ensures { result ≡ is_at column (slice_get places.now place) }
-{
-    match places.get(place) {
-        Some(other) => column == *other,
-        None => false,
-    }
-}
-
-/// Whether a list begins with some columns.
-pub fn begins_with(columns: &[u32], places: &[u32]) -> bool
-    ensures { result ≡ begins_with columns.now places.now }
-{
-    for index in 0..columns.len() {
-        if !is_at(columns[index], places, index) {
-            return false;
-        }
-    }
-    true
+    let primary = primary.iter();
+    Ok(
+        primary
+            .filter_map(|place| first_left(pairs, *place))
+            .collect(alloc)?,
+    )
 }
 
 // The second table of a join, if it is one, and the columns of the first that are equal to its key.
@@ -95,7 +59,7 @@ fn joined_second<'a>(
     };
     let pairs = pairs_of(alloc, &join.on)?;
     let columns = join_columns(alloc, &pairs, second.primary.as_slice())?;
-    Ok(Some((second, columns)))
+    Ok(Some((second, Places::from_vec(columns))))
 }
 
 /// The second table of a view, if it has one, and the columns of the first that are equal to its key.
@@ -112,5 +76,67 @@ pub fn second_of<'a>(
     match query.joins.as_slice() {
         [] => Ok(None),
         [join, ..] => joined_second(alloc, join),
+    }
+}
+
+// Whether a list begins with some columns.
+#[tactic(auto, using(crate::proofs::ViewLemmas::starts_are))]
+fn begins_with(columns: &[u32], places: &[u32]) -> bool
+    ensures { result ≡ begins_with columns.now places.now }
+{
+    places.starts_with(columns)
+}
+
+// Whether an object is an index of a table that begins with some columns.
+fn serves(table: u32, columns: &[u32], definition: &Definition) -> bool
+    ensures { result ≡ serves table columns.now (object_of definition.now) }
+{
+    match definition {
+        Definition::Index(index) => index.table == table
+            && begins_with(columns, index.columns.as_slice()),
+        _ => false,
+    }
+}
+
+/// The first index of a table that begins with some columns, the primary one first.
+#[tactic(auto, using(crate::proofs::ViewLemmas::one_serves, crate::proofs::ViewLemmas::none_serves))]
+pub fn join_index(catalog: &Catalog, table: &TableDef, columns: &[u32]) -> Option<u32>
+    ensures { result ≡ join_index (schema_of catalog.now) table.now columns.now }
+{
+    if begins_with(columns, table.primary.as_slice()) {
+        return Some(table.number);
+    }
+    match serving(catalog, table.number, columns) {
+        Some(definition) => Some(number_of(definition)),
+        None => None,
+    }
+}
+
+// The first index of a table that begins with some columns.
+fn serving<'a>(catalog: &'a Catalog, table: u32, columns: &[u32]) -> Option<&'a Definition>
+    ensures { option_copied result ≡ find (λ d. serves table columns.now (object_of d)) catalog.now }
+{
+    catalog
+        .definitions()
+        .iter()
+        .find(|d| serves(table, columns, d))
+}
+
+/// Whether a join view of this first table lacks an index for its join.
+///
+/// # Errors
+///
+/// Where there is no memory for the columns of the join.
+pub fn lacks_index(
+    alloc: Global,
+    catalog: &Catalog,
+    first: &TableDef,
+    query: &ResolvedQuery<'_>,
+) -> Result<bool, NoMemory>
+    ensures { IfOk result (λ lacks. lacks ≡ meant.lacks_index (schema_of catalog.now) first.now (query_seen query.now)) }
+{
+    match second_of(alloc, query)? {
+        Some((_, columns)) => Ok(join_index(catalog, first, columns.as_slice()).is_none()),
+        None => Ok(false),
     }
 }

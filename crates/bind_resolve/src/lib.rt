@@ -13,6 +13,7 @@ mod sorted_names;
 mod statements;
 mod stepping;
 
+pub use names::copied;
 pub use resolved::{Column, Joined, NamedItem, Resolved, ResolvedQuery, Scope};
 pub use scope::columns_of;
 pub use statements::resolve;

@@ -134,6 +134,13 @@ impl Catalog {
         self.named.len()
     }
 
+    /// The definitions, in the order in which they were made.
+    pub fn definitions(&self) -> &[Definition]
+        ensures { result.now ≡ self.now }
+    {
+        self.named.values().as_slice()
+    }
+
     /// The definition of an object number, if there is one.
     pub fn get(&self, number: u32) -> Option<&Definition>
         ensures value { option_copied result ≡ numbered self.now number }

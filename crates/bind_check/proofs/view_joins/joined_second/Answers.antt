@@ -7,5 +7,5 @@ use Rattle.bind_check.proofs.view_joins.joined_second.Goals as goal
 
 pub returns : goal.returns
 returns c =
-    second_found (as_table (object_of c.args.join.now.object.now)) c.in-Some.second.now (tree c.args.join.now.on) _ _ c.in_ok-columns.columns
-    c.in-Some.ensures (c.deref.ensures.value ∙ c.in_ok-pairs.ensures) c.as_slice.ensures c.in_ok-columns.ensures
+    second_found (as_table (object_of c.args.join.now.object.now)) c.in-Some.second.now (tree c.args.join.now.on) _ _ _
+    c.in-Some.ensures (c.deref.ensures.value ∙ c.in_ok-pairs.ensures) c.as_slice.ensures (c.from_vec.ensures ∙ c.in_ok-columns.ensures)

@@ -1,0 +1,119 @@
+//! The tests of a resolved statement, of which the first that fails refuses it.
+#![tactic(auto, using(bind_resolve::proofs::Steps::stops, bind_resolve::proofs::Steps::goes_on))]
+
+ghost use Rattle.std.specs.Prelude.{◌≡◌, is_some, not};
+ghost use Rattle.std.specs.List.{list_all};
+ghost use Rattle.iv_types.specs.Printing.{statement_size};
+ghost use Rattle.iv_types.specs.Trees.{statement_tree};
+ghost use Rattle.iv_types.specs.declared.refusal.Refusal.TheVariants as refusal;
+ghost use Rattle.iv_meaning.specs.Objects.{schema_of};
+ghost use Rattle.iv_meaning.specs.Tests.{item_named};
+ghost use Rattle.iv_meaning.specs.Typing.{query_typed};
+ghost use Rattle.iv_meaning.specs.Passes.{passed, refuse_if};
+ghost use Rattle.bind_resolve.specs.Meant.{IsMeant};
+ghost use Rattle.bind_resolve.specs.Seen.{query_seen, resolved_seen};
+ghost use Rattle.bind_check.specs.Checked.{every_test, select_chain, view_chain};
+
+use crate::changing::{check_delete, check_insert, check_update};
+use crate::creating::{check_index, check_join, check_table, check_view_limits};
+use crate::kinds::{kinds_of_one, kinds_seen};
+use crate::ordering::are_named;
+use crate::queries::{check_query, check_view_query};
+use crate::refusing::{limit, refuse, rule};
+use crate::typing::query_typed;
+use bind_resolve::{Resolved, ResolvedQuery};
+use iv_types::{Catalog, Order, Refusal, Statement};
+use object_kinds::kinds_of_object;
+use std::alloc::Global;
+
+// The types of a query.
+fn check_types(alloc: Global, catalog: &Catalog, query: &ResolvedQuery<'_>) -> Result<(), Refusal>
+    ensures { IsMeant (λ u. u) result (refuse_if (not (query_typed (schema_of catalog.now) (query_seen query.now)), refusal.WrongType)) }
+{
+    let kinds = kinds_seen(alloc, catalog, query)?;
+    refuse(!query_typed(kinds.as_slice(), query), Refusal::WrongType)
+}
+
+// Those of a CREATE INDEXED VIEW.
+fn check_view(
+    alloc: Global,
+    catalog: &Catalog,
+    statement: &Statement,
+    query: &ResolvedQuery<'_>,
+) -> Result<(), Refusal>
+    ensures { IsMeant (λ u. u) result (view_chain (schema_of catalog.now) (statement_size (statement_tree statement.now)) (query_seen query.now)) }
+{
+    check_types(alloc, catalog, query)?;
+    check_query(alloc, query)?;
+    check_view_query(query)?;
+    check_view_limits(alloc, catalog, statement, query)?;
+    check_join(alloc, catalog, query)
+}
+
+// Whether a term of the ORDER BY of a query names no item.
+fn orders_by_none(query: &ResolvedQuery<'_>, order: &[Order]) -> bool
+    ensures { result ≡ not (list_all (λ o. is_some (item_named (query_seen query.now).items o.by)) order.now) }
+{
+    !are_named(query.items.as_slice(), order)
+}
+
+// Those of a SELECT.
+fn check_select(
+    alloc: Global,
+    catalog: &Catalog,
+    query: &ResolvedQuery<'_>,
+    order: &[Order],
+) -> Result<(), Refusal>
+    ensures { IsMeant (λ u. u) result (select_chain (schema_of catalog.now) (query_seen query.now) order.now) }
+{
+    check_types(alloc, catalog, query)?;
+    check_query(alloc, query)?;
+    rule(12, orders_by_none(query, order))?;
+    limit(6, 32, query.group.as_slice().len() as u128)
+}
+
+/// The tests of a statement as it was resolved, of which the first that fails refuses it.
+///
+/// # Errors
+///
+/// `WrongType`; `WrongShape` of the least rule that fails; `Limit` of the least number; `NeedsIndex`; and `NoMemory`.
+pub fn check(
+    alloc: Global,
+    catalog: &Catalog,
+    statement: &Statement,
+    resolved: &Resolved<'_>,
+) -> Result<(), Refusal>
+    ensures { IsMeant (λ u. u) result (passed (every_test (schema_of catalog.now) (statement_size (statement_tree statement.now)) (resolved_seen resolved.now))) }
+{
+    match resolved {
+        Resolved::Table {
+            columns,
+            primary,
+            ..
+        } => check_table(alloc, catalog, statement, columns, primary.as_slice()),
+        Resolved::Index {
+            target,
+            columns,
+            ..
+        } => check_index(alloc, catalog, statement, target, columns.as_slice()),
+        Resolved::View { query, .. } => check_view(alloc, catalog, statement, query),
+        Resolved::Insert { target, tuples } => {
+            let kinds = kinds_of_object(alloc, catalog, target)?;
+            check_insert(target, kinds.as_slice(), tuples.as_slice())
+        }
+        Resolved::Update {
+            target,
+            sets,
+            condition,
+        } => {
+            let kinds = kinds_of_one(alloc, catalog, target)?;
+            check_update(target, kinds.as_slice(), sets.as_slice(), condition)
+        }
+        Resolved::Delete { target, condition } => {
+            let kinds = kinds_of_one(alloc, catalog, target)?;
+            check_delete(target, kinds.as_slice(), condition)
+        }
+        Resolved::Select { query, order } => check_select(alloc, catalog, query, order),
+        Resolved::Control => Ok(()),
+    }
+}
