@@ -2,7 +2,7 @@
 --
 -- A machine with the log and the disk on which its records are: what each call says, calls one after another, and how the disk stands
 -- between two of them.
-use Rattle.std.specs.Prelude.{◌≡◌, ◌≢◌, ℕ, ◌+◌, ◌*◌, ◌<◌, ◌≤◌, ◌^◌, Bool, List, [], ◌∷◌, ◌++◌, map, length, reverse, Some}
+use Rattle.std.specs.Prelude.{◌≡◌, ◌≢◌, ◌⊎◌, ℕ, ◌+◌, ◌*◌, ◌<◌, ◌≤◌, ◌^◌, Bool, List, [], ◌∷◌, ◌++◌, map, length, reverse, Some}
 use Rattle.std.specs.List.{AllByRecursion}
 use Rattle.disk_io.specs.Disk.{Only, Elapses, LeavesOnly}
 use Rattle.page_store.specs.declared.facts.HeaderFacts.{HeaderFacts}
@@ -176,9 +176,9 @@ pub record Appends (v w : World) (log after : LogState) : Type 0 where
   pub log_is : after ≡ with_reserved (with_waiting log (spelled (schema_of (store_of v)) (record { number = number; of = of }))) bytes
   pub reserves : Reserves w after
 
--- stopped on the same store, whatever the disk has
+-- stopped on the same store: the disk is the same, or a checkpoint of that store is published on it
 abbrev pub AreTwins : World → World → Type 0
-AreTwins (Halted s next d) (Halted u other e) = (other ≡ next) × (e.acknowledged ≡ d.acknowledged)
+AreTwins (Halted s next d) (Halted u other e) = (other ≡ next) × ((e ≡ d) ⊎ ((carried : List Deed) × (e ≡ published (pages_now next) carried d)))
 AreTwins _ _ = ⊥
 
 -- no checkpoint ends here and no fault stops the machine, since these are calls on the disk

@@ -23,7 +23,8 @@ abbrev pub AreasLaw : Type 0
 AreasLaw = (room count : ℕ) (s c : List ℕ) (here : page.Image) → length s ≡ 278528 + 2 * room + 16384 * count → count ≤ 131072 → image room count s ≡ Some here
     → IsOutside 278528 (2 * room) s c → image room count c ≡ Some (record here { log = part (page.area_at room here.area) room c })
 
--- a world on the way from one to another, or what a fault of the disk may have left in place of that other
+-- A world on the way from one to another, or what a fault of the disk may have left in place of that other: it stopped the machine on
+-- the same store, and the publish that failed may have come to pass or not.
 abbrev pub OnTheWay : World → World → World → Type 0
 OnTheWay u v w = (Run u w × Run w v) ⊎ AreTwins v w
 
