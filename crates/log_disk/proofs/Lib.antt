@@ -14,3 +14,4 @@ pub mod Borne
 pub mod Ordered
 pub mod Defining
 pub mod Sound
+pub mod Whole

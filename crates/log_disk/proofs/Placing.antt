@@ -1,5 +1,5 @@
 -- What is found stands where it is found.
-use Rattle.std.proofs.Common.{◌≡◌, Bool, true, ◌==◌, if◌then◌else◌, ℕ, zero, suc, ◌+◌, ◌*◌, List, [], ◌∷◌, length, drop, get_or, Option, Some, None, Ok, Err, refl, sym, ◌∙◌, ap, subst, arith}
+use Rattle.std.proofs.Common.{◌⊎◌, inl, inr, ◌≡◌, Bool, true, ◌==◌, if◌then◌else◌, ℕ, zero, suc, ◌+◌, ◌*◌, List, [], ◌∷◌, length, drop, get_or, Option, Some, None, Ok, Err, refl, sym, ◌∙◌, ap, subst, arith}
 use Rattle.std.specs.Prelude.{◌↔◌, Result}
 use Rattle.std.specs.List.{Contains, range_with_len}
 use Rattle.std.proofs.lemmas.Bool.Decides.{nat_tests}
@@ -115,7 +115,7 @@ is_165 : (n : ℕ) → (n == 165) ≡ true → n ≡ 165
 is_165 n e = grind (arith, nat_tests)
 
 -- frames fail at an open gate
-frames_gate : (fuel place : ℕ) (bytes : List ℕ) (e : Fault) → frames fuel place bytes ≡ Err e → (n : ℕ) × (e.place ≡ place + n) × (get_or bytes n 0 ≡ 165)
+frames_gate : (fuel place : ℕ) (bytes : List ℕ) (e : Fault) → frames fuel place bytes ≡ Err e → (n : ℕ) × (e.place ≡ place + n) × (get_or bytes n 0 ≡ 165) × (e.rule ≡ 6)
 unfolding frames
 frames_gate zero place bytes e h = absurd (cc)
 frames_gate (suc fuel) place bytes e h = by_bool (get_or bytes 0 0 == 165)
@@ -124,10 +124,11 @@ frames_gate (suc fuel) place bytes e h = by_bool (get_or bytes 0 0 == 165)
     let rest = joined_fault ((place + 5, part 5 (big_number 4 (drop 1 bytes)) bytes) ∷ []) (frames fuel (place + frame_size bytes) (drop (frame_size bytes) bytes)) e (sym (ap inner yes) ∙ (sym (ap outer t) ∙ h)) in
     let one = frames_gate fuel (place + frame_size bytes) (drop (frame_size bytes) bytes) e rest in
     let at = one.1 in
-    (frame_size bytes + one.0, omega (arith, at), sym (get_or-drop (frame_size bytes) bytes one.0 0) ∙ one.2))
+    (frame_size bytes + one.0, omega (arith, at), sym (get_or-drop (frame_size bytes) bytes one.0 0) ∙ one.2, one.3))
     (λ no.
-    let same = ap (λ (x : Fault). x.place) (one_fault {X = List (ℕ × List ℕ)} (record { rule = 6; place = place }) e (sym (ap inner no) ∙ (sym (ap outer t) ∙ h))) in
-    (0, omega (arith, same), is_165 (get_or bytes 0 0) t)))
+    let this = one_fault {X = List (ℕ × List ℕ)} (record { rule = 6; place = place }) e (sym (ap inner no) ∙ (sym (ap outer t) ∙ h)) in
+    let same = ap (λ (x : Fault). x.place) this in
+    (0, omega (arith, same), is_165 (get_or bytes 0 0) t, sym (ap (λ (x : Fault). x.rule) this))))
     (λ f. absurd (let n : ◌≡◌ {A = Result (List (ℕ × List ℕ)) Fault} (Ok []) (Err e) = sym (ap outer f) ∙ h in cc))
   where
     inner : Bool → Result (List (ℕ × List ℕ)) Fault
@@ -135,6 +136,15 @@ frames_gate (suc fuel) place bytes e h = by_bool (get_or bytes 0 0 == 165)
 
     outer : Bool → Result (List (ℕ × List ℕ)) Fault
     outer b = if b then inner (holds_block bytes) else Ok []
+
+-- a scan fails by rule 6 or 7
+pub six_or_seven : (area : List ℕ) (e : Fault) → scanned area ≡ Err e → (e.rule ≡ 6) ⊎ (e.rule ≡ 7)
+unfolding scanned
+six_or_seven area e h = by (frames (length area) 0 area) refl h
+  where
+    by : (r : Result (List (ℕ × List ℕ)) Fault) → frames (length area) 0 area ≡ r → of_frames r ≡ Err e → (e.rule ≡ 6) ⊎ (e.rule ≡ 7)
+    by (Ok bs) is k = inr (all_seven bs e k)
+    by (Err f) is k = inl (ap (λ (x : Fault). x.rule) (sym (one_fault {X = List Scanned} f e k)) ∙ (frames_gate (length area) 0 area f is).3)
 
 pub gates : GateLaw
 unfolding scanned

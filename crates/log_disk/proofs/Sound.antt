@@ -51,7 +51,7 @@ one_page room p (suc j) c Others rest next (f ∷ found) h =
     map-append (λ (x : Found). x.entry) (found_in f.place f.entries) (all_found found)
     ∙ (λ t. (in_page f.place f.entries ∙ h.0.entries) t ++ next found h.1 t)
 
-all_pages : (room k : ℕ) (c : List ℕ) (ps : List ℕ) (found : List Page) → ArePagesOf room k c ps found → map (λ f. f.entry) (all_found found) ≡ all_entries (map (λ p. named room p (map_byte k p c) c) ps)
+pub all_pages : (room k : ℕ) (c : List ℕ) (ps : List ℕ) (found : List Page) → ArePagesOf room k c ps found → map (λ f. f.entry) (all_found found) ≡ all_entries (map (λ p. named room p (map_byte k p c) c) ps)
 all_pages room k c [] found h = ap (λ (fs : List Page). map (λ f. f.entry) (all_found fs)) h
 all_pages room k c (p ∷ ps) found h =
     one_page room p (map_byte k p c) c (ArePagesOf room k c ps) (map (λ p. named room p (map_byte k p c) c) ps) (all_pages room k c ps) found h

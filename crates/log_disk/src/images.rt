@@ -2,7 +2,7 @@
 ghost use Rattle.log_disk.specs.Spelled.{FieldsLaw, CommitBytes};
 ghost use Rattle.log_disk.specs.Bears.{StoredLaw, FirstEndLaw, OneImageLaw};
 ghost use Rattle.log_disk.specs.Places.{PlacesLaw, GateLaw};
-ghost use Rattle.log_disk.specs.Found.{LiveLaw, FoundLaw, NotDamagedLaw};
+ghost use Rattle.log_disk.specs.Found.{LiveLaw, FoundLaw, NotDamagedLaw, WholeLaw};
 
 /// A record's fields stand in its bytes as they are named.
 pub fn fields_law()
@@ -44,4 +44,9 @@ pub fn one_image_law()
 /// Bytes that bear an image are refused by no rule on header, blocks, page map and entries.
 pub fn not_damaged_law()
     ensures { NotDamagedLaw }
+{}
+
+/// Where no rule fails the header, the blocks, the page map and the stored pages are whole.
+pub fn whole_law()
+    ensures { WholeLaw }
 {}
