@@ -48,7 +48,7 @@ same_by_get {X = X} (x ∷ xs) (y ∷ ys) f g =
     let rest : xs ≡ ys = same_by_get xs ys (λ i. f (suc i)) (λ i. g (suc i)) in
     λ t. sym first t ∷ rest t
 
-all_get : {X : Type 0} (P : X → Type 0) (xs : List X) (i : ℕ) (x : X) → AllByRecursion P xs → slice_get xs i ≡ Some x → P x
+pub all_get : {X : Type 0} (P : X → Type 0) (xs : List X) (i : ℕ) (x : X) → AllByRecursion P xs → slice_get xs i ≡ Some x → P x
 all_get P [] i x h e = absurd (none-some x e)
 all_get P (y ∷ ys) zero x h e = subst P (some_same y x e) h.0
 all_get P (y ∷ ys) (suc i) x h e = all_get P ys i x h.1 e

@@ -5,13 +5,14 @@ use Rattle.page_store.specs.declared.facts.HeaderFacts.{HeaderFacts}
 use Rattle.page_store.specs.Image.{image}
 use Rattle.page_store.specs.Publish.{OldOrNew}
 use Rattle.wal_log.specs.Log.{LogState}
+use Rattle.txn_machine.specs.Acts as act
 use Rattle.txn_machine.specs.Store.{Store, committed, schema_of}
 use Rattle.txn_machine.specs.Log.{Opening}
 use Rattle.txn_machine.specs.Laws.{IsOpened}
 use Rattle.txn_log.specs.Replay.{Deed, Pages, recovered}
 use Rattle.txn_log.specs.Appended.{Numbered, written, Image}
 use Rattle.txn_log.specs.Moments as moments
-use Rattle.txn_log.specs.Moments.{Disk, World, At, Writes, store_of, disk_of, with_disk, image_of, with_record, flushed_all, pages_now, published, Moves, Run, here, then_move, opened_world, left_by, IsRight}
+use Rattle.txn_log.specs.Moments.{Disk, World, At, Amid, Writes, store_of, disk_of, with_disk, image_of, with_record, flushed_all, pages_now, published, Moves, Run, here, then_move, opened_world, left_by, IsRight}
 use Rattle.txn_log.proofs.Lifting.{run_both}
 use Rattle.txn_log.proofs.Printed.{prints_again}
 use Rattle.txn_log.proofs.Passing.{disk_with, acknowledged_grows, same_grows, grows_run, one_of_two, holds_at}
@@ -20,11 +21,13 @@ use Rattle.txn_log.proofs.Settling.{settled_run}
 use Rattle.txn_log.proofs.Happening.{AllSaid, all_said, crash}
 use Rattle.log_disk.specs.Spelled.{IsSpellable, AreSpellable, LeadTo}
 use Rattle.log_disk.specs.Bears.{Bears}
-use Rattle.log_disk.specs.Calls.{DiskTells, IsOn, FlushCalled, PublishCalled, Stage, SameRecords, Saves, Appends, AreTwins, Call, goes_on, reads, appends, flushes, publishes, fails_flush, fails_publish, Calls, none, then_call, IsInStep, first_block}
+use Rattle.log_disk.specs.Calls.{with_reserved, IsCounted, Reserves, DiskTells, IsOn, FlushCalled, PublishCalled, Stage, SameRecords, Saves, Appends, AreTwins, Call, goes_on, reads, appends, flushes, publishes, fails_flush, fails_publish, Calls, none, then_call, IsInStep, first_block}
 use Rattle.log_disk.specs.Laws.{OnTheWay, OpeningLaw, OpenedLaw, StandingLaw, CallsLaw, PrefixLaw, OneStepLaw}
 use Rattle.log_disk.proofs.Spelling.{said_leads, right_carried, right_last}
-use Rattle.log_disk.proofs.Fresh.{new_bears, new_on}
-use Rattle.log_disk.proofs.Flushing.{bears_none, flush_bears, flushed_on, appended_on}
+use Rattle.log_disk.proofs.Fresh.{new_bears, new_on, next_is, used_is, reserved_is}
+use Rattle.log_disk.proofs.Flushing.{bears_none, flush_bears, flushed_on, appended_on, reserved_on}
+use Rattle.log_disk.proofs.Counting.{carried_long}
+use Rattle.log_disk.proofs.Counted.{good_world, ends_run, counted_on, counted_more, counted_flush, reserves_flush}
 use Rattle.log_disk.proofs.Worlds.{by_writes, twin_itself, twin_stopped, twin_run, twin_acknowledged, twin_store}
 
 -- the same records, on the same disk
@@ -66,15 +69,17 @@ module _ {D : Type 0} (t : DiskTells D) (sizes : (disk : D) → length (t.seen d
     (only_now : (disk : D) (c : List ℕ) → t.left_since disk (t.moment disk) c → t.may_leave disk c)
     (counts_now : (disk : D) (n : ℕ) (c : List ℕ) → n ≤ t.moment disk → t.may_leave disk c → t.left_since disk n c) where
   pub opened_on : OpenedLaw t
-  opened_on room count p opening former log facts stored bytes old new size few same saves published = record {
-    is_on = new_on room count p [] former log facts stored bytes saves tt (t.seen new) published.published (sizes new ∙ size) few same (moments.opened_disk p);
+  opened_on room count p opening former log facts stored bytes old new size few same clear saves published = record {
+    is_on = new_on room count p [] opening.next former log facts stored bytes saves tt (t.seen new) published.published (sizes new ∙ size) few same (moments.opened_disk p);
     settled = published.durable;
+    counted = (next_is room count p [] opening.next former log facts stored bytes saves tt, used_is room count p [] opening.next former log facts stored bytes saves tt);
+    reserves = reserved_is room count p [] opening.next former log facts stored bytes saves tt ∙ clear;
   }
 
   pub opening_left : OpeningLaw t
   opening_left room count i p former log facts stored bytes old new bears settled saves called c left = elim ((called.any_moment settled).each c left) [
     | inl same ↦ inl (bears_same room count c (t.seen old) i (subst (λ n. image room n c ≡ image room n (t.seen old)) saves.many same) bears)
-    | inr fresh ↦ inr (new_bears room count p [] former log facts stored bytes saves tt c fresh)
+    | inr fresh ↦ inr (new_bears room count p [] facts.next_entry former log facts stored bytes saves tt c fresh)
   ]
 
   module _ (room count : ℕ) (p : Pages) (was : IsOpened p.db p.view) (opening : Opening) where
@@ -153,7 +158,7 @@ module _ {D : Type 0} (t : DiskTells D) (sizes : (disk : D) → length (t.seen d
         let right : IsRight (store_of w) (image_of (with_record (Some app.of) app.number d) (r ∷ d.waiting)) (disk_of w).acknowledged =
         subst (λ (e : Disk). IsRight (store_of w) (image_of e e.waiting) (disk_of w).acknowledged) app.disk (crash prints_again p was opening w (extended a.world w is.run move) 0) in
         let fit : IsSpellable (schema_of (store_of a.world)) app.of = right_last (store_of w) d.pages (map written d.carried) r (d.waiting ++ d.flushed) (disk_of w).acknowledged right (schema_of (store_of a.world)) (leads a is) in
-        appended_on room count d a.log (t.seen a.disk) b.is_on (disk_of w) log (schema_of (store_of a.world)) r app.disk (leads a is) fit app.small app.log_is
+        appended_on room count d a.log (t.seen a.disk) b.is_on (disk_of w) log (schema_of (store_of a.world)) r app.bytes app.disk (leads a is) fit app.small app.log_is
 
     -- ---- a flush
 
@@ -169,7 +174,7 @@ module _ {D : Type 0} (t : DiskTells D) (sizes : (disk : D) → length (t.seen d
     -- ---- a publish
 
     publish_left : (a : Stage D) (carried : List Deed) (log : LogState) (facts : HeaderFacts) (stored : List Bool) (bytes : List ℕ) (new : D) → IsInStep t room count a
-        → Saves room count (pages_now (store_of a.world)) carried a.log log facts stored bytes → AreSpellable (pages_now (store_of a.world)).db.schema (map written carried)
+        → Saves room count (pages_now (store_of a.world)) carried a.log.next a.log log facts stored bytes → AreSpellable (pages_now (store_of a.world)).db.schema (map written carried)
         → PublishCalled t room facts (first_block log) stored bytes a.disk new
         → LeavesOnly t.moment t.left_since a.disk new (λ c. Bears room count c (left_by a.world (length (disk_of a.world).waiting)) ⊎ Bears room count c (record { pages = pages_now (store_of a.world); carried = map written carried; after = [] }))
     publish_left a carried log facts stored bytes new b saves fit called =
@@ -183,18 +188,24 @@ module _ {D : Type 0} (t : DiskTells D) (sizes : (disk : D) → length (t.seen d
             → Bears room count c (left_by a.world (length (disk_of a.world).waiting)) ⊎ Bears room count c (record { pages = pages_now (store_of a.world); carried = map written carried; after = [] })
         one c (inl old) = inl (bears_same room count c (t.seen a.disk) (left_by a.world (length (disk_of a.world).waiting)) (subst (λ n. image room n c ≡ image room n (t.seen a.disk)) saves.many old)
             (bears_none room count (disk_of a.world) a.log (t.seen a.disk) b.is_on))
-        one c (inr new) = inr (new_bears room count (pages_now (store_of a.world)) carried a.log log facts stored bytes saves fit c new)
+        one c (inr new) = inr (new_bears room count (pages_now (store_of a.world)) carried a.log.next a.log log facts stored bytes saves fit c new)
 
     -- ---- each call
 
     call_goes : (a b : Stage D) → Call t room count a b → Stands a → Stands b × Goes a b
-    call_goes a b (goes_on x w move same) is = (
-      by_writes x.world
-          (λ writes. stands_begun (record x { world = w }) (extended x.world w is.run move)
-          (record { is_on = same_on room count (disk_of x.world) (disk_of w) x.log (t.seen x.disk) same (is.begun writes).is_on; settled = (is.begun writes).settled }))
-          (λ stopped. stopped_stands x w x.log move is stopped),
-      stays x (record x { world = w }) refl (one_move x.world w move),
-    )
+    call_goes a b (goes_on x w bytes move same quiet reserves) is =
+        let log : LogState = with_reserved x.log bytes in
+        let y : Stage D = record x { world = w; log = log } in (
+          by_writes x.world
+              (λ writes. stands_begun y (extended x.world w is.run move) (record {
+                is_on = same_on room count (disk_of x.world) (disk_of w) log (t.seen x.disk) same (reserved_on room count (disk_of x.world) x.log (t.seen x.disk) bytes (is.begun writes).is_on);
+                settled = (is.begun writes).settled;
+                counted = counted_on x.world w x.log bytes move same quiet (good_world p was opening x.world is.run) (ends_run p was opening x.world is.run) (is.begun writes).counted;
+                reserves = reserves;
+              }))
+              (λ stopped. stopped_stands x w log move is stopped),
+          stays x y refl (one_move x.world w move),
+        )
     call_goes a b (reads x new read) is =
         let y : Stage D = record x { disk = new } in
         let stands : Stands y = record {
@@ -202,6 +213,8 @@ module _ {D : Type 0} (t : DiskTells D) (sizes : (disk : D) → length (t.seen d
           begun = λ writes. record {
             is_on = subst (IsOn room count (disk_of x.world) x.log) (sym read.seen) (is.begun writes).is_on;
             settled = λ c may. (is.begun writes).settled c (read.crash c may) ∙ sym read.seen;
+            counted = (is.begun writes).counted;
+            reserves = (is.begun writes).reserves;
           };
           images = λ stopped c may. is.images stopped c (read.crash c may);
         } in (
@@ -215,11 +228,16 @@ module _ {D : Type 0} (t : DiskTells D) (sizes : (disk : D) → length (t.seen d
     call_goes a b (appends x w log move app) is = (
       by_writes x.world
           (λ writes. stands_begun (record { world = w; log = log; disk = x.disk }) (extended x.world w is.run move)
-          (record { is_on = appended_is x w log move app is (is.begun writes); settled = (is.begun writes).settled }))
+          (record {
+            is_on = appended_is x w log move app is (is.begun writes);
+            settled = (is.begun writes).settled;
+            counted = counted_more x.world w x.log log move app (is.begun writes).counted;
+            reserves = app.reserves;
+          }))
           (λ stopped. stopped_stands x w log move is stopped),
       stays x (record { world = w; log = log; disk = x.disk }) refl (one_move x.world w move),
     )
-    call_goes a b (flushes x log new writes flushed) is =
+    call_goes a b (flushes x log new writes due flushed) is =
         let begun : IsInStep t room count x = is.begun writes in
         let on : IsOn room count (disk_of x.world) x.log (t.seen x.disk) = begun.is_on in
         let w : World = with_disk x.world (flushed_all (disk_of x.world)) in
@@ -230,6 +248,8 @@ module _ {D : Type 0} (t : DiskTells D) (sizes : (disk : D) → length (t.seen d
                 (flushed_on room count (disk_of x.world) x.log (t.seen x.disk) on flushed.called.short log (t.seen new) flushed.ok flushed.outside
                 (flushed.holds (on.first ∷ on.others) on.waits on.holds on.waiting));
             settled = flushed.durable;
+            counted = subst (IsCounted w) (sym flushed.ok) (counted_flush x.world x.log (ends_run p was opening x.world is.run) due begun.counted);
+            reserves = subst (Reserves w) (sym flushed.ok) (reserves_flush x.world x.log (ends_run p was opening x.world is.run) due begun.reserves);
           }),
           record {
             moved = one_move x.world w move;
@@ -237,35 +257,42 @@ module _ {D : Type 0} (t : DiskTells D) (sizes : (disk : D) → length (t.seen d
             before = λ n c le l. ⊎_elim (λ m. inl m) (λ f. inr (x.world, f.0, is.run, inl (here x.world, one_move x.world w move), f.1)) (left.before n c le l);
           },
         )
-    call_goes a b (publishes x carried log facts stored bytes new keeps fall saves done) is =
-        let writes : Writes x.world = kept_writes x.world carried keeps in
-        let begun : IsInStep t room count x = is.begun writes in
-        let q : Pages = pages_now (store_of x.world) in
-        let w : World = with_disk x.world (published q carried (disk_of x.world)) in
-        let move : Moves x.world w = moments.publishes x.world carried keeps fall in
-        let there : disk_of w ≡ published q carried (disk_of x.world) = disk_with x.world (published q carried (disk_of x.world)) in
-        let fit : AreSpellable q.db.schema (map written carried) = carried_fit w q carried (disk_of x.world) (extended x.world w is.run move) there in
+    call_goes a b (publishes after session s l d old log disk new carried kept facts stored bytes carries fall acknowledged saves done reserves) is =
+        let u : World = Amid after session act.Checkpoint s l [] d in
+        let x : Stage D = record { world = u; log = old; disk = disk } in
+        let begun : IsInStep t room count x = is.begun tt in
+        let q : Pages = pages_now s in
+        let e : Disk = published q carried d in
+        let v : World = Amid after session act.Checkpoint s l [] e in
+        let w : World = At after e in
+        let out : Moves u v = moments.publishes u carried carries fall in
+        let done_so : Moves v w = moments.ends after session act.Checkpoint s l e (record { acknowledged = acknowledged; published = λ is. (refl, refl, refl) }) in
+        let r : Run begin v = extended u v is.run out in
+        let fit : AreSpellable q.db.schema (map written carried) = carried_fit v q carried d r refl in
         let left = publish_left x carried log facts stored bytes new begun saves fit done.called in
-        let size : length (t.seen new) ≡ 278528 + 2 * room + 16384 * count = sizes new ∙ done.called.size ∙ sym (sizes x.disk) ∙ begun.is_on.size in (
-          stands_begun (record { world = w; log = log; disk = new }) (extended x.world w is.run move) (record {
-            is_on = subst (λ (d : Disk). IsOn room count d log (t.seen new)) (sym there)
-                (new_on room count q carried x.log log facts stored bytes saves fit (t.seen new) done.published size begun.is_on.few begun.is_on.area_size (disk_of x.world));
+        let size : length (t.seen new) ≡ 278528 + 2 * room + 16384 * count = sizes new ∙ done.called.size ∙ sym (sizes disk) ∙ begun.is_on.size in
+        let good = good_world p was opening u is.run in
+        let next = next_is room count q carried old.next old log facts stored bytes saves fit in
+        let used = used_is room count q carried old.next old log facts stored bytes saves fit in
+        let long = carried_long s l d carried good.0 carries in
+        let last = ((ends_run p was opening u is.run).2 refl).1 in
+        let both : Run u w = then_move u v w (one_move u v out) done_so in (
+          stands_begun (record { world = w; log = with_reserved log kept; disk = new }) (extended v w r done_so) (record {
+            is_on = reserved_on room count e log (t.seen new) kept
+                (new_on room count q carried old.next old log facts stored bytes saves fit (t.seen new) done.published size begun.is_on.few begun.is_on.area_size d);
             settled = done.durable;
+            counted = (next ∙ begun.counted.0 ∙ sym good.4.next, omega (arith, used, long, last));
+            reserves = reserves;
           }),
           record {
-            moved = one_move x.world w move;
+            moved = both;
             later = left.later;
-            before = λ n c le l. ⊎_elim (λ m. inl m) (λ f. inr (elim f [
-              | inl old ↦ (x.world, length (disk_of x.world).waiting, is.run, inl (here x.world, one_move x.world w move), old)
-              | inr fresh ↦ (w, 0, extended x.world w is.run move, inl (one_move x.world w move, here w), subst (λ (d : Disk). Bears room count c (image_of d d.waiting)) (sym there) fresh)
-            ])) (left.before n c le l);
+            before = λ n c le f. ⊎_elim (λ m. inl m) (λ g. inr (elim g [
+              | inl former ↦ (u, length d.waiting, is.run, inl (here u, both), former)
+              | inr fresh ↦ (v, 0, r, inl (one_move u v out, one_move v w done_so), fresh)
+            ])) (left.before n c le f);
           },
         )
-      where
-        kept_writes : (w : World) (xs : List Deed) → moments.Keeps w xs → Writes w
-        kept_writes (moments.At s d) xs keeps = tt
-        kept_writes (moments.Amid after i a s l es d) xs keeps = tt
-        kept_writes (moments.Halted s next d) xs keeps = keeps
     call_goes a b (fails_flush x w log after new move writes stops app called) is =
         let begun : IsInStep t room count x = is.begun writes in
         let left = flush_left x w log new (appended_is x w log move app is begun) begun.settled called in

@@ -17,7 +17,7 @@ use Rattle.txn_log.specs.Moments.{Disk, image_of, flushed_all}
 use Rattle.txn_log.proofs.Groups.{one_group_more, none_left}
 use Rattle.log_disk.specs.Spelled.{IsSpellable, AreSpelled, LeadTo, spelled}
 use Rattle.log_disk.specs.Bears.{IsSavedAs, HasRecords, Bears}
-use Rattle.log_disk.specs.Calls.{IsOn, with_waiting}
+use Rattle.log_disk.specs.Calls.{IsOn, with_waiting, with_reserved}
 use Rattle.log_disk.proofs.Areas.{log_alone, ends_first}
 use Rattle.log_disk.proofs.Spelling.{one_spelled}
 
@@ -134,10 +134,10 @@ module _ (room count : ℕ) (d : Disk) (log : LogState) (s : List ℕ) (on : IsO
     })
 
   -- one record more waits
-  pub appended_on : (e : Disk) (after : LogState) (before : Schema) (r : Numbered) → e ≡ record d { waiting = r ∷ d.waiting } → LeadTo d.pages.db.schema (d.waiting ++ d.flushed) before
-      → IsSpellable before r.of → IsSmall (spelled before r) → after ≡ with_waiting log (spelled before r) → IsOn room count e after s
-  appended_on e after before r disk leads fit small is =
-      subst (λ (l : LogState). IsOn room count e l s) (sym is) (subst (λ (x : Disk). IsOn room count x (with_waiting log (spelled before r)) s) (sym disk) (record {
+  pub appended_on : (e : Disk) (after : LogState) (before : Schema) (r : Numbered) (bytes : ℕ) → e ≡ record d { waiting = r ∷ d.waiting } → LeadTo d.pages.db.schema (d.waiting ++ d.flushed) before
+      → IsSpellable before r.of → IsSmall (spelled before r) → after ≡ with_reserved (with_waiting log (spelled before r)) bytes → IsOn room count e after s
+  appended_on e after before r bytes disk leads fit small is =
+      subst (λ (l : LogState). IsOn room count e l s) (sym is) (subst (λ (x : Disk). IsOn room count x (with_reserved (with_waiting log (spelled before r)) bytes) s) (sym disk) (record {
         size = on.size;
         few = on.few;
         here = on.here;
@@ -155,3 +155,24 @@ module _ (room count : ℕ) (d : Disk) (log : LogState) (s : List ℕ) (on : IsO
         waiting = ap (λ (bs : List ℕ). bs ++ spelling (spelled before r).number (spelled before r).entry) on.waiting ∙ sym (group_push on.waits (spelled before r));
         spelled_all = one_spelled d.pages.db.schema before r (d.waiting ++ d.flushed) on.waits (after_of on.others) leads fit on.spelled_all;
       }))
+
+-- whatever is reserved
+pub reserved_on : (room count : ℕ) (d : Disk) (log : LogState) (s : List ℕ) (bytes : ℕ) → IsOn room count d log s → IsOn room count d (with_reserved log bytes) s
+reserved_on room count d log s bytes on = record {
+  size = on.size;
+  few = on.few;
+  here = on.here;
+  means = on.means;
+  pages = on.pages;
+  first = on.first;
+  others = on.others;
+  records = on.records;
+  fits = on.fits;
+  area_size = on.area_size;
+  start = on.start;
+  holds = on.holds;
+  waits = on.waits;
+  small = on.small;
+  waiting = on.waiting;
+  spelled_all = on.spelled_all;
+}

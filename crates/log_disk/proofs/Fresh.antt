@@ -12,7 +12,8 @@ use Rattle.log_records.specs.Spelling.{spelling}
 use Rattle.log_records.specs.Area.{Entry, group, block, Begins, FitsBlock}
 use Rattle.log_records.proofs.ScanLaws.{scanned_begins}
 use Rattle.wal_log.specs.Log as log
-use Rattle.wal_log.specs.Log.{LogState, restarted, Holds}
+use Rattle.wal_log.specs.Log.{LogState, used_by, restarted, Holds}
+use Rattle.txn_machine.specs.Log.{block_bytes}
 use Rattle.wal_log.proofs.BlockLaws.{begun_holds}
 use Rattle.wal_log.proofs.KeptLaws.{block_is}
 use Rattle.iv_meaning.specs.Schema.{Schema}
@@ -46,12 +47,12 @@ one_map : (objects : Schema) (ds : List Deed) → map (λ d. spelled objects (wr
 one_map objects [] = refl
 one_map objects (d ∷ ds) = ap (λ (es : List Entry). spelled objects (written d) ∷ es) (one_map objects ds)
 
-module _ (room count : ℕ) (p : Pages) (carried : List Deed) (old l : LogState) (facts : HeaderFacts) (stored : List Bool) (bytes : List ℕ) (saves : Saves room count p carried old l facts stored bytes)
+module _ (room count : ℕ) (p : Pages) (carried : List Deed) (next : ℕ) (old l : LogState) (facts : HeaderFacts) (stored : List Bool) (bytes : List ℕ) (saves : Saves room count p carried next old l facts stored bytes)
     (fit : AreSpellable p.db.schema (map written carried)) where
   abbrev first : List Entry
   first = first_entries p carried
 
-  log_is : l ≡ record (restarted facts.area facts.next_entry old) { first = group first; gate = 5 + length (group first) }
+  pub log_is : l ≡ record (restarted facts.area facts.next_entry old) { first = group first; gate = 5 + length (group first) }
   log_is = saves.log_is ∙ carried_is (restarted facts.area facts.next_entry old) first
 
   first_is : l.first ≡ group first
@@ -65,6 +66,16 @@ module _ (room count : ℕ) (p : Pages) (carried : List Deed) (old l : LogState)
     where
       length-block : length (165 ∷ (big_bytes 4 (length l.first) ++ l.first)) ≡ 5 + length l.first
       length-block = omega (arith, length-append (big_bytes 4 (length l.first)) l.first)
+
+  -- it has the next number, and the bytes of an empty block, the next gate and the carried records are used
+  pub next_is : l.next ≡ next
+  next_is = ap (λ (x : LogState). x.next) log_is ∙ saves.next_entry
+
+  pub used_is : used_by l ≡ block_bytes + 1 + length (group first)
+  used_is = let e = ap used_by log_is in omega (arith, e)
+
+  pub reserved_is : l.reserved ≡ old.reserved
+  reserved_is = ap (λ (x : LogState). x.reserved) log_is
 
   longer : length (first_block l) ≡ l.gate + 1
   longer = omega (arith, long, length-append (block l.first) (0 ∷ []))

@@ -3,8 +3,15 @@ pub mod Spelling
 pub mod Fresh
 pub mod Flushing
 pub mod Worlds
+pub mod Counting
+pub mod Counted
+pub mod Living
+pub mod Finding
+pub mod Placing
+pub mod Storing
 pub mod Calling
 pub mod Borne
 pub mod Ordered
 pub mod Defining
 pub mod Sound
+pub mod Whole

@@ -20,7 +20,7 @@ use Rattle.log_disk.specs.Found.{AreByKey}
 
 -- ---- one list in order
 
-less_apart : {P : Type 0} (x y : Place) → place_cmp x y ≡ Less → place_cmp y x ≡ Less → P
+pub less_apart : {P : Type 0} (x y : Place) → place_cmp x y ≡ Less → place_cmp y x ≡ Less → P
 less_apart x y h k = absurd (let e : Less ≡ Greater = sym h ∙ (place_cmp_total.antisymm x y ∙ ap ordering_reverse k) in cc)
 
 -- two lists in order with the same elements are one

@@ -27,6 +27,7 @@ use Rattle.txn_log.proofs.Standing.{creates_once, row_numbered, total_numbered, 
 use Rattle.log_disk.specs.Bears.{all_entries, AreLeaves, StandOnce, AreStoredAs, end_of_first, Bears}
 use Rattle.log_disk.specs.Found.{header_of, scan_fault, StandsFirst, ArePagesOf, AreDefinitions, IsFoundBy, IsFoundIn, AreLimited, NotDamagedLaw}
 use Rattle.log_disk.proofs.Areas.{image_live}
+use Rattle.log_disk.proofs.Living.{live_same}
 use Rattle.log_disk.proofs.Ordered.{texts_from, order_once, in_texts, texts_in, texts_order}
 use Rattle.log_disk.proofs.Defining.{never_first, texts_are, definitions_good}
 
@@ -50,7 +51,7 @@ one_page room p (suc j) c Others rest next (f ∷ found) h =
     map-append (λ (x : Found). x.entry) (found_in f.place f.entries) (all_found found)
     ∙ (λ t. (in_page f.place f.entries ∙ h.0.entries) t ++ next found h.1 t)
 
-all_pages : (room k : ℕ) (c : List ℕ) (ps : List ℕ) (found : List Page) → ArePagesOf room k c ps found → map (λ f. f.entry) (all_found found) ≡ all_entries (map (λ p. named room p (map_byte k p c) c) ps)
+pub all_pages : (room k : ℕ) (c : List ℕ) (ps : List ℕ) (found : List Page) → ArePagesOf room k c ps found → map (λ f. f.entry) (all_found found) ≡ all_entries (map (λ p. named room p (map_byte k p c) c) ps)
 all_pages room k c [] found h = ap (λ (fs : List Page). map (λ f. f.entry) (all_found fs)) h
 all_pages room k c (p ∷ ps) found h =
     one_page room p (map_byte k p c) c (ArePagesOf room k c ps) (map (λ p. named room p (map_byte k p c) c) ps) (all_pages room k c ps) found h
@@ -295,4 +296,4 @@ module _ (room count : ℕ) (c : List ℕ) (i : Image) (b : Bears room count c i
 pub not_damaged : NotDamagedLaw
 not_damaged room count c i b lim d found rule place damaged =
     let l = image_live room count c b.here b.means in
-    no_rule room count c i b lim d found.bytes l.0 l.3 (subst (λ o. IsFoundIn o c d) l.1 found.by) rule place damaged.0
+    no_rule room count c i b lim d found.bytes l.0 l.3 (subst (λ o. IsFoundIn o c d) (live_same c (omega (arith, lim.size)) ∙ l.1) found.by) rule place damaged.0

@@ -1,11 +1,13 @@
 -- Records as they stand in blocks, beside the definitions that lead to them.
 use Rattle.std.specs.Prelude.{◌≡◌, ℕ, List, [], ◌∷◌, ◌++◌, map, reverse, Option, Some, None}
-use Rattle.std.specs.Option.{IfSome}
+use Rattle.std.specs.Option.{option_map, IfSome}
+use Rattle.byteorder.specs.Endian.{big_bytes}
+use Rattle.iv_types.specs.declared.value.Kind.{Kind}
 use mathlib.Core.Path.{refl, sym, ap, subst, ◌∙◌}
 use Rattle.std.proofs.lemmas.List.{reverse-append}
 use Rattle.iv_types.specs.declared.catalog.TableDef.{TableDef}
-use Rattle.iv_types.specs.Encoding.{kinds_of, FitAll}
-use Rattle.iv_meaning.specs.Schema.{Schema, Object, kinds_of_table}
+use Rattle.iv_types.specs.Encoding.{kinds_of, FitAll, row_bytes}
+use Rattle.iv_meaning.specs.Schema.{Schema, Object, numbered, kinds_of_table}
 use Rattle.iv_meaning.specs.Database.{Row}
 use Rattle.txn_machine.specs.Deltas.{RowChange}
 use Rattle.txn_machine.specs.May.{FitsUnder}
@@ -20,8 +22,9 @@ use Rattle.txn_log.specs.Moments.{IsRight}
 use Rattle.txn_log.proofs.Once.{created}
 use Rattle.txn_log.proofs.Printed.{one_statement}
 use Rattle.txn_log.proofs.Meaning.{meant}
+use Rattle.log_records.specs.Spelling.{optional}
 use Rattle.log_records.specs.Area.{Entry}
-use Rattle.log_disk.specs.Spelled.{AddsTo, LeadTo, IsSpellable, AreSpellable, AreSpelled, spelled}
+use Rattle.log_disk.specs.Spelled.{with_length, row_or_none, FieldsLaw, AddsTo, LeadTo, IsSpellable, AreSpellable, AreSpelled, spelled}
 
 adds_what : (objects : Schema) (transaction : ℕ) (w : What) → AddsTo objects (what_record transaction w) objects
 adds_what objects transaction (Wrote c) = refl
@@ -114,3 +117,21 @@ pub one_spelled : (objects before : Schema) (r : Numbered) (rs : List Numbered) 
     → AreSpelled objects (r ∷ rs) (reverse (waits ++ spelled before r ∷ []) ++ others)
 one_spelled objects before r rs waits others leads fit h =
     subst (λ (es : List Entry). AreSpelled objects (r ∷ rs) (es ++ others)) (sym (reverse-append waits (spelled before r ∷ []))) (h, (before, leads, fit, refl))
+
+-- ---- fields
+
+row_stands : (kinds : List Kind) (row : Option Row) → optional (option_map (row_bytes kinds) row) ≡ row_or_none kinds row
+row_stands kinds None = refl
+row_stands kinds (Some r) = refl
+
+pub fields_stand : FieldsLaw
+fields_stand objects number (machine.Write t c) =
+    let kinds : List Kind = kinds_of_table (numbered objects c.key.0) in
+    λ x. 1 ∷ (big_bytes 8 number ++ (big_bytes 8 t ++ (big_bytes 4 c.key.0 ++ (with_length c.key.1 ++ (row_stands kinds c.before x ++ row_stands kinds c.after x)))))
+fields_stand objects number (machine.Delta t d) = refl
+fields_stand objects number (machine.Ghost p) = refl
+fields_stand objects number (machine.Clean p) = refl
+fields_stand objects number (machine.Undo t n) = refl
+fields_stand objects number (machine.Commit t n s) = refl
+fields_stand objects number (machine.Abort t) = refl
+fields_stand objects number (machine.Definition n s text) = refl

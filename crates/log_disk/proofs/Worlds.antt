@@ -1,8 +1,10 @@
 -- Worlds on the way of a run: which are stopped, and what was acknowledged.
 use Rattle.std.specs.Prelude.{◌≡◌, List}
-use mathlib.Core.Path.{refl}
+use mathlib.Core.Path.{refl, ap}
+use mathlib.Core.Logic.{inl}
+use Rattle.std.proofs.Common.{⊎_elim}
 use Rattle.txn_log.specs.Replay.{Deed}
-use Rattle.txn_log.specs.Moments.{World, At, Amid, Halted, Keeps, Writes, store_of, disk_of, Moves, begins, acts, ends, flushes, acknowledges, publishes, fails_commit, fails_define, fails_before, fails_after, told, told_halted, Run, here, then_move}
+use Rattle.txn_log.specs.Moments.{Disk, World, At, Amid, Halted, Keeps, Writes, store_of, disk_of, Moves, begins, acts, ends, flushes, acknowledges, publishes, fails_commit, fails_define, fails_before, fails_after, told, told_halted, Run, here, then_move}
 use Rattle.log_disk.specs.Calls.{AreTwins}
 
 -- it goes on, or a fault of the disk stopped it
@@ -14,7 +16,7 @@ by_writes (Halted s next d) f g = g (λ h. h)
 pub twin_itself : (w : World) → (Writes w → ⊥) → AreTwins w w
 twin_itself (At s d) stopped = stopped tt
 twin_itself (Amid after i a s l es d) stopped = stopped tt
-twin_itself (Halted s next d) stopped = (refl, refl)
+twin_itself (Halted s next d) stopped = (refl, inl refl)
 
 pub twin_stopped : (v w : World) → AreTwins v w → Writes v → ⊥
 twin_stopped (At s d) w twins writes = twins
@@ -55,7 +57,7 @@ twin_acknowledged (At s d) w twins = absurd twins
 twin_acknowledged (Amid after i a s l es d) w twins = absurd twins
 twin_acknowledged (Halted s next d) (At t e) twins = absurd twins
 twin_acknowledged (Halted s next d) (Amid after i a t l es e) twins = absurd twins
-twin_acknowledged (Halted s next d) (Halted t other e) twins = twins.1
+twin_acknowledged (Halted s next d) (Halted t other e) twins = ⊎_elim (λ same. ap (λ (x : Disk). x.acknowledged) same) (λ new. ap (λ (x : Disk). x.acknowledged) new.1) twins.1
 
 pub twin_store : (v w : World) → AreTwins v w → store_of w ≡ store_of v
 twin_store (At s d) w twins = absurd twins

@@ -2,17 +2,17 @@
 --
 -- Which image the bytes of a disk bear: its live header, the entries of the pages that this names, and the records that a scan of its
 -- log area gives.
-use Rattle.std.specs.Prelude.{◌≡◌, ℕ, ◌==◌, if◌then◌else◌, ◌-◌, ◌≤◌, ◌<◌, ◌^◌, List, [], ◌∷◌, ◌++◌, map, length, reverse, get_or, Option, Some, None, Ok}
+use Rattle.std.specs.Prelude.{◌≡◌, ◌≢◌, ◌⊎◌, ℕ, ◌+◌, ◌==◌, if◌then◌else◌, ◌-◌, ◌≤◌, ◌<◌, ◌^◌, List, [], ◌∷◌, ◌++◌, map, length, reverse, get_or, Option, Some, None, Ok}
 use Rattle.std.specs.List.{Contains, AllByRecursion}
 use Rattle.page_store.specs.Image as page
 use Rattle.page_store.specs.Image.{image}
-use Rattle.slot_page.specs.Page.{entries, index_of, IsLeaf}
+use Rattle.slot_page.specs.Page.{entry_head, page_body, entries, index_of, IsLeaf}
 use Rattle.log_records.specs.Area.{Entry, group, block, laid}
 use Rattle.log_records.specs.Scan.{scanned, frame_size}
 use Rattle.txn_log.specs.Replay.{Pages}
 use Rattle.txn_log.specs.Appended.{Image}
 use Rattle.txn_log.specs.Groups.{after_of}
-use Rattle.txn_log.specs.Stored.{PageEntry, StandFor, Define, AreProper}
+use Rattle.txn_log.specs.Stored.{PageEntry, IsRowEntry, IsTotalEntry, StandFor, Define, AreProper}
 use Rattle.log_disk.specs.Spelled.{spelled, AreSpellable, AreSpelled}
 
 -- ---- stored pages
@@ -84,6 +84,21 @@ pub record Bears (room count : ℕ) (c : List ℕ) (i : Image) : Type 0 where
   pub records : HasRecords here i first others
 
 -- ---- laws
+
+-- it fits a page of its own
+abbrev pub FitsPage : PageEntry → Type 0
+FitsPage e = (e.0.0 < 2 ^ 32) × (length e.0.1 + length e.1 + entry_head ≤ page_body)
+
+-- for proper pages whose texts and entries fit there are stored pages that hold them
+abbrev pub StoredLaw : Type 0
+StoredLaw = (p : Pages) (texts : List (List (List ℕ))) → AreProper p → Define texts p.db.schema → length texts < 2 ^ 32 - 1
+    → AllByRecursion (λ parts. length parts ≤ 2 ^ 16) texts → ((e : PageEntry) → IsRowEntry p e ⊎ IsTotalEntry p e → FitsPage e)
+    → (stored : List (Option (List ℕ))) × AreStoredAs stored p
+
+-- a first block whose gate is closed has no end, and an open one ends behind its records
+abbrev pub FirstEndLaw : Type 0
+FirstEndLaw = (area : List ℕ) → (get_or area 0 0 ≢ 165 → end_of_first area ≡ None)
+    × ((bytes tail : List ℕ) → area ≡ block bytes ++ tail → length bytes < 2 ^ 32 → end_of_first area ≡ Some (length (block bytes)))
 
 -- bytes bear one image
 abbrev pub OneImageLaw : Type 0

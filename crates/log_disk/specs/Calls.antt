@@ -2,7 +2,7 @@
 --
 -- A machine with the log and the disk on which its records are: what each call says, calls one after another, and how the disk stands
 -- between two of them.
-use Rattle.std.specs.Prelude.{◌≡◌, ℕ, ◌+◌, ◌*◌, ◌-◌, ◌<◌, ◌≤◌, ◌^◌, Bool, List, [], ◌∷◌, ◌++◌, map, length, reverse, Some}
+use Rattle.std.specs.Prelude.{◌≡◌, ◌≢◌, ◌⊎◌, ℕ, ◌+◌, ◌*◌, ◌<◌, ◌≤◌, ◌^◌, Bool, List, [], ◌∷◌, ◌++◌, map, length, reverse, Some}
 use Rattle.std.specs.List.{AllByRecursion}
 use Rattle.disk_io.specs.Disk.{Only, Elapses, LeavesOnly}
 use Rattle.page_store.specs.declared.facts.HeaderFacts.{HeaderFacts}
@@ -11,14 +11,18 @@ use Rattle.page_store.specs.Image.{image}
 use Rattle.page_store.specs.Publish.{IsNew, OldOrNew, stored_pages}
 use Rattle.log_records.specs.Spelling.{spelling}
 use Rattle.log_records.specs.Area.{Entry, group, block, IsSmall, FitsBlock}
-use Rattle.wal_log.specs.Log.{LogState, after_flush, restarted, Holds, FlushLeaves, IsOutside}
+use Rattle.wal_log.specs.Log.{LogState, used_by, after_flush, restarted, Holds, FlushLeaves, IsOutside}
+use Rattle.txn_machine.specs.Acts as act
+use Rattle.txn_machine.specs.Records as machine
 use Rattle.txn_machine.specs.Records.{Record}
-use Rattle.txn_machine.specs.Store.{schema_of}
+use Rattle.txn_machine.specs.Log.{Log, block_bytes, reserved}
+use Rattle.txn_machine.specs.Store.{Store, committed, schema_of}
+use Rattle.txn_machine.specs.State.{State}
 use Rattle.txn_log.specs.Replay.{Deed, Pages}
 use Rattle.txn_log.specs.Fitting.{DoNumbersFall}
-use Rattle.txn_log.specs.Appended.{written}
+use Rattle.txn_log.specs.Appended.{Numbered, written}
 use Rattle.txn_log.specs.Groups.{after_of}
-use Rattle.txn_log.specs.Moments.{Disk, World, Halted, Moves, Keeps, Writes, store_of, disk_of, with_disk, image_of, with_record, flushed_all, pages_now, published}
+use Rattle.txn_log.specs.Moments.{AreCarried, txn_at, Disk, World, At, Amid, Halted, Moves, Writes, store_of, disk_of, with_disk, image_of, with_record, flushed_all, pages_now, published}
 use Rattle.log_disk.specs.Spelled.{spelled, AreSpelled}
 use Rattle.log_disk.specs.Bears.{AreStoredAs, IsSavedAs, HasRecords}
 
@@ -34,7 +38,11 @@ pub record DiskTells (D : Type 0) : Type 1 where
 
 -- a record waits
 abbrev pub with_waiting : LogState → Entry → LogState
-with_waiting log e = record log { waiting = log.waiting ++ spelling e.number e.entry; next = log.next + 1; reserved = log.reserved - length (spelling e.number e.entry) }
+with_waiting log e = record log { waiting = log.waiting ++ spelling e.number e.entry; next = log.next + 1 }
+
+-- so many bytes are reserved
+abbrev pub with_reserved : LogState → ℕ → LogState
+with_reserved log bytes = record log { reserved = bytes }
 
 -- the first block has these records more
 abbrev pub with_carried : LogState → List Entry → LogState
@@ -69,6 +77,29 @@ pub record IsOn (room count : ℕ) (d : Disk) (log : LogState) (s : List ℕ) : 
   pub small : AllByRecursion IsSmall waits
   pub waiting : log.waiting ≡ group waits
   pub spelled_all : AreSpelled d.pages.db.schema (d.waiting ++ d.flushed) (reverse waits ++ after_of others)
+
+-- a commit and a definition each end a block
+abbrev pub end_of_block : Record → ℕ
+end_of_block (machine.Commit transaction number session) = block_bytes
+end_of_block (machine.Definition number session text) = block_bytes
+end_of_block _ = 0
+
+-- the bytes that end the blocks of these records, which wait
+abbrev pub ends_of : List Numbered → ℕ
+ends_of [] = 0
+ends_of (r ∷ rs) = ends_of rs + end_of_block r.of
+
+-- The log in memory has the machine's next number and used bytes. The machine counts the end of a block with the record that ends it.
+abbrev pub IsCounted : World → LogState → Type 0
+IsCounted (At s d) log = (log.next ≡ s.log.next) × (used_by log ≡ s.log.used)
+IsCounted (Amid after session a s l es d) log = (log.next ≡ l.next) × (used_by log + ends_of d.waiting ≡ l.used)
+IsCounted (Halted s next d) log = Unit {0}
+
+-- it has reserved what the machine reserves, and the ends of blocks that wait
+abbrev pub Reserves : World → LogState → Type 0
+Reserves (At s d) log = log.reserved ≡ reserved s.store s.log
+Reserves (Amid after session a s l es d) log = log.reserved ≡ reserved s l + ends_of d.waiting
+Reserves (Halted s next d) log = Unit {0}
 
 -- ---- what calls say
 
@@ -122,11 +153,12 @@ pub record SameRecords (d e : Disk) : Type 0 where
   pub waiting : e.waiting ≡ d.waiting
 
 -- What a checkpoint of these pages publishes: the store's stored pages hold them, the header names them, and the log went to the
--- header's area with these carried records.
-pub record Saves (room count : ℕ) (p : Pages) (carried : List Deed) (old log : LogState) (facts : HeaderFacts) (stored : List Bool) (bytes : List ℕ) : Type 0 where
+-- header's area with these carried records, before the record of this number.
+pub record Saves (room count : ℕ) (p : Pages) (carried : List Deed) (next : ℕ) (old log : LogState) (facts : HeaderFacts) (stored : List Bool) (bytes : List ℕ) : Type 0 where
   pub format : facts.format ≡ 1
   pub area : facts.area ≤ 1
   pub commits : facts.commits ≡ p.db.number
+  pub next_entry : facts.next_entry ≡ next
   pub many : length stored ≡ count
   pub pages : AreStoredAs (stored_pages stored bytes) p
   pub log_is : log ≡ with_carried (restarted facts.area facts.next_entry old) (first_entries p carried)
@@ -134,45 +166,59 @@ pub record Saves (room count : ℕ) (p : Pages) (carried : List Deed) (old log :
   pub short : length log.first < 2 ^ 28
   pub block_fits : length (first_block log) ≤ room
 
--- a record is appended to the machine's disk, and to the log
+-- a record is appended to the machine's disk, and to the log, which then has reserved what the machine reserves
 pub record Appends (v w : World) (log after : LogState) : Type 0 where
   pub of : Record
   pub number : ℕ
   pub disk : disk_of w ≡ with_record (Some of) number (disk_of v)
   pub small : IsSmall (spelled (schema_of (store_of v)) (record { number = number; of = of }))
-  pub log_is : after ≡ with_waiting log (spelled (schema_of (store_of v)) (record { number = number; of = of }))
+  pub bytes : ℕ
+  pub log_is : after ≡ with_reserved (with_waiting log (spelled (schema_of (store_of v)) (record { number = number; of = of }))) bytes
+  pub reserves : Reserves w after
 
--- stopped on the same store, whatever the disk has
+-- stopped on the same store: the disk is the same, or a checkpoint of that store is published on it
 abbrev pub AreTwins : World → World → Type 0
-AreTwins (Halted s next d) (Halted u other e) = (other ≡ next) × (e.acknowledged ≡ d.acknowledged)
+AreTwins (Halted s next d) (Halted u other e) = (other ≡ next) × ((e ≡ d) ⊎ ((carried : List Deed) × (e ≡ published (pages_now next) carried d)))
 AreTwins _ _ = ⊥
+
+-- no checkpoint ends here and no fault stops the machine, since these are calls on the disk
+abbrev pub IsQuiet : World → World → Type 0
+IsQuiet (Amid after session a s l es d) (At t e) = a ≢ act.Checkpoint
+IsQuiet (At s d) (Halted t next e) = ⊥
+IsQuiet _ _ = Unit {0}
 
 module _ {D : Type 0} (t : DiskTells D) (room count : ℕ) where
   pub data Call : Stage D → Stage D → Type 0 where
     -- the machine goes on, and nothing is appended
-    goes_on : (a : Stage D) (w : World) → Moves a.world w → SameRecords (disk_of a.world) (disk_of w) → Call a (record a { world = w })
+    goes_on : (a : Stage D) (w : World) (bytes : ℕ) → Moves a.world w → SameRecords (disk_of a.world) (disk_of w) → IsQuiet a.world w → Reserves w (with_reserved a.log bytes)
+        → Call a (record a { world = w; log = with_reserved a.log bytes })
     reads : (a : Stage D) (new : D) → Read t a.disk new → Call a (record a { disk = new })
     appends : (a : Stage D) (w : World) (log : LogState) → Moves a.world w → Appends a.world w a.log log → Call a (record { world = w; log = log; disk = a.disk })
-    flushes : (a : Stage D) (log : LogState) (new : D) → Writes a.world → Flushed t a.log log a.disk new
+    -- the block of a commit or a definition is flushed
+    flushes : (a : Stage D) (log : LogState) (new : D) → Writes a.world → ends_of (disk_of a.world).waiting ≡ block_bytes → Flushed t a.log log a.disk new
         → Call a (record { world = with_disk a.world (flushed_all (disk_of a.world)); log = log; disk = new })
-    publishes : (a : Stage D) (carried : List Deed) (log : LogState) (facts : HeaderFacts) (stored : List Bool) (bytes : List ℕ) (new : D)
-        → Keeps a.world carried → DoNumbersFall carried → Saves room count (pages_now (store_of a.world)) carried a.log log facts stored bytes
-        → Published t room facts (first_block log) stored bytes a.disk new
-        → Call a (record { world = with_disk a.world (published (pages_now (store_of a.world)) carried (disk_of a.world)); log = log; disk = new })
+    -- a checkpoint is published, with which its step ends
+    publishes : (after : State) (session : ℕ) (s : Store) (l : Log) (d : Disk) (old log : LogState) (disk new : D) (carried : List Deed) (kept : ℕ) (facts : HeaderFacts) (stored : List Bool) (bytes : List ℕ)
+        → AreCarried (txn_at s l) carried → DoNumbersFall carried → d.acknowledged ≡ (committed s).number
+        → Saves room count (pages_now s) carried old.next old log facts stored bytes → Published t room facts (first_block log) stored bytes disk new
+        → Reserves (At after (published (pages_now s) carried d)) (with_reserved log kept)
+        → Call (record { world = Amid after session act.Checkpoint s l [] d; log = old; disk = disk }) (record { world = At after (published (pages_now s) carried d); log = with_reserved log kept; disk = new })
     -- a commit or a definition is appended, and its flush fails, which stops the machine
     fails_flush : (a : Stage D) (w : World) (log after : LogState) (new : D) → Moves a.world w → Writes a.world → (Writes w → ⊥) → Appends a.world w a.log log → FlushCalled t log a.disk new
         → Call a (record { world = w; log = after; disk = new })
     -- the publish of a checkpoint fails, which stops the machine on one of two disks
     fails_publish : (a : Stage D) (before after : World) (carried : List Deed) (log last : LogState) (facts : HeaderFacts) (stored : List Bool) (bytes : List ℕ) (new : D)
         → Moves a.world before → Moves a.world after → Writes a.world → AreTwins before after → SameRecords (disk_of a.world) (disk_of before)
-        → disk_of after ≡ published (pages_now (store_of a.world)) carried (disk_of a.world) → Saves room count (pages_now (store_of a.world)) carried a.log log facts stored bytes
+        → disk_of after ≡ published (pages_now (store_of a.world)) carried (disk_of a.world) → Saves room count (pages_now (store_of a.world)) carried a.log.next a.log log facts stored bytes
         → PublishCalled t room facts (first_block log) stored bytes a.disk new → Call a (record { world = before; log = last; disk = new })
 
   pub data Calls (a : Stage D) : Stage D → Type 0 where
     none : Calls a a
     then_call : (b c : Stage D) → Calls a b → Call b c → Calls a c
 
-  -- the disk has what the machine's disk has, and no write waits
+  -- the disk has what the machine's disk has, no write waits, and the log in memory counts as the machine does
   pub record IsInStep (a : Stage D) : Type 0 where
     pub is_on : IsOn room count (disk_of a.world) a.log (t.seen a.disk)
     pub settled : Only (t.seen a.disk) (t.may_leave a.disk)
+    pub counted : IsCounted a.world a.log
+    pub reserves : Reserves a.world a.log

@@ -1,13 +1,13 @@
 -- No clause of `run` rests on this module: it serves contracts between crates.
 --
 -- An image as it is found in the bytes of a device, for the rules by which it is refused before its records are replayed.
-use Rattle.std.specs.Prelude.{◌≡◌, ◌↔◌, ℕ, zero, suc, ◌+◌, ◌*◌, ◌≤◌, ◌^◌, true, List, [], ◌∷◌, length, Option, Some, None, Result, Ok, Err}
+use Rattle.std.specs.Prelude.{◌≡◌, ◌↔◌, ℕ, zero, suc, ◌+◌, ◌*◌, ◌<◌, ◌≤◌, ◌^◌, ◌&&◌, nat_le, Bool, true, List, [], ◌∷◌, length, get_or, Option, Some, None, Result, Ok, Err}
 use Rattle.std.specs.Prelude.{map as map_of}
 use Rattle.std.specs.List.{Contains, range_with_len}
 use Rattle.std.specs.declared.cmp.Ordering.TheVariants.{Less}
 use Rattle.disk_io.specs.Disk.{part}
 use Rattle.page_store.specs.Image as page
-use Rattle.page_store.specs.Image.{header_at, area_at, slot_at, format_of, pages_of, area_size_of, number_of, commits_of, next_entry_of, area_of, redo_of, map_byte, live}
+use Rattle.page_store.specs.Image.{header_at, area_at, slot_at, format_of, pages_of, area_size_of, number_of, commits_of, next_entry_of, area_of, redo_of, map_byte, is_open, choose, live, image}
 use Rattle.slot_page.specs.Page.{IsLeaf}
 use Rattle.log_records.specs.declared.record.Scanned.{Scanned}
 use Rattle.log_records.specs.Scan.{Fault, scanned}
@@ -15,7 +15,15 @@ use Rattle.table_laws.specs.Place.{place_cmp}
 use Rattle.txn_log.specs.Appended.{Image}
 use Rattle.txn_log.specs.Stored.{PageEntry}
 use Rattle.txn_log.specs.Damaged.{Header, Page, Found, Device, Rule, all_found, IsDamaged}
-use Rattle.log_disk.specs.Bears.{page_entries, StandOnce, end_of_first, Bears}
+use Rattle.log_disk.specs.Bears.{page_entries, all_entries, AreLeaves, StandOnce, end_of_first, Bears}
+
+-- a header that lies wholly on the device, and is open there
+abbrev pub opens_on : ℕ → List ℕ → Bool
+opens_on k c = nat_le (header_at (suc k)) (length c) && is_open k c
+
+-- the live header of a device of any size
+abbrev pub live_on : List ℕ → Option ℕ
+live_on c = choose (opens_on 0 c) (opens_on 1 c) (number_of 0 c) (number_of 1 c)
 
 -- the header that begins there
 abbrev pub header_of : ℕ → List ℕ → Header
@@ -79,7 +87,7 @@ IsFoundIn (Some k) c d = IsFoundBy k c d
 
 pub record IsFound (c : List ℕ) (d : Device) : Type 0 where
   pub bytes : d.bytes ≡ length c
-  pub by : IsFoundIn (live c) c d
+  pub by : IsFoundIn (live_on c) c d
 
 -- the sizes of a device within the limits, and numbers that are at most 2^62
 pub record AreLimited (room count : ℕ) (c : List ℕ) (here : page.Image) : Type 0 where
@@ -90,7 +98,42 @@ pub record AreLimited (room count : ℕ) (c : List ℕ) (here : page.Image) : Ty
 
 -- ---- laws
 
+-- the live header is open and lies wholly on the device, and it has the greater number, header 0 on a tie
+pub record IsLive (c : List ℕ) (k : ℕ) : Type 0 where
+  pub low : k ≤ 1
+  pub lies : header_at k + 139264 ≤ length c
+  pub open_there : is_open k c ≡ true
+  pub greatest : (other : ℕ) → other ≤ 1 → header_at other + 139264 ≤ length c → is_open other c ≡ true → number_of other c ≤ number_of k c
+  pub first : (other : ℕ) → other < k → header_at other + 139264 ≤ length c → is_open other c ≡ true → number_of other c < number_of k c
+
+-- no other is found; on a device that both headers lie on it is the one by whose pages the device is written
+abbrev pub LiveLaw : Type 0
+LiveLaw = ((c : List ℕ) (k : ℕ) → (live_on c ≡ Some k) ↔ IsLive c k) × ((c : List ℕ) → 278528 ≤ length c → live_on c ≡ live c)
+
+-- for each device there is what is found
+abbrev pub FoundLaw : Type 0
+FoundLaw = (c : List ℕ) → (d : Device) × IsFound c d
+
 -- bytes that bear an image are refused by no rule on header, blocks, page map and entries
 abbrev pub NotDamagedLaw : Type 0
 NotDamagedLaw = (room count : ℕ) (c : List ℕ) (i : Image) (b : Bears room count c i) → AreLimited room count c b.here
     → (d : Device) → IsFound c d → (rule : Rule) (place : ℕ) → IsDamaged d rule place → ⊥
+
+-- the live header, its blocks, its page map and its stored pages are whole
+pub record IsWhole (room count : ℕ) (c : List ℕ) (here : page.Image) : Type 0 where
+  pub means : image room count c ≡ Some here
+  pub limited : AreLimited room count c here
+  pub format : here.format ≡ 1
+  pub pages : here.pages ≡ count
+  pub areas : here.area_size ≡ room
+  pub area : here.area ≤ 1
+  pub low : (n : ℕ) → n < count → get_or here.map n 0 ≤ 2
+  pub first_end : end_of_first here.log ≡ Some here.redo
+  pub records : List Scanned
+  pub scan : scanned here.log ≡ Ok records
+  pub leaves : AreLeaves here.stored
+  pub apart : StandOnce (all_entries here.stored)
+
+-- and so they are where no rule fails: where one of them is not, a rule does
+abbrev pub WholeLaw : Type 0
+WholeLaw = (c : List ℕ) (d : Device) → IsFound c d → ((rule : Rule) (place : ℕ) → IsDamaged d rule place → ⊥) → (room : ℕ) × (count : ℕ) × (here : page.Image) × IsWhole room count c here

@@ -23,7 +23,8 @@ abbrev pub AreasLaw : Type 0
 AreasLaw = (room count : ℕ) (s c : List ℕ) (here : page.Image) → length s ≡ 278528 + 2 * room + 16384 * count → count ≤ 131072 → image room count s ≡ Some here
     → IsOutside 278528 (2 * room) s c → image room count c ≡ Some (record here { log = part (page.area_at room here.area) room c })
 
--- a world on the way from one to another, or what a fault of the disk may have left in place of that other
+-- A world on the way from one to another, or what a fault of the disk may have left in place of that other: it stopped the machine on
+-- the same store, and the publish that failed may have come to pass or not.
 abbrev pub OnTheWay : World → World → World → Type 0
 OnTheWay u v w = (Run u w × Run w v) ⊎ AreTwins v w
 
@@ -31,15 +32,15 @@ module _ {D : Type 0} (t : DiskTells D) where
   -- while an opening publishes what it recovered, a crash leaves the image that it found or the one that it publishes
   abbrev pub OpeningLaw : Type 0
   OpeningLaw = (room count : ℕ) (i : Image) (p : Pages) (former log : LogState) (facts : HeaderFacts) (stored : List Bool) (bytes : List ℕ) (old new : D)
-      → Bears room count (t.seen old) i → Only (t.seen old) (t.may_leave old) → Saves room count p [] former log facts stored bytes
+      → Bears room count (t.seen old) i → Only (t.seen old) (t.may_leave old) → Saves room count p [] facts.next_entry former log facts stored bytes
       → PublishCalled t room facts (first_block log) stored bytes old new
       → (c : List ℕ) → t.left_since new (t.moment old) c → Bears room count c i ⊎ Bears room count c (record { pages = p; carried = []; after = [] })
 
   -- where the checkpoint of an opening is published, an engine may be begun on it
   abbrev pub OpenedLaw : Type 0
   OpenedLaw = (room count : ℕ) (p : Pages) (opening : Opening) (former log : LogState) (facts : HeaderFacts) (stored : List Bool) (bytes : List ℕ) (old new : D)
-      → t.size_of new ≡ 278528 + 2 * room + 16384 * count → count ≤ 131072 → former.size ≡ room
-      → Saves room count p [] former log facts stored bytes → Published t room facts (first_block log) stored bytes old new
+      → t.size_of new ≡ 278528 + 2 * room + 16384 * count → count ≤ 131072 → former.size ≡ room → former.reserved ≡ 0
+      → Saves room count p [] opening.next former log facts stored bytes → Published t room facts (first_block log) stored bytes old new
       → IsInStep t room count (record { world = opened_world opening p; log = log; disk = new })
 
   -- after any calls a machine that no fault of the disk stopped has on the disk what its moments say

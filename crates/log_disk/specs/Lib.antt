@@ -1,5 +1,6 @@
 pub mod Spelled
 pub mod Bears
 pub mod Found
+pub mod Places
 pub mod Calls
 pub mod Laws

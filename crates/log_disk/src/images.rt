@@ -1,6 +1,40 @@
 //! Laws of the images that bytes bear. Each function is there for its contract.
-ghost use Rattle.log_disk.specs.Bears.{OneImageLaw};
-ghost use Rattle.log_disk.specs.Found.{NotDamagedLaw};
+ghost use Rattle.log_disk.specs.Spelled.{FieldsLaw, CommitBytes};
+ghost use Rattle.log_disk.specs.Bears.{StoredLaw, FirstEndLaw, OneImageLaw};
+ghost use Rattle.log_disk.specs.Places.{PlacesLaw, GateLaw};
+ghost use Rattle.log_disk.specs.Found.{LiveLaw, FoundLaw, NotDamagedLaw, WholeLaw};
+
+/// A record's fields stand in its bytes as they are named.
+pub fn fields_law()
+    ensures fields { FieldsLaw }
+    ensures commit { CommitBytes }
+{}
+
+/// For proper pages whose texts and entries fit there are stored pages that hold them.
+pub fn stored_law()
+    ensures { StoredLaw }
+{}
+
+/// A first block whose gate is closed has no end, and an open one ends behind its records.
+pub fn first_end_law()
+    ensures { FirstEndLaw }
+{}
+
+/// The live header of a device is open and lies wholly on it, and has the greater number.
+pub fn live_law()
+    ensures { LiveLaw }
+{}
+
+/// For each device there is what is found.
+pub fn found_law()
+    ensures { FoundLaw }
+{}
+
+/// What is found stands where it is found, and a block that does not lie in the area is told by its open gate.
+pub fn places_law()
+    ensures found { PlacesLaw }
+    ensures gates { GateLaw }
+{}
 
 /// Bytes bear one image.
 pub fn one_image_law()
@@ -10,4 +44,9 @@ pub fn one_image_law()
 /// Bytes that bear an image are refused by no rule on header, blocks, page map and entries.
 pub fn not_damaged_law()
     ensures { NotDamagedLaw }
+{}
+
+/// Where no rule fails the header, the blocks, the page map and the stored pages are whole.
+pub fn whole_law()
+    ensures { WholeLaw }
 {}

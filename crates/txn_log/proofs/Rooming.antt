@@ -110,9 +110,13 @@ abbrev what_growth : Schema → What → ℕ
 what_growth objects (Wrote c) = growth_back objects c
 what_growth objects (Added d) = 0
 
+-- of all of these
+abbrev pub whats_total : (What → ℕ) → List What → ℕ
+whats_total f [] = 0
+whats_total f (w ∷ ws) = f w + whats_total f ws
+
 abbrev pub whats_growth : Schema → List What → ℕ
-whats_growth objects [] = 0
-whats_growth objects (w ∷ ws) = what_growth objects w + whats_growth objects ws
+whats_growth objects ws = whats_total (what_growth objects) ws
 
 pub rows_back : (objects : Schema) (xs : List Deed) (rows : Rows) (stored : ViewRows) → AllBack xs rows stored → rows_bytes objects (all_rows_back xs rows) ≤ rows_bytes objects rows + whats_growth objects (whats_of xs)
 rows_back objects [] rows stored h = omega arith
@@ -187,23 +191,24 @@ one_more (suc n) f g i l m h = by_number (suc n) i
     by_most : (a b : ℕ) → a ≤ suc b → suc b ≢ a → a ≤ b
     by_most a b l d = omega (arith, l, d)
 
-growth_all : (objects : Schema) (ids : ℕ → ℕ) (xs : List Deed)
+-- the sum over the sessions of what their transactions' records come to is what all come to
+pub total_all : (f : What → ℕ) (ids : ℕ → ℕ) (xs : List Deed)
     → ((s t : ℕ) → IsSession 64 s → IsSession 64 t → s ≢ t → ids s ≡ ids t → own (ids s) xs ≡ [])
     → ((t : ℕ) → ((s : ℕ) → IsSession 64 s → ids s ≡ t → ⊥) → own t xs ≡ [])
-    → sum_over 64 (λ j. whats_growth objects (whats_of (own (ids j) xs))) ≡ whats_growth objects (whats_of xs)
-growth_all objects ids [] apart rest = sum_none 64 (λ j. 0) (λ j lo hi. refl)
-growth_all objects ids (x ∷ xs) apart rest =
-    let before : sum_over 64 (λ j. whats_growth objects (whats_of (own (ids j) xs))) ≡ whats_growth objects (whats_of xs) = growth_all objects ids xs
+    → sum_over 64 (λ j. whats_total f (whats_of (own (ids j) xs))) ≡ whats_total f (whats_of xs)
+total_all f ids [] apart rest = sum_none 64 (λ j. 0) (λ j lo hi. refl)
+total_all f ids (x ∷ xs) apart rest =
+    let before : sum_over 64 (λ j. whats_total f (whats_of (own (ids j) xs))) ≡ whats_total f (whats_of xs) = total_all f ids xs
     (λ s t k l d e. own_tail (ids s) x xs (apart s t k l d e))
     (λ t none. own_tail t x xs (rest t none)) in
     by_owner ids x.transaction 64
     (λ s k e.
     let same : (t : ℕ) → IsSession 64 t → t ≢ s → own (ids t) (x ∷ xs) ≡ own (ids t) xs =
     λ t l d. own_other (ids t) x xs (λ i. not_nothing x (own (ids t) xs) (sym (own_this (ids t) x xs i) ∙ apart t s l k d (sym i ∙ sym e))) in
-    let sums = one_more 64 (λ t. whats_growth objects (whats_of (own (ids t) xs))) (λ t. whats_growth objects (whats_of (own (ids t) (x ∷ xs)))) s k.0 k.1
-    (λ t l d. ap (λ (ys : List Deed). whats_growth objects (whats_of ys)) (same t l d)) in
-    let this : whats_growth objects (whats_of (own (ids s) (x ∷ xs))) ≡ what_growth objects x.what + whats_growth objects (whats_of (own (ids s) xs)) =
-    ap (λ (ys : List Deed). whats_growth objects (whats_of ys)) (own_this (ids s) x xs (sym e)) in
+    let sums = one_more 64 (λ t. whats_total f (whats_of (own (ids t) xs))) (λ t. whats_total f (whats_of (own (ids t) (x ∷ xs)))) s k.0 k.1
+    (λ t l d. ap (λ (ys : List Deed). whats_total f (whats_of ys)) (same t l d)) in
+    let this : whats_total f (whats_of (own (ids s) (x ∷ xs))) ≡ f x.what + whats_total f (whats_of (own (ids s) xs)) =
+    ap (λ (ys : List Deed). whats_total f (whats_of ys)) (own_this (ids s) x xs (sym e)) in
     omega (arith, before, sums, this))
     (λ none. absurd (not_nothing x (own x.transaction xs) (sym (own_this x.transaction x xs refl) ∙ rest x.transaction none)))
 
@@ -241,7 +246,7 @@ module _ (s : Store) (l : Log) (d : Disk) (is : IsFollowed s l d) (any : Log) (t
 
   enlarged : whats_growth (schema_of s) (whats_of st.live) ≤ sum_over 64 (λ j. room_kept (schema_of s) (s.open_of j) (any.logged j).ghosted)
   enlarged =
-      let all = growth_all (schema_of s) (λ j. (m.txn_of j).id) st.live
+      let all = total_all (what_growth (schema_of s)) (λ j. (m.txn_of j).id) st.live
       (λ i j k n differ same. by_number (m.txn_of i).id 0
       (λ z. ap (λ a. own a st.live) z ∙ tied.carried.of_none)
       (λ z. absurd (tied.apart.apart i j k n differ (omega arith) same)))
