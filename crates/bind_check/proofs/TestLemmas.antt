@@ -1,5 +1,5 @@
 -- Lemmas on tests one after another.
-use Rattle.std.proofs.Common.{◌≡◌, ℕ, ◌==◌, ◌&&◌, not, is_some, Bool, true, false, List, [], ◌∷◌, ◌++◌, map, length, Option, Result}
+use Rattle.std.proofs.Common.{◌≡◌, ℕ, ◌==◌, ◌&&◌, not, is_some, Bool, true, false, List, [], ◌∷◌, ◌++◌, map, length, Option, Result, Some}
 use Rattle.std.specs.List.{list_all, list_any}
 use mathlib.Core.Path.{refl, sym, ap, ◌∙◌}
 use Rattle.iv_types.specs.declared.refusal.Refusal.{Refusal}

@@ -1,0 +1,3 @@
+pub mod Lists
+pub mod Around
+pub mod Maps
