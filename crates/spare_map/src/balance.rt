@@ -18,7 +18,11 @@ fn under_middle<V: Drop>(
         Tree::Leaf => joined(left, pivot, joined(Tree::Leaf, node, right)),
         Tree::Fork(top) => {
             let (before, top, behind) = parted(top);
-            joined(joined(left, pivot, before), top, joined(behind, node, right))
+            joined(
+                joined(left, pivot, before),
+                top,
+                joined(behind, node, right),
+            )
         }
     }
 }

@@ -1,8 +1,8 @@
 //! Runs calls of what tables and views are stored with, and prints how many rows each table has and which of them answer
 //! something else.
 //!
-//! The name of a table begins with what its rows call: `waits`, `bounds`, `maps`, `tables`, `locks`, `deltas` or `pays`,
-//! and a colon. What each of them is given and asked stands at the head of the module of that name. A table begins with a
+//! The name of a table begins with what its rows call: `waits`, `bounds`, `maps`, `places`, `tables`, `locks`, `deltas`
+//! or `pays`, and a colon. What each of them is given and asked stands at the head of the module of that name. A table begins with a
 //! new object, and what a call makes of it stays for the rows below.
 #![tactic(auto)]
 
@@ -15,6 +15,7 @@ mod maps;
 mod numbers;
 mod pay_steps;
 mod pays;
+mod places;
 mod sessions;
 mod subjects;
 mod table_facts;

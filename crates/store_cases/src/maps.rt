@@ -21,7 +21,8 @@ pub struct Maps {
     tables: Option<Tables<ListMaps>>,
 }
 
-fn bytes_at(alloc: Global, words: &[&str], place: usize) -> anyhow::Result<Bytes> {
+/// The bytes of a text between quotes.
+pub fn bytes_at(alloc: Global, words: &[&str], place: usize) -> anyhow::Result<Bytes> {
     let Some(quoted) = word_at(words, place)?.strip_prefix('\'') else {
         bail!("no text")
     };
@@ -31,7 +32,8 @@ fn bytes_at(alloc: Global, words: &[&str], place: usize) -> anyhow::Result<Bytes
     Ok(Bytes::from_vec(unescaped(alloc, content)?))
 }
 
-fn write_text(out: &mut String, bytes: &[u8]) -> anyhow::Result<()> {
+/// Writes bytes as a text between quotes.
+pub fn write_text(out: &mut String, bytes: &[u8]) -> anyhow::Result<()> {
     out.push('\'')?;
     write_escaped(out, bytes)?;
     out.push('\'')?;

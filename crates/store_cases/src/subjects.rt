@@ -5,6 +5,7 @@ use crate::bounds::Bounds;
 use crate::catalogs::add_table;
 use crate::locks::Locks;
 use crate::maps::Maps;
+use crate::places::Places;
 use crate::waits::Waits;
 use crate::{deltas, pays, tables};
 use anyhow::bail;
@@ -19,6 +20,7 @@ enum Kind {
     Waits,
     Bounds,
     Maps,
+    Places,
     Tables,
     Locks,
     Deltas,
@@ -33,6 +35,7 @@ fn kind_of(name: &str) -> anyhow::Result<Kind> {
         "waits" => Ok(Kind::Waits),
         "bounds" => Ok(Kind::Bounds),
         "maps" => Ok(Kind::Maps),
+        "places" => Ok(Kind::Places),
         "tables" => Ok(Kind::Tables),
         "locks" => Ok(Kind::Locks),
         "deltas" => Ok(Kind::Deltas),
@@ -47,6 +50,7 @@ pub struct Subjects {
     waits: Waits,
     bounds: Bounds,
     maps: Maps,
+    places: Places,
     locks: Locks,
     catalog: Catalog,
     // The row that pays begin with.
@@ -62,6 +66,7 @@ impl Subjects {
             waits: Waits::new(),
             bounds: Bounds::new(),
             maps: Maps::new(),
+            places: Places::new(),
             locks: Locks::new(),
             catalog: Catalog::new(alloc),
             start: String::new(alloc),
@@ -85,6 +90,7 @@ impl Cases for Subjects {
         self.waits = Waits::new();
         forget(replace(&mut self.bounds, Bounds::new()));
         self.maps.begin(alloc)?;
+        self.places.begin();
         self.locks.begin(alloc)?;
         forget(replace(&mut self.catalog, Catalog::new(alloc)));
         self.start = String::new(alloc);
@@ -109,6 +115,7 @@ impl Cases for Subjects {
             Kind::Waits => self.waits.answer(alloc, asked),
             Kind::Bounds => self.bounds.answer(alloc, asked),
             Kind::Maps => self.maps.answer(alloc, asked),
+            Kind::Places => self.places.answer(alloc, asked),
             Kind::Locks => self.locks.answer(alloc, asked),
             Kind::Deltas => deltas::answer(alloc, &self.catalog, asked),
             Kind::Tables => {
