@@ -4,5 +4,6 @@
 mod kinds;
 
 pub use kinds::{
-    RelationKinds, group_kinds, kind_at, kinds_at, kinds_of, kinds_of_object, kinds_of_table, numbered,
+    RelationKinds, group_kinds, kind_at, kinds_at, kinds_of, kinds_of_object, kinds_of_table,
+    numbered,
 };
