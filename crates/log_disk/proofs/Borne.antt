@@ -149,7 +149,7 @@ record_once objects (machine.Abort t) (machine.Abort u) f g e = cc
 record_once objects (machine.Definition n s x) (machine.Definition m r y) f g e = cc
 record_once objects a b f g e = absurd (cc)
 
-entry_once : (objects : Schema) (r q : Numbered) → IsSpellable objects r.of → IsSpellable objects q.of → spelled objects r ≡ spelled objects q → r ≡ q
+pub entry_once : (objects : Schema) (r q : Numbered) → IsSpellable objects r.of → IsSpellable objects q.of → spelled objects r ≡ spelled objects q → r ≡ q
 entry_once objects r q f g e =
     let number : r.number ≡ q.number = ap (λ (x : Entry). x.number) e in
     let of : r.of ≡ q.of = record_once objects r.of q.of f g (ap (λ (x : Entry). x.entry) e) in
@@ -184,24 +184,24 @@ spelled_once objects (r ∷ rs) (q ∷ qs) (e ∷ es) h k =
 
 -- ---- blocks
 
-abbrev flat : List (List Entry) → List Entry
+abbrev pub flat : List (List Entry) → List Entry
 flat groups = flat_map (λ es. es) groups
 
-placed_again : (place : ℕ) (es : List Entry) → map unplaced (placed place es) ≡ es
+pub placed_again : (place : ℕ) (es : List Entry) → map unplaced (placed place es) ≡ es
 placed_again place [] = refl
 placed_again place (e ∷ es) = ap (λ (xs : List Entry). e ∷ xs) (placed_again (place + length (spelling e.number e.entry)) es)
 
-map_both : (xs ys : List Scanned) → map unplaced (xs ++ ys) ≡ map unplaced xs ++ map unplaced ys
+pub map_both : (xs ys : List Scanned) → map unplaced (xs ++ ys) ≡ map unplaced xs ++ map unplaced ys
 map_both [] ys = refl
 map_both (x ∷ xs) ys = ap (λ (zs : List Entry). unplaced x ∷ zs) (map_both xs ys)
 
-laid_again : (place : ℕ) (groups : List (List Entry)) → map unplaced (laid place groups) ≡ flat groups
+pub laid_again : (place : ℕ) (groups : List (List Entry)) → map unplaced (laid place groups) ≡ flat groups
 laid_again place [] = refl
 laid_again place (g ∷ gs) =
     map_both (placed (place + 5) g) (laid (place + (5 + length (group g))) gs)
     ∙ (λ t. placed_again (place + 5) g t ++ laid_again (place + (5 + length (group g))) gs t)
 
-same_after : (gs : List (List Entry)) → after_of gs ≡ reverse (flat gs)
+pub same_after : (gs : List (List Entry)) → after_of gs ≡ reverse (flat gs)
 same_after [] = refl
 same_after (g ∷ gs) = ap (λ (es : List Entry). es ++ reverse g) (same_after gs) ∙ sym (reverse-append g (flat gs))
 
@@ -212,7 +212,7 @@ some_bytes : (e : Entry) → 0 < length (spelling e.number e.entry)
 some_bytes e = omega arith
 
 -- a first block of so many bytes is one
-first_once : (es fs xs ys : List Entry) → es ++ xs ≡ fs ++ ys → length (group es) ≡ length (group fs) → (es ≡ fs) × (xs ≡ ys)
+pub first_once : (es fs xs ys : List Entry) → es ++ xs ≡ fs ++ ys → length (group es) ≡ length (group fs) → (es ≡ fs) × (xs ≡ ys)
 first_once [] [] xs ys e long = (refl, e)
 first_once [] (f ∷ fs) xs ys e long = absurd (omega (arith, long, longer f fs, some_bytes f))
 first_once (e ∷ es) [] xs ys same long = absurd (omega (arith, long, longer e es, some_bytes e))
@@ -221,7 +221,7 @@ first_once (e ∷ es) (f ∷ fs) xs ys same long =
     let rest = first_once es fs xs ys (cons_tail e f (es ++ xs) (fs ++ ys) same) (omega (arith, long, longer e es, longer f fs, ap (λ (x : Entry). length (spelling x.number x.entry)) head)) in
     ((λ t. head t ∷ rest.0 t), rest.1)
 
-ok_same : (xs ys : List Scanned) → ◌≡◌ {A = Result (List Scanned) Fault} (Ok xs) (Ok ys) → xs ≡ ys
+pub ok_same : (xs ys : List Scanned) → ◌≡◌ {A = Result (List Scanned) Fault} (Ok xs) (Ok ys) → xs ≡ ys
 ok_same xs ys e = cc
 
 pub one_image : OneImageLaw

@@ -15,3 +15,4 @@ pub mod Ordered
 pub mod Defining
 pub mod Sound
 pub mod Whole
+pub mod Tying

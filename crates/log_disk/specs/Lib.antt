@@ -2,5 +2,6 @@ pub mod Spelled
 pub mod Bears
 pub mod Found
 pub mod Places
+pub mod Placed
 pub mod Calls
 pub mod Laws

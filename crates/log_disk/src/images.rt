@@ -1,6 +1,7 @@
 //! Laws of the images that bytes bear. Each function is there for its contract.
 ghost use Rattle.log_disk.specs.Spelled.{FieldsLaw, CommitBytes};
 ghost use Rattle.log_disk.specs.Bears.{StoredLaw, FirstEndLaw, OneImageLaw};
+ghost use Rattle.log_disk.specs.Placed.{PlacedLaw};
 ghost use Rattle.log_disk.specs.Places.{PlacesLaw, GateLaw};
 ghost use Rattle.log_disk.specs.Found.{LiveLaw, FoundLaw, NotDamagedLaw, WholeLaw};
 
@@ -49,4 +50,9 @@ pub fn not_damaged_law()
 /// Where no rule fails the header, the blocks, the page map and the stored pages are whole.
 pub fn whole_law()
     ensures { WholeLaw }
+{}
+
+/// What is placed of bytes that bear an image is that image at the places of its records.
+pub fn placed_law()
+    ensures { PlacedLaw }
 {}
