@@ -12,7 +12,7 @@ use Rattle.txn_machine.specs.Laws.{IsOpened}
 use Rattle.txn_log.specs.Replay.{Deed, Pages, recovered}
 use Rattle.txn_log.specs.Appended.{Numbered, written, Image}
 use Rattle.txn_log.specs.Moments as moments
-use Rattle.txn_log.specs.Moments.{Disk, World, At, Amid, Writes, store_of, disk_of, with_disk, image_of, with_record, flushed_all, pages_now, published, Moves, Run, here, then_move, opened_world, left_by, IsRight}
+use Rattle.txn_log.specs.Moments.{Disk, World, At, Amid, Writes, store_of, disk_of, with_disk, image_of, with_record, flushed_all, pages_now, published, Happens, Run, here, then_move, opened_world, left_by, IsRight}
 use Rattle.txn_log.proofs.Lifting.{run_both}
 use Rattle.txn_log.proofs.Printed.{prints_again}
 use Rattle.txn_log.proofs.Passing.{disk_with, acknowledged_grows, same_grows, grows_run, one_of_two, holds_at}
@@ -124,14 +124,14 @@ module _ {D : Type 0} (t : DiskTells D) (sizes : (disk : D) → length (t.seen d
       before = λ n c le left. inl (subst (λ (x : D). t.left_since x n c) same left);
     }
 
-    one_move : (u v : World) → Moves u v → Run u v
+    one_move : (u v : World) → Happens u v → Run u v
     one_move u v m = then_move u u v (here u) m
 
-    extended : (u v : World) → Run begin u → Moves u v → Run begin v
+    extended : (u v : World) → Run begin u → Happens u v → Run begin v
     extended u v r m = then_move begin u v r m
 
     -- a machine that is stopped goes on
-    stopped_stands : (a : Stage D) (w : World) (log : LogState) → Moves a.world w → Stands a → (Writes a.world → ⊥) → Stands (record { world = w; log = log; disk = a.disk })
+    stopped_stands : (a : Stage D) (w : World) (log : LogState) → Happens a.world w → Stands a → (Writes a.world → ⊥) → Stands (record { world = w; log = log; disk = a.disk })
     stopped_stands a w log move is stopped = record {
       run = extended a.world w is.run move;
       begun = λ writes. absurd (twin_stopped w a.world (twin_run a.world a.world w (one_move a.world w move) (twin_itself a.world stopped)) writes);
@@ -151,7 +151,7 @@ module _ {D : Type 0} (t : DiskTells D) (sizes : (disk : D) → length (t.seen d
         subst (λ (e : Disk). AreSpellable e.pages.db.schema (map written e.carried)) is (right_carried (store_of w) (left_by w 0) (disk_of w).acknowledged right)
 
     -- and so does what is appended
-    appended_is : (a : Stage D) (w : World) (log : LogState) → Moves a.world w → Appends a.world w a.log log → Stands a → IsInStep t room count a → IsOn room count (disk_of w) log (t.seen a.disk)
+    appended_is : (a : Stage D) (w : World) (log : LogState) → Happens a.world w → Appends a.world w a.log log → Stands a → IsInStep t room count a → IsOn room count (disk_of w) log (t.seen a.disk)
     appended_is a w log move app is b =
         let d : Disk = disk_of a.world in
         let r : Numbered = record { number = app.number; of = app.of } in
@@ -241,7 +241,7 @@ module _ {D : Type 0} (t : DiskTells D) (sizes : (disk : D) → length (t.seen d
         let begun : IsInStep t room count x = is.begun writes in
         let on : IsOn room count (disk_of x.world) x.log (t.seen x.disk) = begun.is_on in
         let w : World = with_disk x.world (flushed_all (disk_of x.world)) in
-        let move : Moves x.world w = moments.flushes x.world writes in
+        let move : Happens x.world w = moments.flushes x.world writes in
         let left = flush_left x x.world x.log new on begun.settled flushed.called in (
           stands_begun (record { world = w; log = log; disk = new }) (extended x.world w is.run move) (record {
             is_on = subst (λ (d : Disk). IsOn room count d log (t.seen new)) (sym (disk_with x.world (flushed_all (disk_of x.world))))
@@ -265,8 +265,8 @@ module _ {D : Type 0} (t : DiskTells D) (sizes : (disk : D) → length (t.seen d
         let e : Disk = published q carried d in
         let v : World = Amid after session act.Checkpoint s l [] e in
         let w : World = At after e in
-        let out : Moves u v = moments.publishes u carried carries fall in
-        let done_so : Moves v w = moments.ends after session act.Checkpoint s l e (record { acknowledged = acknowledged; published = λ is. (refl, refl, refl) }) in
+        let out : Happens u v = moments.publishes u carried carries fall in
+        let done_so : Happens v w = moments.ends after session act.Checkpoint s l e (record { acknowledged = acknowledged; published = λ is. (refl, refl, refl) }) in
         let r : Run begin v = extended u v is.run out in
         let fit : AreSpellable q.db.schema (map written carried) = carried_fit v q carried d r refl in
         let left = publish_left x carried log facts stored bytes new begun saves fit done.called in

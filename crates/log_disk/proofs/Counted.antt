@@ -17,7 +17,7 @@ use Rattle.txn_machine.specs.Steps.{Says, log_after}
 use Rattle.txn_machine.specs.Laws.{IsOpened}
 use Rattle.txn_log.specs.Replay.{Pages}
 use Rattle.txn_log.specs.Appended.{Numbered}
-use Rattle.txn_log.specs.Moments.{Disk, World, At, Amid, Halted, store_of, disk_of, with_disk, with_record, flushed_all, pages_now, published, Moves, begins, acts, ends, flushes, acknowledges, publishes, fails_commit, fails_define, fails_before, fails_after, told, told_halted, Run, here, then_move, opened_world}
+use Rattle.txn_log.specs.Moments.{Disk, World, At, Amid, Halted, store_of, disk_of, with_disk, with_record, flushed_all, pages_now, published, Happens, begins, acts, ends, flushes, acknowledges, publishes, fails_commit, fails_define, fails_before, fails_after, told, told_halted, Run, here, then_move, opened_world}
 use Rattle.txn_log.proofs.Printed.{prints_again}
 use Rattle.txn_log.proofs.Happening.{IsFollowed, IsGoodWorld, good_run, good_opened}
 use Rattle.txn_log.proofs.Passing.{disk_with}
@@ -91,7 +91,7 @@ ended_effect s i a l e d is had =
 none_left : (e : Effect) (es : List Effect) → e ∷ es ≡ [] → ⊥
 none_left e es h = let n : suc (length es) ≡ 0 = ap length h in omega (arith, n)
 
-ends_move : (v w : World) → Moves v w → IsGoodWorld v → Ends v → Ends w
+ends_move : (v w : World) → Happens v w → IsGoodWorld v → Ends v → Ends w
 ends_move v w (begins s disk i a said after may d f) good is = (
   inl is,
   λ n. ap (λ (x : State). x.log.used) d.left ∙ used_after s i a said d.effects d.says f n,
@@ -153,7 +153,7 @@ with_counted : (w : World) (d : Disk) (log : LogState) (bytes : ℕ) → SameRec
 with_counted w d log bytes same is = same_counted (with_disk w d) log bytes (counted_disk w d log (ap (λ (x : Disk). x.waiting) (sym (disk_with w d)) ∙ same.waiting) is)
 
 -- where nothing is appended
-pub counted_on : (v w : World) (log : LogState) (bytes : ℕ) → Moves v w → SameRecords (disk_of v) (disk_of w) → IsQuiet v w → IsGoodWorld v → Ends v → IsCounted v log → IsCounted w (with_reserved log bytes)
+pub counted_on : (v w : World) (log : LogState) (bytes : ℕ) → Happens v w → SameRecords (disk_of v) (disk_of w) → IsQuiet v w → IsGoodWorld v → Ends v → IsCounted v log → IsCounted w (with_reserved log bytes)
 counted_on v w log bytes (begins s disk i a said after may d f) same quiet good is counts = (counts.0, (let used = counts.1 in omega (arith, used, is)))
 counted_on v w log bytes (acts after i a s l e es disk) same quiet good is counts =
     let none : record_of s i a l e ≡ None = none_appended (record_of s i a l e) l.next disk same.waiting in
@@ -189,7 +189,7 @@ not_empty : (r : Record) (n : ℕ) (d e : Disk) → e ≡ with_record (Some r) n
 not_empty r n d e is none = let long : length e.waiting ≡ suc (length d.waiting) = ap (λ (x : Disk). length x.waiting) is in let short = ap length none in omega (arith, long, short)
 
 -- where a record is
-pub counted_more : (v w : World) (log after : LogState) → Moves v w → Appends v w log after → IsCounted v log → IsCounted w after
+pub counted_more : (v w : World) (log after : LogState) → Happens v w → Appends v w log after → IsCounted v log → IsCounted w after
 counted_more v w log after (acts end i a s l e es disk) app counts =
     let o : Option Record = record_of s i a l e in
     let one : o ≡ Some app.of = appended_is o l.next app.number app.of disk app.disk in

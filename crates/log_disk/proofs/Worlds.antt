@@ -4,7 +4,7 @@ use mathlib.Core.Path.{refl, ap}
 use mathlib.Core.Logic.{inl}
 use Rattle.std.proofs.Common.{⊎_elim}
 use Rattle.txn_log.specs.Replay.{Deed}
-use Rattle.txn_log.specs.Moments.{Disk, World, At, Amid, Halted, Keeps, Writes, store_of, disk_of, Moves, begins, acts, ends, flushes, acknowledges, publishes, fails_commit, fails_define, fails_before, fails_after, told, told_halted, Run, here, then_move}
+use Rattle.txn_log.specs.Moments.{Disk, World, At, Amid, Halted, Keeps, Writes, store_of, disk_of, Happens, begins, acts, ends, flushes, acknowledges, publishes, fails_commit, fails_define, fails_before, fails_after, told, told_halted, Run, here, then_move}
 use Rattle.log_disk.specs.Calls.{AreTwins}
 
 -- it goes on, or a fault of the disk stopped it
@@ -24,7 +24,7 @@ twin_stopped (Amid after i a s l es d) w twins writes = twins
 twin_stopped (Halted s next d) w twins writes = writes
 
 -- a machine that is stopped stays so
-twin_move : (u v w : World) → Moves v w → AreTwins v u → AreTwins w u
+twin_move : (u v w : World) → Happens v w → AreTwins v u → AreTwins w u
 twin_move u v w (begins s disk i a said after may d f) twins = absurd twins
 twin_move u v w (acts after i a s l e es disk) twins = absurd twins
 twin_move u v w (ends after i a s l disk done) twins = absurd twins

@@ -22,7 +22,7 @@ use Rattle.txn_log.specs.Replay.{Deed, Pages}
 use Rattle.txn_log.specs.Fitting.{DoNumbersFall}
 use Rattle.txn_log.specs.Appended.{Numbered, written}
 use Rattle.txn_log.specs.Groups.{after_of}
-use Rattle.txn_log.specs.Moments.{AreCarried, txn_at, Disk, World, At, Amid, Halted, Moves, Writes, store_of, disk_of, with_disk, image_of, with_record, flushed_all, pages_now, published}
+use Rattle.txn_log.specs.Moments.{AreCarried, txn_at, Disk, World, At, Amid, Halted, Happens, Writes, store_of, disk_of, with_disk, image_of, with_record, flushed_all, pages_now, published}
 use Rattle.log_disk.specs.Spelled.{spelled, AreSpelled}
 use Rattle.log_disk.specs.Bears.{AreStoredAs, IsSavedAs, HasRecords}
 
@@ -190,10 +190,10 @@ IsQuiet _ _ = Unit {0}
 module _ {D : Type 0} (t : DiskTells D) (room count : ℕ) where
   pub data Call : Stage D → Stage D → Type 0 where
     -- the machine goes on, and nothing is appended
-    goes_on : (a : Stage D) (w : World) (bytes : ℕ) → Moves a.world w → SameRecords (disk_of a.world) (disk_of w) → IsQuiet a.world w → Reserves w (with_reserved a.log bytes)
+    goes_on : (a : Stage D) (w : World) (bytes : ℕ) → Happens a.world w → SameRecords (disk_of a.world) (disk_of w) → IsQuiet a.world w → Reserves w (with_reserved a.log bytes)
         → Call a (record a { world = w; log = with_reserved a.log bytes })
     reads : (a : Stage D) (new : D) → Read t a.disk new → Call a (record a { disk = new })
-    appends : (a : Stage D) (w : World) (log : LogState) → Moves a.world w → Appends a.world w a.log log → Call a (record { world = w; log = log; disk = a.disk })
+    appends : (a : Stage D) (w : World) (log : LogState) → Happens a.world w → Appends a.world w a.log log → Call a (record { world = w; log = log; disk = a.disk })
     -- the block of a commit or a definition is flushed
     flushes : (a : Stage D) (log : LogState) (new : D) → Writes a.world → ends_of (disk_of a.world).waiting ≡ block_bytes → Flushed t a.log log a.disk new
         → Call a (record { world = with_disk a.world (flushed_all (disk_of a.world)); log = log; disk = new })
@@ -204,11 +204,11 @@ module _ {D : Type 0} (t : DiskTells D) (room count : ℕ) where
         → Reserves (At after (published (pages_now s) carried d)) (with_reserved log kept)
         → Call (record { world = Amid after session act.Checkpoint s l [] d; log = old; disk = disk }) (record { world = At after (published (pages_now s) carried d); log = with_reserved log kept; disk = new })
     -- a commit or a definition is appended, and its flush fails, which stops the machine
-    fails_flush : (a : Stage D) (w : World) (log after : LogState) (new : D) → Moves a.world w → Writes a.world → (Writes w → ⊥) → Appends a.world w a.log log → FlushCalled t log a.disk new
+    fails_flush : (a : Stage D) (w : World) (log after : LogState) (new : D) → Happens a.world w → Writes a.world → (Writes w → ⊥) → Appends a.world w a.log log → FlushCalled t log a.disk new
         → Call a (record { world = w; log = after; disk = new })
     -- the publish of a checkpoint fails, which stops the machine on one of two disks
     fails_publish : (a : Stage D) (before after : World) (carried : List Deed) (log last : LogState) (facts : HeaderFacts) (stored : List Bool) (bytes : List ℕ) (new : D)
-        → Moves a.world before → Moves a.world after → Writes a.world → AreTwins before after → SameRecords (disk_of a.world) (disk_of before)
+        → Happens a.world before → Happens a.world after → Writes a.world → AreTwins before after → SameRecords (disk_of a.world) (disk_of before)
         → disk_of after ≡ published (pages_now (store_of a.world)) carried (disk_of a.world) → Saves room count (pages_now (store_of a.world)) carried a.log.next a.log log facts stored bytes
         → PublishCalled t room facts (first_block log) stored bytes a.disk new → Call a (record { world = before; log = last; disk = new })
 

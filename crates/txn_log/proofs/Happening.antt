@@ -27,7 +27,7 @@ use Rattle.txn_log.specs.Replay.{Deed, Event, Pages}
 use Rattle.txn_log.specs.Fitting.{DoNumbersFall}
 use Rattle.txn_log.specs.Meaning.{definitions}
 use Rattle.txn_log.specs.Appended.{Numbered, written, AllSay}
-use Rattle.txn_log.specs.Moments.{Txn, txn_in, txn_at, AreCarried, Disk, image_of, with_record, flushed_all, pages_now, published, World, At, Amid, Halted, store_of, disk_of, with_disk, Keeps, Moves, begins, acts, ends, flushes, acknowledges, publishes, fails_commit, fails_define, fails_before, fails_after, told, told_halted, Run, here, then_move, opened_world, left_by, IsRight}
+use Rattle.txn_log.specs.Moments.{Txn, txn_in, txn_at, AreCarried, Disk, image_of, with_record, flushed_all, pages_now, published, World, At, Amid, Halted, store_of, disk_of, with_disk, Keeps, Happens, begins, acts, ends, flushes, acknowledges, publishes, fails_commit, fails_define, fails_before, fails_after, told, told_halted, Run, here, then_move, opened_world, left_by, IsRight}
 use Rattle.txn_log.proofs.Memory.{Memory, reading_of, remembers, Recovers}
 use Rattle.txn_log.proofs.Finding.{by_number}
 use Rattle.txn_log.proofs.Numbering.{OpenFor, AllOpen, open_says}
@@ -174,7 +174,7 @@ module _ (printed : PrintsAgain) where
   publish_good (Amid after i a s l es d) xs are fall is = (publish_followed s l d xs are fall is.0, is.1, is.2, is.3, is.4)
   publish_good (Halted s next d) xs are fall is = absurd are
 
-  good_move : (v w : World) → Moves v w → IsGoodWorld v → IsGoodWorld w
+  good_move : (v w : World) → Happens v w → IsGoodWorld v → IsGoodWorld w
   good_move v w (begins s disk i a said after may d f) is = begins_good s disk i a said after may d f is
   good_move v w (acts after i a s l e es disk) is = (effect_followed s l disk i a e is.0 is.1.0 is.2.0, is.1.1, is.2.1, is.3, is.4)
   good_move v w (ends after i a s l disk done) is =

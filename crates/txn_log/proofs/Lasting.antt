@@ -29,7 +29,7 @@ use Rattle.txn_log.specs.Appended.{Numbered, IsRead}
 use Rattle.txn_log.specs.Laws.{ReadingLaw}
 use Rattle.txn_log.specs.Stored.{parts_entries}
 use Rattle.txn_log.specs.Refused.{Placed, text_in, text_at, texts_in, data_left}
-use Rattle.txn_log.specs.Moments.{Disk, image_of, with_record, flushed_all, pages_now, published, opened_disk, World, At, Amid, Halted, store_of, disk_of, with_disk, Keeps, Writes, Moves, begins, acts, ends, flushes, acknowledges, publishes, fails_commit, fails_define, fails_before, fails_after, told, told_halted, Run, here, then_move, opened_world, left_by, IsRight}
+use Rattle.txn_log.specs.Moments.{Disk, image_of, with_record, flushed_all, pages_now, published, opened_disk, World, At, Amid, Halted, store_of, disk_of, with_disk, Keeps, Writes, Happens, begins, acts, ends, flushes, acknowledges, publishes, fails_commit, fails_define, fails_before, fails_after, told, told_halted, Run, here, then_move, opened_world, left_by, IsRight}
 use Rattle.txn_log.specs.Room.{rows_bytes, OpensWithin, state_of, texts_on, WithinAlwaysLaw}
 use Rattle.txn_log.proofs.Defining.{sum_append}
 use Rattle.txn_log.proofs.Enlarging.{Ample, commits_it}
@@ -180,7 +180,7 @@ module _ (printed : PrintsAgain) (once : ReadingLaw) (opening : Opening) where
   of_session s i (inl x) = x.goes_on.of_session
   of_session s i (inr x) = x.goes_on.of_session
 
-  bounded_move : (v w : World) → Moves v w → IsGoodWorld v → IsGoodWorld w → IsAmpleWorld opening v → IsAmpleWorld opening w → IsBounded v → IsBounded w
+  bounded_move : (v w : World) → Happens v w → IsGoodWorld v → IsGoodWorld w → IsAmpleWorld opening v → IsAmpleWorld opening w → IsBounded v → IsBounded w
   bounded_move v w (begins s disk i a said after may d f) was is r q h =
       let staged : AreStaged most i a after s.store s.log (texts_of s) d.effects = subst (λ (x : Opening). AreStaged x.data_limit i a after s.store s.log (texts_of s) d.effects) r.1 (are_staged s i a said after (may_of s i a d.runs may.1) d r.0 q.0) in
       let more = staged_more most i a after s.store s.log (texts_of s) d.effects staged in

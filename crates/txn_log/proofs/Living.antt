@@ -22,7 +22,7 @@ use Rattle.txn_log.proofs.Finding.{by_number}
 use Rattle.txn_machine.specs.Laws.{IsOpened}
 use Rattle.txn_log.specs.Replay.{Reading, recovered}
 use Rattle.txn_log.specs.Laws.{CrashLaw, ReadingLaw, LivesLaw, WasMaking, StopLaw}
-use Rattle.txn_log.specs.Moments.{Disk, World, At, Amid, Halted, store_of, disk_of, with_disk, Moves, begins, acts, ends, flushes, acknowledges, publishes, fails_commit, fails_define, fails_before, fails_after, told, told_halted, Run, here, then_move, opened_world, left_by, IsRight, entries_to, formatted, crashed}
+use Rattle.txn_log.specs.Moments.{Disk, World, At, Amid, Halted, store_of, disk_of, with_disk, Happens, begins, acts, ends, flushes, acknowledges, publishes, fails_commit, fails_define, fails_before, fails_after, told, told_halted, Run, here, then_move, opened_world, left_by, IsRight, entries_to, formatted, crashed}
 
 -- ---- the origin
 
@@ -54,7 +54,7 @@ origin_disk db (At s e) d is = is
 origin_disk db (Amid after i a s l es e) d is = is
 origin_disk db (Halted s next e) d is = is
 
-origin_move : (db : Database) (v w : World) → Moves v w → OriginIs db v → OriginIs db w
+origin_move : (db : Database) (v w : World) → Happens v w → OriginIs db v → OriginIs db w
 origin_move db v w (begins s disk i a said after may d f) is = (is, ap (λ (x : State). x.store.origin) d.left ∙ (origin_all s.store i d.effects ∙ is))
 origin_move db v w (acts after i a s l e es disk) is = (origin_does s i e ∙ is.0, is.1)
 origin_move db v w (ends after i a s l disk done) is = is.1
@@ -167,7 +167,7 @@ told_stopped s i next (origin, inr more) = (
   ),
 )
 
-stop_move : (v w : World) → Moves v w → IsStop v → IsStop w
+stop_move : (v w : World) → Happens v w → IsStop v → IsStop w
 stop_move v w (begins s disk i a said after may d f) is = tt
 stop_move v w (acts after i a s l e es disk) is = tt
 stop_move v w (ends after i a s l disk done) is = tt

@@ -25,7 +25,7 @@ use Rattle.txn_machine.proofs.Moving.{state_now}
 use Rattle.txn_machine.proofs.Reached.{Holds'}
 use Rattle.txn_log.specs.Replay.{Pages, Reading, recovered}
 use Rattle.txn_log.specs.Appended.{IsRead}
-use Rattle.txn_log.specs.Moments.{Disk, World, At, Amid, Halted, store_of, disk_of, with_disk, with_record, Moves, begins, acts, ends, flushes, acknowledges, publishes, fails_commit, fails_define, fails_before, fails_after, told, told_halted, Run, here, then_move, opened_world, left_by, IsRight}
+use Rattle.txn_log.specs.Moments.{Disk, World, At, Amid, Halted, store_of, disk_of, with_disk, with_record, Happens, begins, acts, ends, flushes, acknowledges, publishes, fails_commit, fails_define, fails_before, fails_after, told, told_halted, Run, here, then_move, opened_world, left_by, IsRight}
 use Rattle.txn_log.specs.Laws.{ReadingLaw}
 use Rattle.txn_log.specs.Within.{StepCrashLaw, FaultCrashLaw}
 use Rattle.txn_log.proofs.Following.{PrintsAgain}
@@ -50,7 +50,7 @@ at_most : (m n : ℕ) → n ≡ m → m ≤ n
 at_most m n e = omega (arith, e)
 
 module _ (printed : PrintsAgain) (p : Pages) (was : IsOpened p.db p.view) (opening : Opening) where
-  had_move : (v w : World) → Run (opened_world opening p) v → Moves v w → (disk_of v).acknowledged ≤ (disk_of w).acknowledged
+  had_move : (v w : World) → Run (opened_world opening p) v → Happens v w → (disk_of v).acknowledged ≤ (disk_of w).acknowledged
   had_move v w r (begins s disk i a said after may d f) = omega arith
   had_move v w r (acts after i a s l e es disk) = at_most disk.acknowledged (with_record _ l.next disk).acknowledged (same_acknowledged _ l.next disk)
   had_move v w r (ends after i a s l disk done) = omega arith
@@ -101,7 +101,7 @@ same_grows s = record { states = λ n le. refl; more = omega arith }
 disk_grows : (w : World) (d : Disk) → Grows (store_of w) (store_of (with_disk w d))
 disk_grows w d = subst (Grows (store_of w)) (sym (store_with w d)) (same_grows (store_of w))
 
-grows_move : (v w : World) → IsGoodWorld v → Moves v w → Grows (store_of v) (store_of w)
+grows_move : (v w : World) → IsGoodWorld v → Happens v w → Grows (store_of v) (store_of w)
 grows_move v w is (begins s disk i a said after may d f) = same_grows s.store
 grows_move v w is (acts after i a s l e es disk) = grows s i e
 grows_move v w is (ends after i a s l disk done) = subst (Grows s) (sym is.3) (same_grows s)
@@ -181,7 +181,7 @@ near_commits s i = (let number = ap (λ (d : Database). d.number) (committed_aft
 near_defines : (s : Store) (i : ℕ) (o : Object) → (committed (does the_views s i (Defines o))).number ≤ (committed s).number + 1
 near_defines s i o = (let number = ap (λ (d : Database). d.number) (defined the_views fresh view_laws s i o) in omega (arith, number))
 
-near_move : (v w : World) → Moves v w → Near v w
+near_move : (v w : World) → Happens v w → Near v w
 near_move v w (begins s disk i a said after may d f) = tt
 near_move v w (acts after i a s l e es disk) = tt
 near_move v w (ends after i a s l disk done) = tt

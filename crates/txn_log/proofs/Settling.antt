@@ -11,7 +11,7 @@ use Rattle.txn_machine.proofs.Reached.{Holds'}
 use Rattle.txn_log.specs.Replay.{Reading, recovered}
 use Rattle.txn_log.specs.Appended.{Image}
 use Rattle.txn_log.specs.Laws.{ReadingLaw, CommittedLaw}
-use Rattle.txn_log.specs.Moments.{Disk, World, At, Amid, Halted, store_of, disk_of, with_disk, Moves, begins, acts, ends, flushes, acknowledges, publishes, fails_commit, fails_define, fails_before, fails_after, told, told_halted, Run, here, then_move, opened_world, left_by, IsRight}
+use Rattle.txn_log.specs.Moments.{Disk, World, At, Amid, Halted, store_of, disk_of, with_disk, Happens, begins, acts, ends, flushes, acknowledges, publishes, fails_commit, fails_define, fails_before, fails_after, told, told_halted, Run, here, then_move, opened_world, left_by, IsRight}
 use Rattle.txn_log.proofs.Following.{PrintsAgain}
 use Rattle.txn_log.proofs.Happening.{good_run, good_opened, followed_world, cut_right}
 
@@ -31,7 +31,7 @@ settled_acknowledged (At s e) d same is = same
 settled_acknowledged (Amid after i a s l es e) d same is = is
 settled_acknowledged (Halted s next e) d same is = tt
 
-settled_move : (v w : World) → Moves v w → IsSettled v → IsSettled w
+settled_move : (v w : World) → Happens v w → IsSettled v → IsSettled w
 settled_move v w (begins s disk i a said after may d f) is = ap (λ (x : State). x.store) d.left
 settled_move v w (acts after i a s l e es disk) is = is
 settled_move v w (ends after i a s l disk done) is = done.acknowledged ∙ ap (λ (x : Store). (committed x).number) (sym is)

@@ -24,6 +24,7 @@ use Rattle.txn_machine.proofs.Columns.{number_in_row}
 use Rattle.txn_log.specs.Replay.{Pages}
 use Rattle.txn_log.specs.Stored.{PageEntry, total_bytes, StandFor, AllCreate, AreProper, OneStoredLaw}
 use Rattle.txn_log.proofs.Once.{created}
+use Rattle.iv_types.proofs.Fitting.{huge_so}
 
 -- ---- definitions
 
@@ -62,7 +63,7 @@ both_find (Some x) b f g = sym (f x refl)
 
 all_huge : (numbers : List ℤ) → ((column : ℕ) → IsHuge (get_or numbers column (pos 0))) → FitAll (map (λ n. Huge) numbers) (map Number numbers)
 all_huge [] h = tt
-all_huge (n ∷ ns) h = (h 0, all_huge ns (λ column. h (suc column)))
+all_huge (n ∷ ns) h = (huge_so n (h 0), all_huge ns (λ column. h (suc column)))
 
 same_numbers : (ms ns : List ℤ) → map Number ms ≡ map Number ns → ms ≡ ns
 same_numbers [] [] e = refl

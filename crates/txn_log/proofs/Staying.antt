@@ -19,7 +19,7 @@ use Rattle.txn_machine.proofs.Shapes.{stored_row_law}
 use Rattle.txn_log.specs.Replay.{Pages, recovered}
 use Rattle.txn_log.specs.Laws.{ReadingLaw}
 use Rattle.txn_log.specs.Moments as moments
-use Rattle.txn_log.specs.Moments.{Disk, World, At, Amid, Halted, Moves, begins, acts, ends, flushes, acknowledges, publishes, fails_commit, fails_define, fails_before, fails_after, told, told_halted, here, then_move, with_disk, opened_world, left_by, IsRight}
+use Rattle.txn_log.specs.Moments.{Disk, World, At, Amid, Halted, Happens, begins, acts, ends, flushes, acknowledges, publishes, fails_commit, fails_define, fails_before, fails_after, told, told_halted, here, then_move, with_disk, opened_world, left_by, IsRight}
 use Rattle.txn_log.specs.Refused.{data_left}
 use Rattle.txn_log.specs.Room.{OpensWithin, OpensWithinLaw, DataLimitLaw, WithinLaw}
 use Rattle.txn_log.proofs.Following.{PrintsAgain}
@@ -80,7 +80,7 @@ same_world opening (At s e) d h = h
 same_world opening (Amid after i a s l es e) d h = h
 same_world opening (Halted s next e) d h = h
 
-pub ample_move : (opening : Opening) (v w : World) → Moves v w → IsGoodWorld v → IsAmpleWorld opening v → IsAmpleWorld opening w
+pub ample_move : (opening : Opening) (v w : World) → Happens v w → IsGoodWorld v → IsAmpleWorld opening v → IsAmpleWorld opening w
 ample_move opening v w (begins s disk i a said after may d f) is h =
     (ample_does s i a said after is.sound.good is.sound.shape (may_of s i a d.runs may.1) d h.0, ap (λ (x : State). x.opening) d.left ∙ h.1)
 ample_move opening v w (acts after i a s l e es disk) is h = h

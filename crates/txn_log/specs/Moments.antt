@@ -128,40 +128,40 @@ pub record IsDone (a : Act) (s : Store) (d : Disk) : Type 0 where
   pub acknowledged : d.acknowledged ≡ (committed s).number
   pub published : a ≡ act.Checkpoint → (d.pages ≡ pages_now s) × (d.flushed ≡ []) × (d.waiting ≡ [])
 
-pub data Moves : World → World → Type 0 where
+pub data Happens : World → World → Type 0 where
   -- a step begins that is not answered by a fault, does its effects one after another, and ends once its answer is so on the disk
   begins : (s : State) (disk : Disk) (session : ℕ) (a : Act) (said : Answer) (after : State) → May s session a → (d : Does s session a said after) → is_fault said ≡ false
-      → Moves (At s disk) (Amid after session a s.store s.log d.effects disk)
+      → Happens (At s disk) (Amid after session a s.store s.log d.effects disk)
   acts : (after : State) (session : ℕ) (a : Act) (s : Store) (l : Log) (e : Effect) (es : List Effect) (disk : Disk)
-      → Moves (Amid after session a s l (e ∷ es) disk)
+      → Happens (Amid after session a s l (e ∷ es) disk)
       (Amid after session a (does the_views s session e) (logs s session a e l) es (with_record (record_of s session a l e) l.next disk))
-  ends : (after : State) (session : ℕ) (a : Act) (s : Store) (l : Log) (disk : Disk) → IsDone a s disk → Moves (Amid after session a s l [] disk) (At after disk)
+  ends : (after : State) (session : ℕ) (a : Act) (s : Store) (l : Log) (disk : Disk) → IsDone a s disk → Happens (Amid after session a s l [] disk) (At after disk)
   -- what waits is flushed
-  flushes : (w : World) → Writes w → Moves w (with_disk w (flushed_all (disk_of w)))
+  flushes : (w : World) → Writes w → Happens w (with_disk w (flushed_all (disk_of w)))
   -- what is on the disk is acknowledged
-  acknowledges : (w : World) → (disk_of w).waiting ≡ [] → Writes w → Moves w (with_disk w (record (disk_of w) { acknowledged = (committed (store_of w)).number }))
+  acknowledges : (w : World) → (disk_of w).waiting ≡ [] → Writes w → Happens w (with_disk w (record (disk_of w) { acknowledged = (committed (store_of w)).number }))
   -- a checkpoint publishes the pages of now
-  publishes : (w : World) (carried : List Deed) → Keeps w carried → DoNumbersFall carried → Moves w (with_disk w (published (pages_now (store_of w)) carried (disk_of w)))
+  publishes : (w : World) (carried : List Deed) → Keeps w carried → DoNumbersFall carried → Happens w (with_disk w (published (pages_now (store_of w)) carried (disk_of w)))
   -- the disk fails to flush a commit or a definition, whose record waits
   fails_commit : (s : State) (disk : Disk) (session : ℕ) (stopped : State) → May s session act.Commit → Does s session act.Commit (answer.Refused refusal.DiskFault) stopped
-      → Moves (At s disk) (Halted stopped (does the_views s.store session Commits) (with_record (record_of s.store session act.Commit s.log Commits) s.log.next disk))
+      → Happens (At s disk) (Halted stopped (does the_views s.store session Commits) (with_record (record_of s.store session act.Commit s.log Commits) s.log.next disk))
   fails_define : (s : State) (disk : Disk) (session : ℕ) (statement : StatementTree) (stopped : State) → May s session (act.Schema statement)
       → (d : Does s session (act.Schema statement) (answer.Refused refusal.DiskFault) stopped)
       → (e : Effect) → e ≡ Defines d.says.3.object
-      → Moves (At s disk) (Halted stopped (does the_views s.store session e) (with_record (record_of s.store session (act.Schema statement) s.log e) s.log.next disk))
+      → Happens (At s disk) (Halted stopped (does the_views s.store session e) (with_record (record_of s.store session (act.Schema statement) s.log e) s.log.next disk))
   -- a checkpoint that fails leaves the old image or the new one
   fails_before : (s : State) (disk : Disk) (session : ℕ) (stopped : State) → May s session act.Checkpoint → Does s session act.Checkpoint (answer.Refused refusal.DiskFault) stopped
-      → Moves (At s disk) (Halted stopped s.store disk)
+      → Happens (At s disk) (Halted stopped s.store disk)
   fails_after : (s : State) (disk : Disk) (session : ℕ) (stopped : State) → May s session act.Checkpoint → Does s session act.Checkpoint (answer.Refused refusal.DiskFault) stopped
       → (carried : List Deed) → AreCarried (txn_at s.store s.log) carried → DoNumbersFall carried
-      → Moves (At s disk) (Halted stopped s.store (published (pages_now s.store) carried disk))
+      → Happens (At s disk) (Halted stopped s.store (published (pages_now s.store) carried disk))
   -- a machine that is stopped says so
-  told : (s : State) (disk : Disk) (session : ℕ) (said : Answer) (after : State) → IsTold s session said after → Moves (At s disk) (At after disk)
-  told_halted : (s : State) (next : Store) (disk : Disk) (session : ℕ) (said : Answer) (after : State) → IsTold s session said after → Moves (Halted s next disk) (Halted after next disk)
+  told : (s : State) (disk : Disk) (session : ℕ) (said : Answer) (after : State) → IsTold s session said after → Happens (At s disk) (At after disk)
+  told_halted : (s : State) (next : Store) (disk : Disk) (session : ℕ) (said : Answer) (after : State) → IsTold s session said after → Happens (Halted s next disk) (Halted after next disk)
 
 pub data Run : World → World → Type 0 where
   here : (w : World) → Run w w
-  then_move : (u v w : World) → Run u v → Moves v w → Run u w
+  then_move : (u v w : World) → Run u v → Happens v w → Run u w
 
 -- an engine as an opening gives it, with the image that its closing checkpoint published
 abbrev pub opened_world : Opening → Pages → World

@@ -13,7 +13,7 @@ use Rattle.txn_machine.specs.Steps.{Does}
 use Rattle.txn_machine.specs.Laws.{IsOpened}
 use Rattle.txn_log.specs.Replay.{Pages, Reading, recovered}
 use Rattle.txn_log.specs.Appended.{IsRead}
-use Rattle.txn_log.specs.Moments.{Disk, World, At, Amid, Halted, Moves, Run, opened_world, left_by}
+use Rattle.txn_log.specs.Moments.{Disk, World, At, Amid, Halted, Happens, Run, opened_world, left_by}
 
 -- a world of a step from this store, after some of its effects
 pub record IsOfStep (s : Store) (session : ℕ) (a : Act) (after : State) (es : List Effect) (w : World) : Type 0 where
@@ -35,5 +35,5 @@ StepCrashLaw = (p : Pages) → IsOpened p.db p.view → (opening : Opening) (s :
 -- and where a fault stopped the machine, to what was committed before, or to what the step would have left committed
 abbrev pub FaultCrashLaw : Type 0
 FaultCrashLaw = (p : Pages) → IsOpened p.db p.view → (opening : Opening) (s : State) (d : Disk) → Run (opened_world opening p) (At s d)
-    → (stopped : State) (next : Store) (e : Disk) → Moves (At s d) (Halted stopped next e)
+    → (stopped : State) (next : Store) (e : Disk) → Happens (At s d) (Halted stopped next e)
     → (k : ℕ) (r : Reading) → IsRead (left_by (Halted stopped next e) k) r → ((recovered r).db ≡ committed s.store) ⊎ ((recovered r).db ≡ committed next)
