@@ -8,8 +8,9 @@ ghost use Rattle.iv_meaning.specs.Statement.{stored, tuple_values, tuple_rows};
 ghost use Rattle.row_eval.specs.Grouped.{Gives};
 
 use iv_types::{Expr, ExprList, Kind, Refusal, Row, RowList, TableDef, Value};
+use row_codec::fits;
 use row_eval::value;
-use sql_plan::{fits, kinds_of};
+use sql_plan::kinds_of;
 use std::alloc::Global;
 
 // What an expression gives, to be stored in a column of this kind.

@@ -88,12 +88,12 @@ fn key_of(alloc: Global, number: u16) -> anyhow::Result<Bytes> {
 fn put_many(alloc: Global, map: &mut SpareMap<Bytes>, count: u32) -> anyhow::Result<u32> {
     map.reserve(alloc, count as usize)?;
     for number in 0..count {
-        let scattered = (number as u16).wrapping_mul(40_503);
+        let scattered = ((number % 65_536) as u16).wrapping_mul(40_503);
         put(map, 1, key_of(alloc, scattered)?, key_of(alloc, scattered)?)?;
     }
     let mut found = 0;
     for number in 0..count {
-        let key = key_of(alloc, (number as u16).wrapping_mul(40_503))?;
+        let key = key_of(alloc, ((number % 65_536) as u16).wrapping_mul(40_503))?;
         if map.get(1, key.as_slice()) == Some(&key) && found < count {
             found += 1;
         }
