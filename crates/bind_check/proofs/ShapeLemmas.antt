@@ -1,13 +1,12 @@
--- Lemmas on items and on arithmetic.
-use Rattle.std.proofs.Common.{◌≡◌, ℕ, zero, suc, ◌+◌, drop, is_some, add-one, Bool, true, false, if◌then◌else◌, ◌&&◌, ◌||◌, List, [], ◌∷◌, slice_get, Option, Some, None}
+-- Lemmas on the items of a view, and on arithmetic.
+use Rattle.std.proofs.Common.{◌≡◌, ℕ, zero, suc, ◌+◌, drop, is_some, add-one, Bool, false, ◌&&◌, ◌||◌, List, [], ◌∷◌, slice_get, Option, Some, None}
 use mathlib.Core.Path.{refl, sym, ap, ◌∙◌}
 use Rattle.iv_types.specs.declared.expression.Op.{Op}
 use Rattle.iv_types.specs.declared.expression.Op.TheVariants as op
 use Rattle.iv_types.specs.declared.expression.ColumnAt.{ColumnAt}
 use Rattle.iv_types.specs.Syntax.{Tree, pair}
 use Rattle.iv_meaning.specs.Query.{BoundItem, count, sum, plain}
-use Rattle.iv_meaning.specs.Shape.{NamedItem, has_arithmetic, are_sums, is_count_and_sums, is_named, is_view_list}
-use Rattle.iv_meaning.specs.Binding.{item_place}
+use Rattle.iv_meaning.specs.Shape.{NamedItem, has_arithmetic, are_sums, is_count_and_sums, is_view_list}
 use Rattle.bind_check.specs.Shapes.{is_arithmetic, is_group_item, is_named_count, is_named_sum}
 
 -- ---- arithmetic
@@ -52,11 +51,3 @@ one_column' place group (item ∷ items) (suc i) = one_column' place group items
 pub one_view_column : (place : ColumnAt) (group : List ColumnAt) (items : List NamedItem) (i : ℕ)
     → is_view_list (place ∷ group) (drop i items) ≡ (is_group_item place (slice_get items i) && is_view_list group (drop (i + 1) items))
 one_view_column place group items i = one_column' place group items i ∙ ap (λ n. is_group_item place (slice_get items i) && is_view_list group (drop n items)) (sym (add-one i))
-
--- ---- the item of a name
-
-pub item_here : (name : List ℕ) (n : ℕ) (i : NamedItem) (is : List NamedItem) → true ≡ is_named name i → n ≡ item_place name n (i ∷ is)
-item_here name n i is e = ap (λ t. if t then n else item_place name (n + 1) is) e
-
-pub item_later : (name : List ℕ) (n : ℕ) (i : NamedItem) (is : List NamedItem) → false ≡ is_named name i → item_place name n (i ∷ is) ≡ item_place name (n + 1) is
-item_later name n i is e = ap (λ t. if t then n else item_place name (n + 1) is) (sym e)

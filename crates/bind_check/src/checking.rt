@@ -1,13 +1,11 @@
 //! The tests of a resolved statement, of which the first that fails refuses it.
 #![tactic(auto, using(bind_resolve::proofs::Steps::stops, bind_resolve::proofs::Steps::goes_on))]
 
-ghost use Rattle.std.specs.Prelude.{◌≡◌, is_some, not};
-ghost use Rattle.std.specs.List.{list_all};
+ghost use Rattle.std.specs.Prelude.{◌≡◌, not};
 ghost use Rattle.iv_types.specs.Printing.{statement_size};
 ghost use Rattle.iv_types.specs.Trees.{statement_tree};
 ghost use Rattle.iv_types.specs.declared.refusal.Refusal.TheVariants as refusal;
 ghost use Rattle.iv_meaning.specs.Objects.{schema_of};
-ghost use Rattle.iv_meaning.specs.Tests.{item_named};
 ghost use Rattle.iv_meaning.specs.Typing.{query_typed};
 ghost use Rattle.iv_meaning.specs.Passes.{passed, refuse_if};
 ghost use Rattle.bind_resolve.specs.Meant.{IsMeant};
@@ -50,13 +48,6 @@ fn check_view(
     check_join(alloc, catalog, query)
 }
 
-// Whether a term of the ORDER BY of a query names no item.
-fn orders_by_none(query: &ResolvedQuery<'_>, order: &[Order]) -> bool
-    ensures { result ≡ not (list_all (λ o. is_some (item_named (query_seen query.now).items o.by)) order.now) }
-{
-    !are_named(query.items.as_slice(), order)
-}
-
 // Those of a SELECT.
 fn check_select(
     alloc: Global,
@@ -68,7 +59,7 @@ fn check_select(
 {
     check_types(alloc, catalog, query)?;
     check_query(alloc, query)?;
-    rule(12, orders_by_none(query, order))?;
+    rule(12, !are_named(&query.items, order))?;
     limit(6, 32, query.group.as_slice().len() as u128)
 }
 

@@ -7,7 +7,7 @@ ghost use Rattle.iv_meaning.specs.Binding.{before_number, item_place};
 ghost use Rattle.iv_meaning.specs.Tests.{item_named};
 ghost use Rattle.bind_resolve.specs.Seen.{item_seen};
 
-use bind_resolve::NamedItem;
+use bind_resolve::{NamedItem, ShortList};
 use iv_types::{Bytes, Order, OrderKey};
 
 // Whether an item has this name.
@@ -29,11 +29,12 @@ fn how_many_named(name: &Bytes, items: &[NamedItem<'_>]) -> usize
 }
 
 // The place of the first item of this name.
-fn item_place(name: &Bytes, items: &[NamedItem<'_>]) -> usize
+fn item_place(name: &Bytes, items: &ShortList<NamedItem<'_>>) -> u32
     ensures { result ≡ item_place name.now 0 (map item_seen items.now) }
 {
+    let listed = items.as_slice();
     for index in 0..items.len() {
-        if is_named(name, &items[index]) {
+        if is_named(name, &listed[index as usize]) {
             return index;
         }
     }
@@ -41,24 +42,24 @@ fn item_place(name: &Bytes, items: &[NamedItem<'_>]) -> usize
 }
 
 // A number from 1 to another, counted from 0.
-fn place_of(number: i128, count: usize) -> Option<usize>
+fn place_of(number: i128, count: u32) -> Option<u32>
     ensures { result ≡ (if int_le (pos 1) number && int_le number (pos count) then Some (before_number number) else None) }
 {
-    if 1 <= number && number <= count as i128 {
-        Some((number - 1) as usize)
+    if 1 <= number && number <= i128::from(count) {
+        Some((number - 1) as u32)
     } else {
         None
     }
 }
 
 /// The place of the item that a term of an ORDER BY names: by its number from 1, or by a name that it alone has.
-pub fn item_named(items: &[NamedItem<'_>], key: &OrderKey) -> Option<usize>
+pub fn item_named(items: &ShortList<NamedItem<'_>>, key: &OrderKey) -> Option<u32>
     ensures { result ≡ item_named (map item_seen items.now) key.now }
 {
     match key {
         OrderKey::Place(number) => place_of(*number, items.len()),
         OrderKey::Name(name) => {
-            if how_many_named(name, items) == 1 {
+            if how_many_named(name, items.as_slice()) == 1 {
                 Some(item_place(name, items))
             } else {
                 None
@@ -68,7 +69,7 @@ pub fn item_named(items: &[NamedItem<'_>], key: &OrderKey) -> Option<usize>
 }
 
 /// Whether each term of an ORDER BY names an item.
-pub fn are_named(items: &[NamedItem<'_>], order: &[Order]) -> bool
+pub fn are_named(items: &ShortList<NamedItem<'_>>, order: &[Order]) -> bool
     ensures { result ≡ list_all (λ o. is_some (item_named (map item_seen items.now) o.by)) order.now }
 {
     order.iter().all(|o| item_named(items, &o.by).is_some())

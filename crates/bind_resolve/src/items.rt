@@ -14,7 +14,7 @@ ghost use Rattle.bind_resolve.specs.Walking.{next_items, Joins};
 use crate::columns::column_of;
 use crate::expressions::expression;
 use crate::names::fresh;
-use crate::{Column, NamedItem, Scope};
+use crate::{Column, NamedItem, Scope, ShortList};
 use iv_types::{BoundItem, Bytes, Expr, Item, NoMemory, Refusal, Sequence};
 use std::alloc::Global;
 
@@ -127,14 +127,14 @@ pub fn items<'a>(
     view: bool,
     scope: &Scope<'a>,
     items: &'a [Item],
-) -> Result<Sequence<NamedItem<'a>>, Refusal>
+) -> Result<ShortList<NamedItem<'a>>, Refusal>
     ensures { IsMeant (map item_seen) result (meant.items_resolved view (scope_seen scope.now) [] (map item_tree items.now)) }
 {
-    let mut found = Vec::new(alloc);
+    let mut found = ShortList::new(alloc);
     let mut others = Vec::new(alloc);
     for item in items {
         let some = next_items(alloc, view, scope, &mut others, item)?;
-        found.append(&mut some.into_vec())?;
+        found.append(some.into_vec())?;
     }
-    Ok(Sequence::from_vec(found))
+    Ok(found)
 }

@@ -9,12 +9,13 @@ mod names;
 mod queries;
 mod resolved;
 mod scope;
+mod short_list;
 mod sorted_names;
 mod statements;
 mod stepping;
 
 pub use names::copied;
 pub use resolved::{Column, Joined, NamedItem, Resolved, ResolvedQuery, Scope};
-pub use scope::columns_of;
+pub use short_list::ShortList;
 pub use statements::resolve;
 pub use stepping::each;

@@ -7,7 +7,7 @@ ghost use Rattle.iv_meaning.specs.Objects.{schema_of, object_of};
 ghost use Rattle.iv_meaning.specs.Resolving as meant;
 ghost use Rattle.bind_resolve.specs.Seen.{names_in, column_seen, scope_seen};
 
-use crate::{Column, Scope};
+use crate::{Column, Scope, ShortList};
 use iv_types::{
     Bytes, Catalog, ColumnAt, ColumnDef, Definition, NoMemory, Query, Relation, Sequence,
 };
@@ -18,33 +18,31 @@ use std::alloc::Global;
 /// # Errors
 ///
 /// Where there is no memory for them.
-pub fn names_of(alloc: Global, columns: &[ColumnDef]) -> Result<Sequence<&Bytes>, NoMemory>
+pub fn names_of(alloc: Global, columns: &[ColumnDef]) -> Result<ShortList<&Bytes>, NoMemory>
     ensures { IfOk result (λ names. names_in names ≡ map (λ c. c.name) columns.now) }
 {
-    let mut names = Sequence::new(alloc);
+    let mut names = ShortList::new(alloc);
     for column in columns {
         names.push(&column.name)?;
     }
     Ok(names)
 }
 
-fn view_names(alloc: Global, view: &[Bytes]) -> Result<Sequence<&Bytes>, NoMemory>
+fn view_names(alloc: Global, view: &[Bytes]) -> Result<ShortList<&Bytes>, NoMemory>
     ensures { IfOk result (λ names. names_in names ≡ view.now) }
 {
-    Ok(Sequence::from_vec(view.iter().collect(alloc)?))
+    let mut names = ShortList::new(alloc);
+    names.append(view.iter().collect(alloc)?)?;
+    Ok(names)
 }
 
-/// The names of an object's columns.
-///
-/// # Errors
-///
-/// Where there is no memory for them.
-pub fn columns_of(alloc: Global, definition: &Definition) -> Result<Sequence<&Bytes>, NoMemory>
+// The names of an object's columns.
+fn columns_of(alloc: Global, definition: &Definition) -> Result<ShortList<&Bytes>, NoMemory>
     ensures { IfOk result (λ names. names_in names ≡ object_columns (object_of definition.now)) }
 {
     match definition {
         Definition::Table(table) => names_of(alloc, table.columns.as_slice()),
-        Definition::Index(_) => Ok(Sequence::new(alloc)),
+        Definition::Index(_) => Ok(ShortList::new(alloc)),
         Definition::View(view) => view_names(alloc, view.names.as_slice()),
     }
 }
@@ -55,23 +53,12 @@ fn columns_named<'a>(
     alloc: Global,
     catalog: &'a Catalog,
     name: &Bytes,
-) -> Result<Sequence<&'a Bytes>, NoMemory>
+) -> Result<ShortList<&'a Bytes>, NoMemory>
     ensures { IfOk result (λ names. names_in names ≡ option_map_or object_columns (named (schema_of catalog.now) name.now) []) }
 {
     match catalog.find(name.as_slice()) {
         Some(definition) => columns_of(alloc, definition),
-        None => Ok(Sequence::new(alloc)),
-    }
-}
-
-// A place as a number. There is no memory for more columns than there are numbers.
-fn number_of(place: usize) -> Result<u32, NoMemory>
-    ensures { IfOk result (λ number. number ≡ place) }
-{
-    if place > u32::MAX as usize {
-        Err(NoMemory)
-    } else {
-        Ok(place as u32)
+        None => Ok(ShortList::new(alloc)),
     }
 }
 
@@ -80,15 +67,15 @@ fn push_columns<'a>(
     columns: &mut Sequence<Column<'a>>,
     relation: &'a Bytes,
     source: u32,
-    names: &[&'a Bytes],
+    names: &ShortList<&'a Bytes>,
 ) -> Result<(), NoMemory>
     ensures { OnOk result (map column_seen columns.new ≡ map column_seen columns.old ++ meant.columns_from relation.now source 0 (names_in names.now)) }
 {
-    for index in 0..names.len() {
-        let column = number_of(index)?;
+    let listed = names.as_slice();
+    for column in 0..names.len() {
         columns.push(Column {
             relation,
-            name: names[index],
+            name: listed[column as usize],
             place: ColumnAt { source, column },
         })?;
     }
@@ -103,11 +90,11 @@ fn push_columns<'a>(
 pub fn scope_of_one<'a>(
     alloc: Global,
     name: &'a Bytes,
-    names: &[&'a Bytes],
+    names: &ShortList<&'a Bytes>,
 ) -> Result<Scope<'a>, NoMemory>
     ensures { IfOk result (λ scope. scope_seen scope ≡ meant.scope_of_one name.now (names_in names.now)) }
 {
-    let mut relations = Sequence::new(alloc);
+    let mut relations = ShortList::new(alloc);
     relations.push(name)?;
     let mut columns = Sequence::new(alloc);
     push_columns(&mut columns, name, 0, names)?;
@@ -119,7 +106,7 @@ pub fn empty_scope<'a>(alloc: Global) -> Scope<'a>
     ensures { scope_seen result ≡ record { relations = []; columns = [] } }
 {
     Scope {
-        relations: Sequence::new(alloc),
+        relations: ShortList::new(alloc),
         columns: Sequence::new(alloc),
     }
 }
@@ -137,7 +124,7 @@ pub fn scope_of_object<'a>(
     ensures { IfOk result (λ scope. scope_seen scope ≡ meant.scope_of_one name.now (object_columns (object_of definition.now))) }
 {
     let names = columns_of(alloc, definition)?;
-    scope_of_one(alloc, name, names.as_slice())
+    scope_of_one(alloc, name, &names)
 }
 
 /// What a statement calls a relation.
@@ -161,9 +148,9 @@ fn push_relation<'a>(
     ensures columns { OnOk result (map column_seen scope.new.columns ≡ map column_seen scope.old.columns ++ meant.columns_from (meant.called relation.now) (length scope.old.relations) 0 (option_map_or object_columns (named (schema_of catalog.now) relation.now.name) [])) }
 {
     let name = called(relation);
-    let source = number_of(scope.relations.as_slice().len())?;
+    let source = scope.relations.len();
     let names = columns_named(alloc, catalog, &relation.name)?;
-    push_columns(&mut scope.columns, name, source, names.as_slice())?;
+    push_columns(&mut scope.columns, name, source, &names)?;
     scope.relations.push(name)
 }
 
@@ -180,7 +167,7 @@ pub fn scope_from<'a>(
     ensures { IfOk result (λ scope. scope_seen scope ≡ meant.scope_from (schema_of catalog.now) (query_tree query.now)) }
 {
     let mut scope = Scope {
-        relations: Sequence::new(alloc),
+        relations: ShortList::new(alloc),
         columns: Sequence::new(alloc),
     };
     push_relation(alloc, catalog, &mut scope, &query.first)?;

@@ -10,12 +10,12 @@ ghost use Rattle.iv_meaning.specs.Resolving as meant;
 ghost use Rattle.bind_resolve.specs.Meant.{IsMeant};
 ghost use Rattle.bind_resolve.specs.Seen.{names_in, resolved_seen};
 
-use crate::Resolved;
 use crate::expressions::{assignments, condition, places, values};
 use crate::names::{known, new_object};
 use crate::queries::query;
 use crate::scope::{names_of, scope_of_object, scope_of_one};
 use crate::sorted_names::distinct;
+use crate::{Resolved, ShortList};
 use iv_types::{
     Bytes, Catalog, ColumnDef, Expr, ExprList, Order, Places, Query, Refusal, Set, Statement,
 };
@@ -25,7 +25,7 @@ use std::alloc::Global;
 fn key_places(
     alloc: Global,
     table: &Bytes,
-    names: &[&Bytes],
+    names: &ShortList<&Bytes>,
     primary: &[Bytes],
 ) -> Result<Places, Refusal>
     ensures { IsMeant (λ places. places) result (meant.each (meant.place_of (meant.scope_of_one table.now (names_in names.now))) primary.now) }
@@ -46,7 +46,7 @@ fn create_table<'a>(
     new_object(alloc, catalog, name)?;
     let names = names_of(alloc, columns)?;
     distinct(alloc, names.as_slice())?;
-    let primary = key_places(alloc, name, names.as_slice(), primary)?;
+    let primary = key_places(alloc, name, &names, primary)?;
     Ok(Resolved::Table {
         name,
         columns,

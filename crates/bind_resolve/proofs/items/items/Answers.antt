@@ -10,8 +10,8 @@ pub loop-item-preserved : goal.loop-item-preserved
 loop-item-preserved c =
     let others = names_in c.loop-item.others.items in
     ap (λ (found : _). before found (items_resolved c.args.view (scope_seen c.args.scope.now) (names_in c.next_items.new.others.items) (map item_tree (drop (c.loop-item.item-index + 1) c.args.items.now))))
-    (ap (map item_seen) (c.in_ok-append.ensures.items ∙ ap (λ some. c.loop-item.found.items ++ some) c.into_vec.ensures) ∙ map-append item_seen c.loop-item.found.items c.in_ok-some.some)
-    ∙ grows (map item_seen c.loop-item.found.items) (map item_seen c.in_ok-some.some)
+    (ap (map item_seen) (c.in_ok-append.ensures.ok ∙ ap (λ some. c.loop-item.found ++ some) c.into_vec.ensures) ∙ map-append item_seen c.loop-item.found c.in_ok-some.some)
+    ∙ grows (map item_seen c.loop-item.found) (map item_seen c.in_ok-some.some)
     (items_resolved c.args.view (scope_seen c.args.scope.now) others (map item_tree (drop c.loop-item.item-index c.args.items.now)))
     (items_resolved c.args.view (scope_seen c.args.scope.now) (names_in c.next_items.new.others.items) (map item_tree (drop (c.loop-item.item-index + 1) c.args.items.now))) _
     (ap (λ zs. items_resolved c.args.view (scope_seen c.args.scope.now) others (map item_tree zs)) (rest_at _ _ c.item-item.result c.loop-item-test.true c.item-item.is)

@@ -7,5 +7,5 @@ use Rattle.bind_resolve.proofs.items.items.Given as goal
 
 abbrev pub invariant-loop-item : goal.invariant-loop-item
 invariant-loop-item l =
-    before (map item_seen l.found.items) (items_resolved l.view (scope_seen l.scope) (names_in l.others.items) (map item_tree (drop l.item-index l.items)))
+    before (map item_seen l.found) (items_resolved l.view (scope_seen l.scope) (names_in l.others.items) (map item_tree (drop l.item-index l.items)))
     ≡ items_resolved l.view (scope_seen l.scope) [] (map item_tree l.items)
