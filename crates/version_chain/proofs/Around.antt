@@ -1,5 +1,5 @@
 -- What holds of versions in the order of their moments holds of those around one of them.
-use Rattle.std.specs.Prelude.{◌≡◌, ◌≢◌, ◌<◌, ℕ, suc, nat_lt, Bool, true, false, cond, not, [], ◌∷◌, ◌++◌, List, length, Option, Some, None}
+use Rattle.std.specs.Prelude.{◌≡◌, ◌≢◌, ◌<◌, ℕ, suc, nat_lt, Bool, true, false, cond, [], ◌∷◌, ◌++◌, List, length, Option, Some}
 use mathlib.Core.Path.{refl, sym, subst, ap, ◌∙◌}
 use Rattle.std.proofs.Common.{arith, length-append}
 use Rattle.std.specs.List.{AllByRecursion}
@@ -57,7 +57,7 @@ module _ {V : Type 0} where
   all_left P [] r h = tt
   all_left P (x ∷ l) r h = (h.0, all_left P l r h.1)
 
-  all_right : (P : Version V → Type 0) (l r : List (Version V)) → AllByRecursion P (l ++ r) → AllByRecursion P r
+  pub all_right : (P : Version V → Type 0) (l r : List (Version V)) → AllByRecursion P (l ++ r) → AllByRecursion P r
   all_right P [] r h = h
   all_right P (x ∷ l) r h = all_right P l r h.1
 
@@ -65,7 +65,7 @@ module _ {V : Type 0} where
   in_order_left [] r h = tt
   in_order_left (x ∷ l) r h = (all_left _ l r h.0, in_order_left l r h.1)
 
-  in_order_right : (l r : List (Version V)) → AreInOrder (l ++ r) → AreInOrder r
+  pub in_order_right : (l r : List (Version V)) → AreInOrder (l ++ r) → AreInOrder r
   in_order_right [] r h = h
   in_order_right (x ∷ l) r h = in_order_right l r h.1
 
@@ -88,7 +88,7 @@ module _ {V : Type 0} where
   below_all m l [] lt h = tt
   below_all m l (v ∷ vs) lt h = (not_behind m v.0 (less_up_to moment_cmp_total m l v.0 lt h.0), below_all m l vs lt h.1)
 
-  all_with : (P : Version V → Type 0) (v : Version V) (vs : List (Version V)) → P v → AllByRecursion P vs → AllByRecursion P (with_version v vs)
+  pub all_with : (P : Version V → Type 0) (v : Version V) (vs : List (Version V)) → P v → AllByRecursion P vs → AllByRecursion P (with_version v vs)
   all_with P v [] p h = (p, tt)
   all_with P v (w ∷ vs) p h = elim (is_lt (moment_cmp v.0 w.0)) as (λ b. AllByRecursion P (cond b (v ∷ w ∷ vs) (w ∷ with_version v vs))) [
     | true ↦ (p, h)
@@ -116,7 +116,7 @@ module _ {V : Type 0} where
     | false ↦ ap (λ (n : ℕ). suc n) (one_more v vs)
   ]
 
-  all_kept : (P : Version V → Type 0) (n : ℕ) (vs : List (Version V)) → AllByRecursion P vs → AllByRecursion P (above n vs)
+  pub all_kept : (P : Version V → Type 0) (n : ℕ) (vs : List (Version V)) → AllByRecursion P vs → AllByRecursion P (above n vs)
   all_kept P n [] h = tt
   all_kept P n (v ∷ vs) h = elim (nat_lt n (number v)) as (λ b. AllByRecursion P (cond b (v ∷ above n vs) (above n vs))) [
     | true ↦ (h.0, all_kept P n vs h.1)
@@ -140,7 +140,7 @@ module _ {V : Type 0} where
     | false ↦ first_left test l r e best h
   ]
 
-  before_fails : (past : Bool) (m : Moment) (x e : Version V) → moment_cmp x.0 e.0 ≢ Greater → is_from past m e ≡ false → is_from past m x ≡ false
+  pub before_fails : (past : Bool) (m : Moment) (x e : Version V) → moment_cmp x.0 e.0 ≢ Greater → is_from past m e ≡ false → is_from past m x ≡ false
   before_fails past m x e behind fails = by past (moment_cmp m e.0) refl fails
     where
       by : (past : Bool) (w : Ordering) → moment_cmp m e.0 ≡ w → is_from past m e ≡ false → is_from past m x ≡ false

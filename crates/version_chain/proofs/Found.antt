@@ -1,11 +1,11 @@
 -- What is found first in the order of moments.
-use Rattle.std.specs.Prelude.{◌≡◌, ◌≢◌, ◌&&◌, ◌≤◌, ◌==◌, ℕ, zero, suc, Bool, true, false, cond, not, nat_lt, List, [], ◌∷◌, Option, Some, None, IfSome}
+use Rattle.std.specs.Prelude.{◌≡◌, ◌≢◌, ◌&&◌, ◌==◌, ℕ, zero, suc, Bool, true, false, cond, not, nat_lt, List, [], ◌∷◌, Option, Some, None}
 use mathlib.Core.Path.{refl, sym, ap, subst, ◌∙◌}
 use Rattle.std.proofs.Common.{rules, arith}
 use Rattle.std.specs.List.{AllByRecursion}
 use Rattle.std.specs.declared.cmp.Ordering.{Ordering}
 use Rattle.std.specs.declared.cmp.Ordering.TheVariants.{Less, Equal, Greater}
-use Rattle.std.specs.Ordering.{nat_cmp, ordering_reverse, ordering_then, is_lt, is_gt, is_eq, eq_by_cmp}
+use Rattle.std.specs.Ordering.{nat_cmp, ordering_reverse, ordering_then, is_lt, is_gt, is_eq}
 use Rattle.std.specs.Cmp.{nat_cmp_total, nat_cmp_is, tied_itself}
 use Rattle.std.specs.FinMap.{nat_cmp-IsAntisymmetric}
 use Rattle.std.specs.Cmp.Lexicographic.{slice_cmp}
@@ -13,7 +13,7 @@ use Rattle.table_laws.specs.Place.{Place, place_cmp}
 use Rattle.table_laws.proofs.Place.{place_cmp_total}
 use Rattle.version_chain.specs.Versions.{Moment, moment_cmp, Version, place, number, AreInOrder, first_where, is_from}
 use Rattle.version_chain.proofs.Around.{less_up_to}
-use Rattle.version_chain.specs.Chains.{is_of, is_empty, row_at, IsUpTo, IsLeastFrom}
+use Rattle.version_chain.specs.Chains.{is_of, is_empty, row_at, IsLeastFrom}
 
 -- ---- places
 
@@ -21,7 +21,7 @@ use Rattle.version_chain.specs.Chains.{is_of, is_empty, row_at, IsUpTo, IsLeastF
 place_order : (x y : Moment) → moment_cmp x y ≢ Greater → place_cmp x.0 y.0 ≢ Greater
 place_order x y n g = n (ap (λ o. ordering_then o (nat_cmp x.1 y.1)) g)
 
-is_lt_nat : (n m : ℕ) → is_lt (nat_cmp n m) ≡ nat_lt n m
+pub is_lt_nat : (n m : ℕ) → is_lt (nat_cmp n m) ≡ nat_lt n m
 is_lt_nat n m = elim (nat_lt n m) as (λ b. is_lt (cond b Less (cond (n == m) Equal Greater)) ≡ b) [
   | true ↦ refl
   | false ↦ elim (n == m) as (λ b. is_lt (cond b Equal Greater) ≡ false) [ true ↦ refl | false ↦ refl ]
@@ -60,7 +60,7 @@ module _ {V : Type 0} where
   all_places m [] h = tt
   all_places m (v ∷ vs) h = (place_order m v.0 h.0, all_places m vs h.1)
 
-  none_after : (p : Place) (v : Version V) (vs : List (Version V)) → AreInOrder (v ∷ vs) → place_cmp p (place v) ≡ Less → is_empty p vs ≡ true
+  pub none_after : (p : Place) (v : Version V) (vs : List (Version V)) → AreInOrder (v ∷ vs) → place_cmp p (place v) ≡ Less → is_empty p vs ≡ true
   none_after p v vs h lt = none_before p (place v) vs lt (all_places v.0 vs h.0)
 
   -- ---- whether a place has versions

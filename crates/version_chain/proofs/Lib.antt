@@ -1,3 +1,5 @@
 pub mod Around
 pub mod Numbers
 pub mod Found
+pub mod LawLemmas
+pub mod Dues

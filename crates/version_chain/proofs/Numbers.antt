@@ -1,5 +1,5 @@
 -- What is known of the numbers of versions from a mark.
-use Rattle.std.specs.Prelude.{◌≡◌, ◌<◌, ◌≤◌, ℕ, Bool, true, false, nat_lt, List, [], ◌∷◌}
+use Rattle.std.specs.Prelude.{◌≡◌, ◌<◌, ◌≤◌, ℕ, true, nat_lt, List, [], ◌∷◌}
 use mathlib.Core.Path.{refl, ap}
 use Rattle.std.proofs.Common.{arith}
 use Rattle.version_chain.specs.Versions.{Version, number, above}

@@ -1,8 +1,8 @@
 -- No clause of `run` rests on this module: it serves contracts between crates.
 --
 -- Chains: the versions that readers of older numbers may still ask for.
-use Rattle.std.specs.Prelude.{◌≡◌, ◌≢◌, ◌&&◌, ℕ, nat_lt, ◌≤◌, Bool, not, true, false, List, [], ◌∷◌, Option, Some, None, IfSome, if◌then◌else◌}
-use Rattle.std.specs.List.{AllByRecursion}
+use Rattle.std.specs.Prelude.{◌≡◌, ◌≢◌, ◌&&◌, ℕ, nat_lt, Bool, not, true, false, List, [], ◌∷◌, Option, Some, None, IfSome, if◌then◌else◌}
+use Rattle.std.specs.List.{filter}
 use mathlib.Core.Path.{refl}
 use Rattle.std.specs.Coded.{Coded, code_by, coded×, coded_list, coded_ℕ}
 use Rattle.std.specs.Ordering.{nat_cmp, eq_by_cmp}
@@ -28,18 +28,23 @@ module _ {V : Type 0} where
   abbrev pub is_of : Place → Version V → Bool
   is_of p v = eq_by_cmp place_cmp p (place v)
 
+  -- those of a place
+  abbrev pub chain_of : Place → List (Version V) → List (Version V)
+  chain_of p vs = filter (is_of p) vs
+
   -- none of the versions is of a place
   abbrev pub is_empty : Place → List (Version V) → Bool
   is_empty p [] = true
   is_empty p (v ∷ vs) = not (is_of p v) && is_empty p vs
 
 -- what stands after a push: a version that is not above what was pruned is not kept
-abbrev pub pushed : {V : Type 0} → Version V → Chains V → List (Version V)
-pushed v c = if nat_lt c.pruned (number v) then with_version v c.versions else c.versions
+abbrev pub pushed : {V : Type 0} → Version V → ℕ → List (Version V) → List (Version V)
+pushed v pruned vs = if nat_lt pruned (number v) then with_version v vs else vs
 
--- none of the versions has a greater number
-abbrev pub AreUpTo : {V : Type 0} → ℕ → List (Version V) → Type 0
-AreUpTo n vs = AllByRecursion (λ v. number v ≤ n) vs
+-- no version of a place has a greater number
+abbrev pub none_above : {V : Type 0} → ℕ → Place → List (Version V) → Bool
+none_above n p [] = true
+none_above n p (v ∷ vs) = not (is_of p v && nat_lt n (number v)) && none_above n p vs
 
 -- a key comes no later than another one
 abbrev pub IsUpTo : List ℕ → List ℕ → Type 0
@@ -55,6 +60,6 @@ pub record IsLeastFrom {V : Type 0} (index : ℕ) (key : List ℕ) (vs : List (V
   pub least : (k : List ℕ) → IsUpTo key k → is_empty (index, k) vs ≡ false → HasUpTo found k
 
 -- a row as it was at a number: as it was before the first version above that number, and else as it is now
-abbrev pub row_at : ℕ → Place → Option (List ℕ) → List (Version (Option (List ℕ))) → Option (List ℕ)
+abbrev pub row_at : {X : Type 0} → ℕ → Place → Option X → List (Version (Option X)) → Option X
 row_at n p now [] = now
 row_at n p now (v ∷ vs) = if is_of p v && nat_lt n (number v) then v.1 else row_at n p now vs

@@ -1,3 +1,5 @@
 pub mod Versions
 pub mod Trees
 pub mod Chains
+pub mod Law
+pub mod Deltas

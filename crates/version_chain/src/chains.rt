@@ -59,6 +59,13 @@ impl<V: Blank> Chains<V> {
         self.pool.room()
     }
 
+    /// The greatest number that was pruned, or 0.
+    pub fn pruned(&self) -> u64
+        ensures { result ≡ self.now.pruned }
+    {
+        self.pruned
+    }
+
     /// Makes room for at least so many more versions.
     ///
     /// # Errors
@@ -76,7 +83,7 @@ impl<V: Blank> Chains<V> {
     /// Adds a version of a place. One that is not above what was pruned is let go, and takes no room.
     pub fn add(&mut self, index: u32, key: Bytes, number: u64, held: V)
         requires room { 1 ≤ self.old.room }
-        ensures versions { self.new.versions ≡ pushed (((index, key), number), held) self.old }
+        ensures versions { self.new.versions ≡ pushed (((index, key), number), held) self.old.pruned self.old.versions }
         ensures pruned { self.new.pruned ≡ self.old.pruned }
         ensures room { self.new.room + length self.new.versions ≡ self.old.room + length self.old.versions }
     {

@@ -3,9 +3,10 @@ ghost use Rattle.std.specs.Prelude.{◌≡◌, ◌+◌, ◌≤◌, length, IfOk}
 ghost use Rattle.std.specs.Option.{option_copied};
 ghost use Rattle.version_chain.specs.Versions.{first_where, is_from};
 ghost use Rattle.version_chain.specs.Trees.{items, own};
-ghost use Rattle.version_chain.specs.Chains.{pushed, row_at, AreUpTo};
+ghost use Rattle.version_chain.specs.Chains.{pushed, row_at};
 
 use crate::chains::{Chains, is_of};
+use crate::copying::copied_row;
 use crate::search::first;
 use iv_types::{Bytes, NoMemory};
 use std::alloc::Global;
@@ -21,30 +22,12 @@ pub struct Version {
 /// Chains of the versions of rows.
 pub type RowChains = Chains<Option<Bytes>>;
 
-// The same bytes again.
-fn copied(alloc: Global, bytes: &[u8]) -> Result<Bytes, NoMemory>
-    ensures { IfOk result (λ copy. copy ≡ bytes.now) }
-{
-    Ok(Bytes::from_vec(Vec::from_slice(alloc, bytes)?))
-}
-
-// The same row again, if there is one.
-fn copied_row(alloc: Global, row: Option<&[u8]>) -> Result<Option<Bytes>, NoMemory>
-    ensures { IfOk result (λ copy. copy ≡ option_copied row.entry) }
-{
-    match row {
-        Some(row) => Ok(Some(copied(alloc, row)?)),
-        None => Ok(None),
-    }
-}
-
 impl Chains<Option<Bytes>> {
-    /// Adds the version of a row that a commit with this number left. The number is not below those pushed before. A version
-    /// that is not above what was pruned is let go at once. It takes no memory.
+    /// Adds the version of a row that a commit with this number left, behind the versions of its place with no greater
+    /// numbers. One that is not above what was pruned is let go at once. It takes no memory.
     pub fn push(&mut self, number: u64, change: Version)
         requires room { 1 ≤ self.old.room }
-        requires latest { AreUpTo number self.old.versions }
-        ensures versions { self.new.versions ≡ pushed (((change.index, change.key), number), change.before) self.old }
+        ensures versions { self.new.versions ≡ pushed (((change.index, change.key), number), change.before) self.old.pruned self.old.versions }
         ensures pruned { self.new.pruned ≡ self.old.pruned }
         ensures room { self.new.room + length self.new.versions ≡ self.old.room + length self.old.versions }
     {

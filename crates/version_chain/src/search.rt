@@ -8,8 +8,8 @@ use crate::change::order;
 use crate::tree::{Node, Tree};
 use std::cmp::Ordering;
 
-// Whether a node is at a moment or behind it, or only the latter.
-fn is_from<V>(node: &Node<V>, index: u32, key: &[u8], number: u64, past: bool) -> bool
+/// Whether a node is at a moment or behind it, or only the latter.
+pub fn is_from<V>(node: &Node<V>, index: u32, key: &[u8], number: u64, past: bool) -> bool
     ensures { result ≡ is_from past ((index, key.now), number) (own node.now) }
 {
     match order(index, key, number, node) {

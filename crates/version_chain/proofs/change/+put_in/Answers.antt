@@ -1,5 +1,5 @@
 use Rattle.std.proofs.Common.{rules, ◌≡◌, ◌≢◌, ◌++◌, ◌∷◌, sym, ap, ◌∙◌, Less}
-use Rattle.version_chain.specs.Versions.{moment_cmp, with_version, AreInOrder}
+use Rattle.version_chain.specs.Versions.{moment_cmp}
 use Rattle.version_chain.specs.Trees.{items, own, moment}
 use Rattle.version_chain.proofs.Around.{fewer_left, fewer_right, sorted_left, sorted_right, put_left, put_right}
 use Rattle.version_chain.proofs.change.+put_in.Goals as goal

@@ -1,6 +1,6 @@
-use Rattle.std.proofs.Common.{rules, ◌≡◌, ◌++◌, ◌∷◌, true, false, sym, ap, ◌∙◌}
+use Rattle.std.proofs.Common.{rules, ◌≡◌, ◌++◌, ◌∷◌, true, false, ap, ◌∙◌}
 use Rattle.std.specs.Option.{option_copied, option_map}
-use Rattle.version_chain.specs.Versions.{Moment, first_where, is_from}
+use Rattle.version_chain.specs.Versions.{Moment, is_from}
 use Rattle.version_chain.specs.Trees.{items, own}
 use Rattle.spare_map.proofs.Lists.{or_else}
 use Rattle.version_chain.proofs.Around.{sorted_left, sorted_right, first_of_left, first_of_right}

@@ -1,4 +1,4 @@
-use Rattle.std.proofs.Common.{rules, ◌≡◌, ℕ, List, true, false, Some, None, sym, ap, subst, ◌∙◌}
+use Rattle.std.proofs.Common.{rules, ◌≡◌, ℕ, List, false, Some, None, sym, ap, subst, ◌∙◌}
 use Rattle.std.specs.Option.{option_copied, option_map}
 use Rattle.version_chain.specs.Versions.{first_where, is_from, place}
 use Rattle.version_chain.specs.Trees.{items, own}
