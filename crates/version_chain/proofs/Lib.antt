@@ -3,3 +3,4 @@ pub mod Numbers
 pub mod Found
 pub mod LawLemmas
 pub mod Dues
+pub mod Histories

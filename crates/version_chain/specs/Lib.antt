@@ -3,3 +3,4 @@ pub mod Trees
 pub mod Chains
 pub mod Law
 pub mod Deltas
+pub mod States

@@ -1,5 +1,6 @@
 //! Laws about the definitions.
 ghost use Rattle.version_chain.specs.Deltas.{DueLaw};
+ghost use Rattle.version_chain.specs.States.{StateLaw};
 ghost use Rattle.version_chain.specs.Law.{ChainLaw, EmptyLaw, AtLaw, PruneLaw};
 
 /// The version chain law: whatever was pushed and pruned, what is left of a place is what was pushed for it above what was
@@ -15,4 +16,9 @@ pub fn version_chain_law<X>()
 /// all that was pushed above it.
 pub fn delta_chain_law()
     ensures { DueLaw }
+{}
+
+/// The rows at a number, by the changes that were pushed, are those of the database that a history leaves at that number.
+pub fn state_law()
+    ensures { StateLaw }
 {}
