@@ -8,7 +8,7 @@
 //! `specs/Kept` says for which kept pays the stored rows stand.
 #![tactic(auto)]
 
-mod numbers;
+pub mod numbers;
 mod pool;
 mod reading;
 mod row;

@@ -23,6 +23,12 @@ impl<T: Drop> Blank for Sequence<T> {
     }
 }
 
+impl<T: Drop> Blank for Option<T> {
+    fn blank(_alloc: Global) -> Self {
+        None
+    }
+}
+
 /// Values under places (a number and bytes), in the order of the places. `reserve` makes room, and no other call takes memory.
 #[derive(Drop)]
 pub struct SpareMap<V> {

@@ -1,8 +1,8 @@
 //! Runs calls of what tables and views are stored with, and prints how many rows each table has and which of them answer
 //! something else.
 //!
-//! The name of a table begins with what its rows call: `waits`, `bounds`, `maps`, `places`, `tables`, `locks`, `deltas`
-//! or `pays`, and a colon. What each of them is given and asked stands at the head of the module of that name. A table begins with a
+//! The name of a table begins with what its rows call: `waits`, `bounds`, `maps`, `places`, `tables`, `locks`, `deltas`,
+//! `pays` or `versions`, and a colon. What each of them is given and asked stands at the head of the module of that name. A table begins with a
 //! new object, and what a call makes of it stays for the rows below.
 #![tactic(auto)]
 
@@ -20,6 +20,7 @@ mod sessions;
 mod subjects;
 mod table_facts;
 mod tables;
+mod versions;
 mod waits;
 
 use case_text::print_cases;

@@ -6,6 +6,7 @@ use crate::catalogs::add_table;
 use crate::locks::Locks;
 use crate::maps::Maps;
 use crate::places::Places;
+use crate::versions::Versions;
 use crate::waits::Waits;
 use crate::{deltas, pays, tables};
 use anyhow::bail;
@@ -25,6 +26,7 @@ enum Kind {
     Locks,
     Deltas,
     Pays,
+    Versions,
 }
 
 fn kind_of(name: &str) -> anyhow::Result<Kind> {
@@ -40,6 +42,7 @@ fn kind_of(name: &str) -> anyhow::Result<Kind> {
         "locks" => Ok(Kind::Locks),
         "deltas" => Ok(Kind::Deltas),
         "pays" => Ok(Kind::Pays),
+        "versions" => Ok(Kind::Versions),
         _ => bail!("no such kind of table"),
     }
 }
@@ -52,6 +55,7 @@ pub struct Subjects {
     maps: Maps,
     places: Places,
     locks: Locks,
+    versions: Versions,
     catalog: Catalog,
     // The row that pays begin with.
     start: String,
@@ -68,6 +72,7 @@ impl Subjects {
             maps: Maps::new(),
             places: Places::new(),
             locks: Locks::new(),
+            versions: Versions::new(),
             catalog: Catalog::new(alloc),
             start: String::new(alloc),
             calls: String::new(alloc),
@@ -92,6 +97,7 @@ impl Cases for Subjects {
         self.maps.begin(alloc)?;
         self.places.begin();
         self.locks.begin(alloc)?;
+        self.versions.begin();
         forget(replace(&mut self.catalog, Catalog::new(alloc)));
         self.start = String::new(alloc);
         self.calls = String::new(alloc);
@@ -117,6 +123,7 @@ impl Cases for Subjects {
             Kind::Maps => self.maps.answer(alloc, asked),
             Kind::Places => self.places.answer(alloc, asked),
             Kind::Locks => self.locks.answer(alloc, asked),
+            Kind::Versions => self.versions.answer(alloc, asked),
             Kind::Deltas => deltas::answer(alloc, &self.catalog, asked),
             Kind::Tables => {
                 self.note(asked)?;
