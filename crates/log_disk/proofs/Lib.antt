@@ -15,4 +15,7 @@ pub mod Ordered
 pub mod Defining
 pub mod Sound
 pub mod Whole
+pub mod Scanning
+pub mod Lying
+pub mod Laying
 pub mod Tying
