@@ -14,6 +14,8 @@ pub mod Borne
 pub mod Ordered
 pub mod Defining
 pub mod Sound
+pub mod Parting
+pub mod Building
 pub mod Whole
 pub mod Scanning
 pub mod Lying
