@@ -9,6 +9,7 @@ pub mod Living
 pub mod Finding
 pub mod Placing
 pub mod Storing
+pub mod Rooming
 pub mod Calling
 pub mod Borne
 pub mod Ordered
