@@ -97,9 +97,12 @@ texts_found stored p q a b i parts at_i =
     (λ j part at_j. let f = part_found stored q p b a i other.0 j part other.1 at_j in subst (λ (ps : List (List ℕ)). slice_get ps j ≡ Some part) (some_same f.0 parts (sym f.1 ∙ at_i)) f.2) in
     subst (λ (ps : List (List ℕ)). slice_get b.texts i ≡ Some ps) (sym same) other.1
 
-one_pages : (stored : List (Option (List ℕ))) (p q : Pages) → AreStoredAs stored p → AreStoredAs stored q → p.db.number ≡ q.db.number → p ≡ q
+pub one_texts : (stored : List (Option (List ℕ))) (p q : Pages) (a : AreStoredAs stored p) (b : AreStoredAs stored q) → a.texts ≡ b.texts
+one_texts stored p q a b = same_by_get a.texts b.texts (texts_found stored p q a b) (texts_found stored q p b a)
+
+pub one_pages : (stored : List (Option (List ℕ))) (p q : Pages) → AreStoredAs stored p → AreStoredAs stored q → p.db.number ≡ q.db.number → p ≡ q
 one_pages stored p q a b number =
-    let texts : a.texts ≡ b.texts = same_by_get a.texts b.texts (texts_found stored p q a b) (texts_found stored q p b a) in
+    let texts : a.texts ≡ b.texts = one_texts stored p q a b in
     one_stored one_statement (all_entries stored) b.texts p q (subst (λ ts. Define ts p.db.schema) texts a.define) b.define a.proper b.proper number
     (subst (λ ts. StandFor (all_entries stored) ts p) texts a.stand) b.stand
 

@@ -86,7 +86,7 @@ all_keys ((part ∷ others) ∷ texts) (f ∷ fs) parts e =
 
 -- ---- sizes
 
-abbrev SizesGood : List Found → Type 0
+abbrev pub SizesGood : List Found → Type 0
 SizesGood [] = Unit {0}
 SizesGood (f ∷ []) = HasSize f None
 SizesGood (f ∷ g ∷ fs) = HasSize f (Some g) × SizesGood (g ∷ fs)
@@ -139,7 +139,7 @@ texts_sizes n ((part ∷ others) ∷ texts) few parts i last g (h ∷ gs) most t
           (texts_sizes (n + 1) texts (omega (arith, few)) parts.1),
     )
 
-all_sizes : (texts : List (List (List ℕ))) (fs : List Found) → length texts < 2 ^ 32 - 1 → AllByRecursion AreParts texts → map (λ f. f.entry) fs ≡ texts_from 1 texts → SizesGood fs
+all_sizes : (texts : List (List (List ℕ))) (fs : List Found) → length texts < 2 ^ 32 → AllByRecursion AreParts texts → map (λ f. f.entry) fs ≡ texts_from 1 texts → SizesGood fs
 all_sizes [] [] few parts e = tt
 all_sizes [] (f ∷ fs) few parts e = absurd (cc)
 all_sizes ([] ∷ texts) fs few parts e = absurd parts.0
@@ -217,7 +217,7 @@ abbrev TextsGood : List (ℕ × List ℕ) → List (ℕ × List ℕ) → Type 0
 TextsGood earlier [] = Unit {0}
 TextsGood earlier (t ∷ ts) = MakesNext earlier t × TextsGood (t ∷ earlier) ts
 
-create_more : (objects : Schema) (texts : List (List ℕ)) (before all : Schema) (text : List ℕ) (o : Object) → AllCreate objects texts before → Creates before text o → all ≡ before ++ o ∷ [] → AllCreate objects (texts ++ text ∷ []) all
+pub create_more : (objects : Schema) (texts : List (List ℕ)) (before all : Schema) (text : List ℕ) (o : Object) → AllCreate objects texts before → Creates before text o → all ≡ before ++ o ∷ [] → AllCreate objects (texts ++ text ∷ []) all
 create_more objects [] before all text o h makes is =
     let made : Creates objects text o = subst (λ x. Creates x text o) h makes in
     (o, made, is ∙ ap (λ x. x ++ o ∷ []) h)
@@ -234,7 +234,7 @@ all_texts earlier (t ∷ ts) objects all done h = (
 
 -- ---- no rule on definitions fails
 
-module _ (texts : List (List (List ℕ))) (few : length texts < 2 ^ 32 - 1) (short : AllByRecursion (λ parts. length parts ≤ 2 ^ 16) texts) (parts : AllByRecursion AreParts texts)
+module _ (texts : List (List (List ℕ))) (few : length texts < 2 ^ 32) (short : AllByRecursion (λ parts. length parts ≤ 2 ^ 16) texts) (parts : AllByRecursion AreParts texts)
     (fs : List Found) (are : map (λ f. f.entry) fs ≡ texts_from 1 texts) where
   pub texts_are : texts_found (joined fs).1 ≡ map concat texts
   texts_are = (texts_joined 1 texts fs parts short are).1

@@ -9,10 +9,16 @@ pub mod Living
 pub mod Finding
 pub mod Placing
 pub mod Storing
+pub mod Rooming
 pub mod Calling
 pub mod Borne
 pub mod Ordered
 pub mod Defining
 pub mod Sound
+pub mod Parting
+pub mod Building
 pub mod Whole
+pub mod Scanning
+pub mod Lying
+pub mod Laying
 pub mod Tying

@@ -13,7 +13,7 @@ use Rattle.table_laws.specs.Place.{Place, place_cmp}
 use Rattle.table_laws.proofs.Place.{place_cmp_total}
 use Rattle.txn_machine.proofs.Basics.{contains_none}
 use Rattle.txn_machine.proofs.Holding.{contains_here}
-use Rattle.txn_log.specs.Stored.{PageEntry}
+use Rattle.txn_log.specs.Stored.{PageEntry, IsPartEntry}
 use Rattle.txn_log.specs.Damaged.{part_key}
 use Rattle.txn_log.proofs.Placing.{in_rest}
 use Rattle.log_disk.specs.Found.{AreByKey}
@@ -55,10 +55,10 @@ keys_by m n i j fm fn fi fj =
     then_equal Equal = refl
     then_equal Greater = refl
 
-next_object : (m n i j : ℕ) → m < n → n < 2 ^ 32 → i < 2 ^ 16 → j < 2 ^ 16 → place_cmp (0, part_key m i) (0, part_key n j) ≡ Less
+pub next_object : (m n i j : ℕ) → m < n → n < 2 ^ 32 → i < 2 ^ 16 → j < 2 ^ 16 → place_cmp (0, part_key m i) (0, part_key n j) ≡ Less
 next_object m n i j less fn fi fj = keys_by m n i j (omega arith) fn fi fj ∙ ap (λ o. ordering_then o (nat_cmp i j)) (cmp_less m n less)
 
-next_part : (n i j : ℕ) → i < j → n < 2 ^ 32 → j < 2 ^ 16 → place_cmp (0, part_key n i) (0, part_key n j) ≡ Less
+pub next_part : (n i j : ℕ) → i < j → n < 2 ^ 32 → j < 2 ^ 16 → place_cmp (0, part_key n i) (0, part_key n j) ≡ Less
 next_part n i j less fn fj = keys_by n n i j fn fn (omega arith) fj ∙ (ap (λ o. ordering_then o (nat_cmp i j)) (cmp_equal n n refl) ∙ cmp_less i j less)
 
 -- ---- the entries of all parts
@@ -125,6 +125,24 @@ texts_in n (ps ∷ texts) (suc k) parts i part e f =
     Contains-append_right (parts_from n 0 ps) (texts_from (n + 1) texts) ((0, part_key (n + suc k) i), part)
     (subst (λ m. Contains (texts_from (n + 1) texts) ((0, part_key m i), part)) (let z : n + 1 + k ≡ n + suc k = omega arith in z) (texts_in (n + 1) texts k parts i part e f))
 
+-- they are the entries of parts
+pub is_part : (texts : List (List (List ℕ))) (e : PageEntry) → Contains (texts_from 1 texts) e → IsPartEntry texts e
+is_part texts e c =
+    let f = in_texts 1 texts e c in record {
+      index = ap (λ (k : Place). k.0) f.5;
+      before = f.0;
+      parts = f.1;
+      parts_are = f.2;
+      part = f.3;
+      value = f.4;
+      key = ap (λ (k : Place). k.1) f.5 ∙ ap (λ n. part_key n f.3) (let z : 1 + f.0 ≡ f.0 + 1 = omega arith in z);
+    }
+
+pub part_there : (texts : List (List (List ℕ))) (e : PageEntry) → IsPartEntry texts e → Contains (texts_from 1 texts) e
+part_there texts e is =
+    let key : part_key (1 + is.before) is.part ≡ e.0.1 = ap (λ n. part_key n is.part) (let z : 1 + is.before ≡ is.before + 1 = omega arith in z) ∙ sym is.key in
+    subst (Contains (texts_from 1 texts)) (λ t. ((sym is.index t, key t), e.1)) (texts_in 1 texts is.before is.parts is.part e.1 is.parts_are is.value)
+
 -- they are in order
 parts_order : (n j : ℕ) (parts : List (List ℕ)) → n < 2 ^ 32 → j + length parts ≤ 2 ^ 16 → AreByKey (parts_from n j parts)
 parts_order n j [] fn fits = tt
@@ -136,7 +154,7 @@ parts_order n j (part ∷ parts) fn fits = (
   parts_order n (j + 1) parts fn (omega (arith, fits)),
 )
 
-abbrev Short : List (List (List ℕ)) → Type 0
+abbrev pub Short : List (List (List ℕ)) → Type 0
 Short texts = AllByRecursion (λ parts. length parts ≤ 2 ^ 16) texts
 
 short_at : (texts : List (List (List ℕ))) (k : ℕ) (parts : List (List ℕ)) → Short texts → slice_get texts k ≡ Some parts → length parts ≤ 2 ^ 16

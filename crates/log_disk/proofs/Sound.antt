@@ -6,7 +6,6 @@ use Rattle.std.proofs.lemmas.Bool.{false≢true}
 use Rattle.std.proofs.lemmas.List.{map-append}
 use Rattle.std.proofs.lemmas.List.Elements.{Contains-append_right, recursion_from_All, All-from_get_or}
 use Rattle.disk_io.specs.Disk.{part}
-use Rattle.table_laws.specs.Place.{Place}
 use Rattle.iv_types.specs.Encoding.{IsHuge, row_bytes}
 use Rattle.iv_meaning.specs.Schema.{Schema, Object, kinds_of_table}
 use Rattle.iv_meaning.specs.Sound.{IsRow}
@@ -20,7 +19,7 @@ use Rattle.txn_log.specs.Replay.{Pages}
 use Rattle.txn_log.specs.Fitting.{IsGroup}
 use Rattle.txn_log.specs.Appended.{Image}
 use Rattle.txn_log.specs.Stored.{PageEntry, AreParts, IsPartEntry, IsRowEntry, IsTotalEntry, AllCreate}
-use Rattle.txn_log.specs.Damaged.{Header, Page, Found, Device, FirstBad, FitsDevice, placed_from, found_in, all_found, part_key, texts_found, joined, EntryStands, DefinitionFails, Rule, header_lives, format_known, sizes_fit, area_named, first_block_ends, blocks_lie, records_read, map_read, pages_formed, keys_apart, definitions_read, entries_read, FailsAt}
+use Rattle.txn_log.specs.Damaged.{Header, Page, Found, Device, FirstBad, FitsDevice, placed_from, found_in, all_found, texts_found, joined, EntryStands, DefinitionFails, Rule, header_lives, format_known, sizes_fit, area_named, first_block_ends, blocks_lie, records_read, map_read, pages_formed, keys_apart, definitions_read, entries_read, FailsAt}
 use Rattle.txn_log.proofs.Placing.{in_rest}
 use Rattle.txn_log.proofs.Printed.{one_statement}
 use Rattle.txn_log.proofs.Standing.{creates_once, row_numbered, total_numbered, in_row}
@@ -28,10 +27,10 @@ use Rattle.log_disk.specs.Bears.{all_entries, AreLeaves, StandOnce, AreStoredAs,
 use Rattle.log_disk.specs.Found.{header_of, scan_fault, StandsFirst, ArePagesOf, AreDefinitions, IsFoundBy, IsFoundIn, AreLimited, NotDamagedLaw}
 use Rattle.log_disk.proofs.Areas.{image_live}
 use Rattle.log_disk.proofs.Living.{live_same}
-use Rattle.log_disk.proofs.Ordered.{texts_from, order_once, in_texts, texts_in, texts_order}
+use Rattle.log_disk.proofs.Ordered.{texts_from, order_once, is_part, part_there, texts_order}
 use Rattle.log_disk.proofs.Defining.{never_first, texts_are, definitions_good}
 
-in_map : {X Y : Type 0} (f : X → Y) (xs : List X) (y : Y) → Contains (map f xs) y → (x : X) × Contains xs x × (f x ≡ y)
+pub in_map : {X Y : Type 0} (f : X → Y) (xs : List X) (y : Y) → Contains (map f xs) y → (x : X) × Contains xs x × (f x ≡ y)
 in_map f [] y c = absurd (contains_none y c)
 in_map f (x ∷ xs) y c = in_rest (f x) y (map f xs) c
     (λ same. (x, contains_here x xs, same))
@@ -127,27 +126,6 @@ module _ (stored : List (Option (List ℕ))) (p : Pages) (a : AreStoredAs stored
     | inr part ↦ part
   ]
 
-  part_in : (e : PageEntry) → IsPartEntry a.texts e → Contains (texts_from 1 a.texts) e
-  part_in e part =
-      let key : (0, part_key (1 + part.before) part.part) ≡ e.0 = λ t. (sym part.index t, (ap (λ n. part_key n part.part) (same part.before) ∙ sym part.key) t) in
-      subst (λ (k : Place). Contains (texts_from 1 a.texts) (k, e.1)) key (texts_in 1 a.texts part.before part.parts part.part e.1 part.parts_are part.value)
-    where
-      same : (n : ℕ) → 1 + n ≡ n + 1
-      same n = omega arith
-
-  in_part : (e : PageEntry) → Contains (texts_from 1 a.texts) e → IsPartEntry a.texts e
-  in_part e c =
-      let i = in_texts 1 a.texts e c in
-      record {
-        index = ap (λ (k : Place). k.0) i.5;
-        before = i.0;
-        parts = i.1;
-        parts_are = i.2;
-        part = i.3;
-        value = i.4;
-        key = ap (λ (k : Place). k.1) i.5 ∙ ap (λ n. part_key n i.3) (let z : 1 + i.0 ≡ i.0 + 1 = omega arith in z);
-      }
-
   module _ (all ds : List Found) (are : map (λ f. f.entry) all ≡ all_entries stored) (defs : AreDefinitions all ds) where
     definitions_are : map (λ f. f.entry) ds ≡ texts_from 1 a.texts
     definitions_are = order_once (map (λ f. f.entry) ds) (texts_from 1 a.texts) defs.in_order (texts_order 1 a.texts (let few = a.few in omega arith) a.short)
@@ -155,9 +133,9 @@ module _ (stored : List (Option (List ℕ))) (p : Pages) (a : AreStoredAs stored
         let f = in_map (λ (x : Found). x.entry) ds e c in
         let there = (defs.among f.0).0 f.1 in
         let among : Contains (all_entries stored) e = subst (λ (xs : List PageEntry). Contains xs e) are (subst (Contains (map (λ x. x.entry) all)) f.2 (contains_map (λ (x : Found). x.entry) all f.0 there.0)) in
-        part_in e (part_only e among (ap (λ (x : PageEntry). x.0.0) (sym f.2) ∙ there.1)))
+        part_there a.texts e (part_only e among (ap (λ (x : PageEntry). x.0.0) (sym f.2) ∙ there.1)))
         (λ e c.
-        let part = in_part e c in
+        let part = is_part a.texts e c in
         let f = in_map (λ (x : Found). x.entry) all e (subst (λ (xs : List PageEntry). Contains xs e) (sym are) ((a.stand e).1 (inr part))) in
         subst (Contains (map (λ x. x.entry) ds)) f.2 (contains_map (λ (x : Found). x.entry) ds f.0 ((defs.among f.0).1 (f.1, ap (λ (x : PageEntry). x.0.0) f.2 ∙ part.index))))
 

@@ -1,5 +1,5 @@
 -- For proper pages there are stored pages that hold them: each entry in a page of its own.
-use Rattle.std.proofs.Common.{◌≡◌, inl, inr, ◌⊎◌, Bool, true, false, T, ◌&&◌, ℕ, ◌+◌, ◌-◌, ◌/◌, ◌%◌, ◌^◌, ◌<◌, ◌≤◌, ℤ, List, [], ◌∷◌, ◌++◌, map, length, replicate, Option, Some, refl, sym, ◌∙◌, ap, subst, arith}
+use Rattle.std.proofs.Common.{◌≡◌, inl, inr, ◌⊎◌, Bool, true, false, T, ◌&&◌, ℕ, ◌+◌, ◌/◌, ◌%◌, ◌^◌, ◌<◌, ◌≤◌, ℤ, List, [], ◌∷◌, ◌++◌, map, length, replicate, Option, Some, refl, sym, ◌∙◌, ap, subst, arith}
 use Rattle.std.specs.List.{Contains, All, AllByRecursion}
 use Rattle.std.specs.FinMap.{get, entries_sorted, is_sorted}
 use Rattle.std.specs.FinMap as maps
@@ -26,14 +26,13 @@ use Rattle.txn_machine.specs.Stored.{IsStoredRow}
 use Rattle.txn_machine.proofs.Basics.{contains_none}
 use Rattle.txn_machine.proofs.Holding.{contains_here, contains_next, contains_map}
 use Rattle.txn_log.specs.Replay.{Pages}
-use Rattle.txn_log.specs.Stored.{PageEntry, total_bytes, IsRowEntry, IsTotalEntry, IsPartEntry, StandFor, AreParts, AreProper}
-use Rattle.txn_log.specs.Damaged.{part_key}
+use Rattle.txn_log.specs.Stored.{PageEntry, total_bytes, IsRowEntry, IsTotalEntry, StandFor, AreParts, AreProper}
 use Rattle.txn_log.proofs.Placing.{in_rest}
 use Rattle.txn_log.proofs.Standing.{row_numbered, total_numbered}
 use Rattle.log_disk.specs.Bears.{page_entries, all_entries, AreLeaves, StandOnce, FitsPage, StoredLaw}
 use Rattle.log_disk.specs.Found.{AreByKey}
 use Rattle.log_disk.proofs.Borne.{all_get}
-use Rattle.log_disk.proofs.Ordered.{less_apart, texts_from, in_texts, texts_in, texts_order}
+use Rattle.log_disk.proofs.Ordered.{less_apart, texts_from, is_part, part_there, texts_order}
 
 -- ---- a page of one entry
 
@@ -181,7 +180,7 @@ short_part [] h = tt
 short_part (part ∷ []) h = (h, tt)
 short_part (part ∷ other ∷ parts) h = (omega (arith, h.0), short_part (other ∷ parts) h.1)
 
-module _ (p : Pages) (texts : List (List (List ℕ))) (proper : AreProper p) (few : length texts < 2 ^ 32 - 1) (short : AllByRecursion (λ parts. length parts ≤ 2 ^ 16) texts) where
+module _ (p : Pages) (texts : List (List (List ℕ))) (proper : AreProper p) (few : length texts < 2 ^ 32) (short : AllByRecursion (λ parts. length parts ≤ 2 ^ 16) texts) where
   abbrev row_as : Place → Row → List ℕ
   row_as place row = row_bytes (kinds_of_table (numbered p.db.schema place.0)) row
 
@@ -197,36 +196,19 @@ module _ (p : Pages) (texts : List (List (List ℕ))) (proper : AreProper p) (fe
   abbrev all : List PageEntry
   all = rows ++ (totals ++ texts_from 1 texts)
 
-  is_part : (e : PageEntry) → Contains (texts_from 1 texts) e → IsPartEntry texts e
-  is_part e c =
-      let f = in_texts 1 texts e c in record {
-        index = ap (λ (k : Place). k.0) f.5;
-        before = f.0;
-        parts = f.1;
-        parts_are = f.2;
-        part = f.3;
-        value = f.4;
-        key = ap (λ (k : Place). k.1) f.5 ∙ ap (λ n. part_key n f.3) (let z : 1 + f.0 ≡ f.0 + 1 = omega arith in z);
-      }
-
-  part_there : (e : PageEntry) → IsPartEntry texts e → Contains (texts_from 1 texts) e
-  part_there e is =
-      let key : part_key (1 + is.before) is.part ≡ e.0.1 = ap (λ n. part_key n is.part) (let z : 1 + is.before ≡ is.before + 1 = omega arith in z) ∙ sym is.key in
-      subst (Contains (texts_from 1 texts)) (λ t. ((sym is.index t, key t), e.1)) (texts_in 1 texts is.before is.parts is.part e.1 is.parts_are is.value)
-
   stand : StandFor all texts p
   stand e = (
     (λ c. elim (Contains-append_cases rows (totals ++ texts_from 1 texts) e c) [
       | inl row ↦ inl (inl (stands row_as p.db.rows e row))
       | inr more ↦ elim (Contains-append_cases totals (texts_from 1 texts) e more) [
         | inl total ↦ inl (inr (stands total_as p.view e total))
-        | inr part ↦ inr (is_part e part)
+        | inr part ↦ inr (is_part texts e part)
       ]
     ]),
     (λ h. elim h [
       | inl (inl row) ↦ Contains-append_left rows (totals ++ texts_from 1 texts) e (is_there row_as p.db.rows e row.0 row.1 row.2)
       | inl (inr total) ↦ Contains-append_right rows (totals ++ texts_from 1 texts) e (Contains-append_left totals (texts_from 1 texts) e (is_there total_as p.view e total.0 total.1 total.2))
-      | inr part ↦ Contains-append_right rows (totals ++ texts_from 1 texts) e (Contains-append_right totals (texts_from 1 texts) e (part_there e part))
+      | inr part ↦ Contains-append_right rows (totals ++ texts_from 1 texts) e (Contains-append_right totals (texts_from 1 texts) e (part_there texts e part))
     ]),
   )
 
@@ -235,7 +217,7 @@ module _ (p : Pages) (texts : List (List (List ℕ))) (proper : AreProper p) (fe
       (once_both totals (texts_from 1 texts) (once total_as p.view) (order_apart (texts_from 1 texts) (texts_order 1 texts (omega (arith, few)) short))
       (λ e f c d same.
       let total = stands total_as p.view e c in
-      total_numbered p.db.schema e.0 total.0 (proper.stored e.0 total.0 total.1) (ap (λ (k : Place). k.0) same ∙ (is_part f d).index)))
+      total_numbered p.db.schema e.0 total.0 (proper.stored e.0 total.0 total.1) (ap (λ (k : Place). k.0) same ∙ (is_part texts f d).index)))
       (λ e f c d same.
       let row = stands row_as p.db.rows e c in
       let is_row : IsRow p.db.schema e.0 row.0 = proper.sound.rows e.0 row.0 row.1 in
@@ -243,7 +225,7 @@ module _ (p : Pages) (texts : List (List (List ℕ))) (proper : AreProper p) (fe
         | inl among ↦
             let total = stands total_as p.view f among in
             no_view p.db.schema f.0 row.0 total.0 (subst (λ k. IsRow p.db.schema k row.0) same is_row) (proper.stored f.0 total.0 total.1)
-        | inr among ↦ row_numbered p.db.schema e.0 row.0 is_row (ap (λ (k : Place). k.0) same ∙ (is_part f among).index)
+        | inr among ↦ row_numbered p.db.schema e.0 row.0 is_row (ap (λ (k : Place). k.0) same ∙ (is_part texts f among).index)
       ])
 
   fit_all : All AreParts texts → ((e : PageEntry) → IsRowEntry p e ⊎ IsTotalEntry p e → FitsPage e) → (e : PageEntry) → Contains all e → FitsPage e

@@ -11,9 +11,9 @@ use Rattle.txn_log.specs.Appended.{Numbered}
 use Rattle.txn_log.specs.Groups.{after_of}
 use Rattle.txn_log.specs.Refused.{Placed}
 use Rattle.log_disk.specs.Spelled.{spelled, IsSpellable, AreSpellable, LeadTo, AreSpelled}
-use Rattle.log_disk.specs.Placed.{StandsFor, with_known, known, AreCarriedAt, AreFurtherAt, PlacedLaw}
+use Rattle.log_disk.specs.Placed.{StandsFor, with_known, known, data_limit, AreCarriedAt, AreFurtherAt, PlacedLaw}
 use Rattle.log_disk.proofs.Areas.{block_long}
-use Rattle.log_disk.proofs.Borne.{flat, placed_again, map_both, laid_again, same_after, first_once, ok_same, entry_once}
+use Rattle.log_disk.proofs.Borne.{flat, placed_again, map_both, laid_again, same_after, first_once, ok_same, entry_once, one_texts, one_pages}
 
 -- bytes that stand for a record stand for no other, and not for none
 the_record : (objects : Schema) (e : Entry) (n : Numbered) (o : Option Numbered) → IsSpellable objects n.of → e ≡ spelled objects n → StandsFor objects e o → o ≡ Some n
@@ -60,7 +60,8 @@ further_tied at objects (r ∷ rs) (s ∷ ss) (n ∷ ns) (x ∷ es) h k e =
     ((λ t. one t ∷ rest.0 t), ap (λ o. with_known o (known rs)) one ∙ ap (λ (xs : List Numbered). n ∷ xs) rest.1)
 
 pub placed_image : PlacedLaw
-placed_image room count c i b p pages is =
+placed_image room count c i b p is =
+    let pages : p.pages ≡ i.pages = one_pages b.here.stored p.pages i.pages is.stored b.pages.stored (is.commits ∙ b.pages.commits) in
     let objects : p.pages.db.schema ≡ i.pages.db.schema = ap (λ (x : Pages). x.db.schema) pages in
     let at : ℕ = area_at b.here.area_size b.here.area in
     let all : flat (is.first ∷ is.others) ≡ flat (b.first ∷ b.others) =
@@ -72,9 +73,13 @@ placed_image room count c i b p pages is =
     let after : map unplaced (reverse (laid b.here.redo is.others)) ≡ after_of b.others =
     unplaced_turned (laid b.here.redo is.others) ∙ ap reverse (laid_again b.here.redo is.others ∙ split.1) ∙ sym (same_after b.others) in
     record {
-      pages = pages;
-      carried = carried_tied at i.pages.db.schema p.carried (reverse (placed 5 is.first)) i.carried
-          (subst (λ o. AreCarriedAt at o p.carried (reverse (placed 5 is.first))) objects is.carried) b.records.fit carried;
-      after = (further_tied at i.pages.db.schema p.after (reverse (laid b.here.redo is.others)) i.after (after_of b.others)
-          (subst (λ o. AreFurtherAt at o p.after (reverse (laid b.here.redo is.others))) objects is.after) b.records.after after).0;
+      image = record {
+        pages = pages;
+        carried = carried_tied at i.pages.db.schema p.carried (reverse (placed 5 is.first)) i.carried
+            (subst (λ o. AreCarriedAt at o p.carried (reverse (placed 5 is.first))) objects is.carried) b.records.fit carried;
+        after = (further_tied at i.pages.db.schema p.after (reverse (laid b.here.redo is.others)) i.after (after_of b.others)
+            (subst (λ o. AreFurtherAt at o p.after (reverse (laid b.here.redo is.others))) objects is.after) b.records.after after).0;
+      };
+      texts_are = is.texts ∙ one_texts b.here.stored p.pages i.pages is.stored b.pages.stored;
+      limit = λ most. (data_limit b.here.pages, is.limit, let same = b.pages.pages in omega (arith, same, most));
     }

@@ -1,25 +1,30 @@
 -- Where no rule fails the header, the blocks, the page map and the stored pages are whole.
 use Rattle.std.proofs.Common.{◌≡◌, ◌≢◌, inl, inr, ◌⊎◌, ⊎_elim, Bool, true, false, ℕ, zero, suc, ◌+◌, ◌*◌, ◌^◌, ◌<◌, ◌≤◌, List, [], ◌∷◌, length, get_or, map, Option, Some, None, Ok, Err, refl, sym, ◌∙◌, ap, subst, arith}
 use Rattle.std.specs.Prelude.{Result}
-use Rattle.std.specs.List.{Contains, range_with_len}
+use Rattle.std.specs.List.{Contains, AllByRecursion, range_with_len}
 use Rattle.std.proofs.lemmas.Bool.{false≢true, cases_lt}
 use Rattle.std.proofs.lemmas.Option.{none-some}
 use Rattle.disk_io.specs.Disk.{part}
 use Rattle.page_store.specs.Image as page
-use Rattle.page_store.specs.Image.{header_at, area_at, slot_at, named, pages_of, area_size_of, area_of, redo_of, map_byte, live, image, image_at, image_by}
+use Rattle.page_store.specs.Image.{header_at, area_at, slot_at, named, pages_of, area_size_of, area_of, commits_of, redo_of, map_byte, live, image, image_at, image_by}
 use Rattle.log_records.specs.declared.record.Scanned.{Scanned}
 use Rattle.log_records.specs.Scan.{Fault, scanned}
 use Rattle.table_laws.specs.Place.{Place}
 use Rattle.txn_machine.proofs.Agreeing.{by_place}
 use Rattle.txn_machine.proofs.Basics.{contains_none}
 use Rattle.txn_machine.proofs.Holding.{contains_here, contains_next, contains_map}
-use Rattle.txn_log.specs.Stored.{PageEntry}
-use Rattle.txn_log.specs.Damaged.{Header, Page, Found, Device, FirstBad, FitsDevice, placed_from, all_found, Rule, header_lives, format_known, sizes_fit, area_named, first_block_ends, blocks_lie, records_read, map_read, pages_formed, keys_apart, rule_number, FailsAt, IsDamaged}
+use Rattle.iv_meaning.specs.Schema.{Schema}
+use Rattle.txn_log.specs.Replay.{Pages}
+use Rattle.txn_log.specs.Stored.{PageEntry, AllCreate}
+use Rattle.txn_log.specs.Damaged.{Header, Page, Found, Device, FirstBad, FitsDevice, placed_from, all_found, Rule, header_lives, format_known, sizes_fit, area_named, first_block_ends, blocks_lie, records_read, map_read, pages_formed, keys_apart, definitions_read, entries_read, IsNextKey, HasSize, with_next, joined, MakesNext, EntryStands, rule_number, FailsAt, IsDamaged}
 use Rattle.txn_log.proofs.Finding.{by_number}
 use Rattle.txn_log.proofs.Placing.{in_rest}
-use Rattle.log_disk.specs.Bears.{all_entries, AreLeaves, StandOnce}
-use Rattle.log_disk.specs.Found.{live_on, header_of, scan_fault, StandsFirst, ArePagesOf, IsFoundBy, IsFoundIn, IsWhole, WholeLaw}
+use Rattle.log_disk.specs.Bears.{all_entries, AreLeaves, StandOnce, AreStoredAs}
+use Rattle.log_disk.specs.Found.{live_on, header_of, scan_fault, StandsFirst, ArePagesOf, AreDefinitions, IsFoundBy, IsFoundIn, IsWhole, WholeLaw}
 use Rattle.log_disk.proofs.Living.{live_same}
+use Rattle.log_disk.proofs.Defining.{texts_are}
+use Rattle.log_disk.proofs.Parting.{AllHold, all_hold, pairs_sizes, OfDefinitions, texts_of}
+use Rattle.log_disk.proofs.Building.{all_make, built}
 use Rattle.log_disk.proofs.Placing.{six_or_seven}
 use Rattle.log_disk.proofs.Sound.{all_pages}
 
@@ -202,9 +207,55 @@ module _ (c : List ℕ) (d : Device) (none : (rule : Rule) (place : ℕ) → IsD
       apart = apart;
     }
 
+    -- ---- the definitions and the entries
+
+    defs : AreDefinitions (all_found d.stored) d.definitions
+    defs = by.definitions (stand_once [] (all_found d.stored) (all_good (λ former g. Contains (map (λ (e : Found). e.entry.0) former) g.entry.0)
+        (λ former g. key_or (map (λ (e : Found). e.entry.0) former) g.entry.0) [] (all_found d.stored) (λ f first. never keys_apart f.page (f, refl, first))))
+
+    of_index : (fs : List Found) → ((f : Found) → Contains fs f → f.entry.0.0 ≡ 0) → OfDefinitions fs
+    of_index [] h = tt
+    of_index (f ∷ fs) h = (h f (contains_here f fs), of_index fs (λ g c. h g (contains_next f fs g c)))
+
+    indexed : OfDefinitions d.definitions
+    indexed = of_index d.definitions (λ f c. ((defs.among f).0 c).1)
+
+    no_key : (f : Found) → FirstBad (λ earlier g. IsNextKey earlier g → ⊥) [] d.definitions f → ⊥
+    no_key f first = never definitions_read f.page (inl (f, refl, first))
+
+    no_size : (f : Found × Option Found) → FirstBad (λ earlier (g : Found × Option Found). HasSize g.0 g.1 → ⊥) [] (with_next d.definitions) f → ⊥
+    no_size f first = never definitions_read f.0.page (inr (inl (no_key, f, refl, first)))
+
+    no_text : (t : ℕ × List ℕ) → FirstBad (λ earlier u. MakesNext earlier u → ⊥) [] (joined d.definitions).1 t → ⊥
+    no_text t first = never definitions_read t.0 (inr (inr (no_key, no_size, t, refl, first)))
+
+    entries_are : map (λ f. f.entry) (all_found d.stored) ≡ all_entries (map (λ p. named room p (map_byte k p c) c) (range_with_len 0 count))
+    entries_are = all_pages room k c (range_with_len 0 count) d.stored by.stored
+
+    each_stands : (objects : Schema) (earlier fs : List Found) → AllHold (λ former (g : Found). EntryStands objects g.entry) earlier fs → AllByRecursion (EntryStands objects) (map (λ f. f.entry) fs)
+    each_stands objects earlier [] h = tt
+    each_stands objects earlier (f ∷ fs) h = (h.0, each_stands objects (f ∷ earlier) fs h.1)
+
+    stored_there : ((p : Pages) → AreStoredAs (map (λ p. named room p (map_byte k p c) c) (range_with_len 0 count)) p → p.db.number ≡ commits_of k c → ⊥) → ⊥
+    stored_there none_stored =
+        all_hold IsNextKey [] d.definitions no_key (λ keys.
+        all_hold (λ former (p : Found × Option Found). HasSize p.0 p.1) [] (with_next d.definitions) no_size (λ sizes.
+        all_hold MakesNext [] (joined d.definitions).1 no_text (λ make.
+        let parts = texts_of d.definitions indexed defs.in_order keys (pairs_sizes [] d.definitions sizes) in
+        let objects = all_make [] (joined d.definitions).1 [] refl make in
+        all_hold (λ former (g : Found). EntryStands objects.0 g.entry) [] (all_found d.stored) (λ f first. never entries_read f.page (objects.0, objects.1, f, refl, first)) (λ stand.
+        let there = built (map (λ p. named room p (map_byte k p c) c) (range_with_len 0 count)) (commits_of k c) leaves apart (all_found d.stored) d.definitions entries_are defs parts objects.0
+        (subst (λ (xs : List (List ℕ)). AllCreate [] xs objects.0) (texts_are parts.texts parts.few parts.short parts.parts d.definitions parts.are) objects.1)
+        (subst (AllByRecursion (EntryStands objects.0)) entries_are (each_stands objects.0 [] (all_found d.stored) stand)) in
+        none_stored there.0 there.1 there.2))))
+
+    stored_here : ((p : Pages) → AreStoredAs (image_at room count k c).stored p → p.db.number ≡ (image_at room count k c).commits → ⊥) → ⊥
+    unfolding image_at
+    stored_here none_stored = stored_there none_stored
+
 pub whole : WholeLaw
 whole c d found none = by_live (live_on c) refl found.by
   where
-    by_live : (o : Option ℕ) → live_on c ≡ o → IsFoundIn o c d → (room : ℕ) × (count : ℕ) × (here : page.Image) × IsWhole room count c here
+    by_live : (o : Option ℕ) → live_on c ≡ o → IsFoundIn o c d → (room : ℕ) × (count : ℕ) × (here : page.Image) × IsWhole room count c here × (((p : Pages) → AreStoredAs here.stored p → p.db.number ≡ here.commits → ⊥) → ⊥)
     by_live None lives is = absurd (never c d none header_lives 0 (is, refl))
-    by_live (Some k) lives is = (area_size_of k c, pages_of k c, image_at (area_size_of k c) (pages_of k c) k c, is_whole c d none found.bytes k lives is)
+    by_live (Some k) lives is = (area_size_of k c, pages_of k c, image_at (area_size_of k c) (pages_of k c) k c, is_whole c d none found.bytes k lives is, stored_here c d none found.bytes k lives is)

@@ -2,7 +2,7 @@
 --
 -- Which image the bytes of a disk bear: its live header, the entries of the pages that this names, and the records that a scan of its
 -- log area gives.
-use Rattle.std.specs.Prelude.{◌≡◌, ◌≢◌, ◌⊎◌, ℕ, ◌+◌, ◌==◌, if◌then◌else◌, ◌-◌, ◌≤◌, ◌<◌, ◌^◌, List, [], ◌∷◌, ◌++◌, map, length, reverse, get_or, Option, Some, None, Ok}
+use Rattle.std.specs.Prelude.{◌≡◌, ◌≢◌, ◌⊎◌, ℕ, ◌+◌, ◌==◌, if◌then◌else◌, ◌≤◌, ◌<◌, ◌^◌, List, [], ◌∷◌, ◌++◌, map, length, reverse, get_or, Option, Some, None, Ok}
 use Rattle.std.specs.List.{Contains, AllByRecursion}
 use Rattle.page_store.specs.Image as page
 use Rattle.page_store.specs.Image.{image}
@@ -44,7 +44,7 @@ pub record AreStoredAs (stored : List (Option (List ℕ))) (p : Pages) : Type 0 
   pub leaves : AreLeaves stored
   pub apart : StandOnce (all_entries stored)
   pub texts : List (List (List ℕ))
-  pub few : length texts < 2 ^ 32 - 1
+  pub few : length texts < 2 ^ 32
   pub short : AllByRecursion (λ parts. length parts ≤ 2 ^ 16) texts
   pub define : Define texts p.db.schema
   pub stand : StandFor (all_entries stored) texts p
@@ -91,7 +91,7 @@ FitsPage e = (e.0.0 < 2 ^ 32) × (length e.0.1 + length e.1 + entry_head ≤ pag
 
 -- for proper pages whose texts and entries fit there are stored pages that hold them
 abbrev pub StoredLaw : Type 0
-StoredLaw = (p : Pages) (texts : List (List (List ℕ))) → AreProper p → Define texts p.db.schema → length texts < 2 ^ 32 - 1
+StoredLaw = (p : Pages) (texts : List (List (List ℕ))) → AreProper p → Define texts p.db.schema → length texts < 2 ^ 32
     → AllByRecursion (λ parts. length parts ≤ 2 ^ 16) texts → ((e : PageEntry) → IsRowEntry p e ⊎ IsTotalEntry p e → FitsPage e)
     → (stored : List (Option (List ℕ))) × AreStoredAs stored p
 

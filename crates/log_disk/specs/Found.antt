@@ -12,10 +12,11 @@ use Rattle.slot_page.specs.Page.{IsLeaf}
 use Rattle.log_records.specs.declared.record.Scanned.{Scanned}
 use Rattle.log_records.specs.Scan.{Fault, scanned}
 use Rattle.table_laws.specs.Place.{place_cmp}
+use Rattle.txn_log.specs.Replay.{Pages}
 use Rattle.txn_log.specs.Appended.{Image}
 use Rattle.txn_log.specs.Stored.{PageEntry}
 use Rattle.txn_log.specs.Damaged.{Header, Page, Found, Device, Rule, all_found, IsDamaged}
-use Rattle.log_disk.specs.Bears.{page_entries, all_entries, AreLeaves, StandOnce, end_of_first, Bears}
+use Rattle.log_disk.specs.Bears.{page_entries, all_entries, AreLeaves, StandOnce, AreStoredAs, end_of_first, Bears}
 
 -- a header that lies wholly on the device, and is open there
 abbrev pub opens_on : ℕ → List ℕ → Bool
@@ -134,6 +135,8 @@ pub record IsWhole (room count : ℕ) (c : List ℕ) (here : page.Image) : Type 
   pub leaves : AreLeaves here.stored
   pub apart : StandOnce (all_entries here.stored)
 
--- and so they are where no rule fails: where one of them is not, a rule does
+-- And so they are where no rule fails: where one of them is not, a rule does. The stored pages then hold a database and its view rows:
+-- that they hold none can't be.
 abbrev pub WholeLaw : Type 0
-WholeLaw = (c : List ℕ) (d : Device) → IsFound c d → ((rule : Rule) (place : ℕ) → IsDamaged d rule place → ⊥) → (room : ℕ) × (count : ℕ) × (here : page.Image) × IsWhole room count c here
+WholeLaw = (c : List ℕ) (d : Device) → IsFound c d → ((rule : Rule) (place : ℕ) → IsDamaged d rule place → ⊥)
+    → (room : ℕ) × (count : ℕ) × (here : page.Image) × IsWhole room count c here × (((p : Pages) → AreStoredAs here.stored p → p.db.number ≡ here.commits → ⊥) → ⊥)

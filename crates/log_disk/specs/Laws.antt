@@ -1,20 +1,21 @@
 -- No clause of `run` rests on this module: it serves contracts between crates.
 --
 -- What a crash at any moment of any call leaves on the disk.
-use Rattle.std.specs.Prelude.{◌≡◌, ◌⊎◌, ℕ, ◌+◌, ◌*◌, ◌≤◌, Bool, List, [], length, Some}
+use Rattle.std.specs.Prelude.{◌≡◌, ◌⊎◌, ℕ, ◌+◌, ◌*◌, ◌≤◌, Bool, List, [], length, Some, None}
 use Rattle.disk_io.specs.Disk.{part, Only}
 use Rattle.page_store.specs.declared.facts.HeaderFacts.{HeaderFacts}
 use Rattle.page_store.specs.Image as page
 use Rattle.page_store.specs.Image.{image}
-use Rattle.wal_log.specs.Log.{LogState, IsOutside}
-use Rattle.txn_machine.specs.Log.{Opening}
+use Rattle.wal_log.specs.Log.{LogState, used_by, IsOutside}
+use Rattle.txn_machine.specs.Acts.{Act}
+use Rattle.txn_machine.specs.Log.{Log, Opening, block_bytes, reserved}
 use Rattle.txn_machine.specs.State.{State}
-use Rattle.txn_machine.specs.Store.{committed}
+use Rattle.txn_machine.specs.Store.{Store, Effect, committed}
 use Rattle.txn_machine.specs.Laws.{IsOpened}
 use Rattle.txn_log.specs.Replay.{Pages, Reading, recovered}
 use Rattle.txn_log.specs.Fitting.{IsFit}
 use Rattle.txn_log.specs.Appended.{Image, IsRead}
-use Rattle.txn_log.specs.Moments.{Disk, World, At, Writes, disk_of, store_of, left_by, Run, opened_world, IsRight}
+use Rattle.txn_log.specs.Moments.{Disk, World, At, Amid, Writes, disk_of, store_of, left_by, Run, opened_world, IsRight}
 use Rattle.log_disk.specs.Bears.{Bears}
 use Rattle.log_disk.specs.Calls.{DiskTells, Stage, Saves, PublishCalled, Published, first_block, Calls, IsInStep, AreTwins}
 
@@ -67,3 +68,11 @@ module _ {D : Type 0} (t : DiskTells D) where
       → (a b : Stage D) → Calls t room count first a → Calls t room count a b → (s : State) (d : Disk) → a.world ≡ At s d
       → (committed (store_of b.world)).number ≤ (committed s.store).number + 1 → (c : List ℕ) → t.left_since b.disk (t.moment a.disk) c
       → (i : Image) × Bears room count c i × (r : Reading) × IsRead i r × IsFit r × (((recovered r).db ≡ committed s.store) ⊎ ((recovered r).db ≡ committed (store_of b.world)))
+
+  -- At each moment the log in memory has used and reserved as many bytes as the machine has: the end of a block that waits is reserved
+  -- until its flush. Between two steps they lie in its area, of which a block and a gate take the first.
+  abbrev pub RoomLaw : Type 0
+  RoomLaw = (room count : ℕ) (p : Pages) → IsOpened p.db p.view → (opening : Opening) → opening.log_limit ≡ Some room → block_bytes + 1 ≤ room
+      → (first : Stage D) → first.world ≡ opened_world opening p → IsInStep t room count first → (a : Stage D) → Calls t room count first a
+      → ((after : State) (session : ℕ) (x : Act) (s : Store) (l : Log) (es : List Effect) (d : Disk) → a.world ≡ Amid after session x s l es d → used_by a.log + a.log.reserved ≡ l.used + reserved s l)
+      × ((s : State) (d : Disk) → a.world ≡ At s d → (used_by a.log + a.log.reserved ≡ s.log.used + reserved s.store s.log) × (s.stop ≡ None → used_by a.log + a.log.reserved ≤ a.log.size))

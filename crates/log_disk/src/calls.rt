@@ -1,6 +1,6 @@
 //! Laws of calls on a disk. Each function is there for its contract.
 ghost use Rattle.log_disk.specs.Calls.{DiskTells};
-ghost use Rattle.log_disk.specs.Laws.{AreasLaw, OpeningLaw, OpenedLaw, StandingLaw, CallsLaw, PrefixLaw, OneStepLaw};
+ghost use Rattle.log_disk.specs.Laws.{AreasLaw, OpeningLaw, OpenedLaw, StandingLaw, CallsLaw, PrefixLaw, OneStepLaw, RoomLaw};
 
 use disk_io::Disk;
 
@@ -38,4 +38,9 @@ pub fn prefix_law<D: Disk>()
 /// Where one step, or none, was committed since, it recovers to what was committed before or to what is committed after.
 pub fn one_step_law<D: Disk>()
     ensures { D.is_told → OneStepLaw (record { size_of = D.size_of; seen = D.seen; may_leave = D.may_leave; moment = D.moment; left_since = D.left_since }) }
+{}
+
+/// At each moment the log in memory has used and reserved as many bytes as the machine, and between two steps they lie in its area.
+pub fn room_law<D: Disk>()
+    ensures { D.is_told → RoomLaw (record { size_of = D.size_of; seen = D.seen; may_leave = D.may_leave; moment = D.moment; left_since = D.left_since }) }
 {}

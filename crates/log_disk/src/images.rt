@@ -1,7 +1,7 @@
 //! Laws of the images that bytes bear. Each function is there for its contract.
 ghost use Rattle.log_disk.specs.Spelled.{FieldsLaw, CommitBytes};
 ghost use Rattle.log_disk.specs.Bears.{StoredLaw, FirstEndLaw, OneImageLaw};
-ghost use Rattle.log_disk.specs.Placed.{PlacedLaw};
+ghost use Rattle.log_disk.specs.Placed.{PlacedLaw, RecordsLieLaw, PlacedThereLaw};
 ghost use Rattle.log_disk.specs.Places.{PlacesLaw, GateLaw};
 ghost use Rattle.log_disk.specs.Found.{LiveLaw, FoundLaw, NotDamagedLaw, WholeLaw};
 
@@ -55,4 +55,14 @@ pub fn whole_law()
 /// What is placed of bytes that bear an image is that image at the places of its records.
 pub fn placed_law()
     ensures { PlacedLaw }
+{}
+
+/// The carried records that are placed fill the first block, and the others lie behind it, each where its bytes begin on the device.
+pub fn records_lie_law()
+    ensures { RecordsLieLaw }
+{}
+
+/// For whole blocks and stored pages there is what is placed.
+pub fn placed_there_law()
+    ensures { PlacedThereLaw }
 {}
