@@ -1,8 +1,7 @@
 //! Chains of versions.
-ghost use Rattle.std.specs.Prelude.{◌≡◌, ◌+◌, ◌^◌, ◌<◌, ◌≤◌, max, [], length, true, false, None, OnOk, IfSome};
-ghost use Rattle.std.specs.List.{AllByRecursion};
+ghost use Rattle.std.specs.Prelude.{◌≡◌, ◌+◌, ◌^◌, ◌<◌, ◌≤◌, max, [], length, OnOk};
 ghost use Rattle.std.specs.Option.{option_copied, option_map};
-ghost use Rattle.version_chain.specs.Versions.{above, AreInOrder, first_where, is_from};
+ghost use Rattle.version_chain.specs.Versions.{above, AreInOrder};
 ghost use Rattle.version_chain.specs.Trees.{items, own};
 ghost use Rattle.version_chain.specs.Chains.{pushed, is_of, is_empty, IsLeastFrom};
 
@@ -81,7 +80,7 @@ impl<V: Blank> Chains<V> {
     }
 
     /// Adds a version of a place. One that is not above what was pruned is let go, and takes no room.
-    pub fn add(&mut self, index: u32, key: Bytes, number: u64, held: V)
+    pub(crate) fn add(&mut self, index: u32, key: Bytes, number: u64, held: V)
         requires room { 1 ≤ self.old.room }
         ensures versions { self.new.versions ≡ pushed (((index, key), number), held) self.old.pruned self.old.versions }
         ensures pruned { self.new.pruned ≡ self.old.pruned }
@@ -115,7 +114,7 @@ impl<V: Blank> Chains<V> {
     }
 
     /// The versions as a tree.
-    pub fn tree(&self) -> &Tree<V>
+    pub(crate) fn tree(&self) -> &Tree<V>
         ensures versions { items result.now ≡ self.now.versions }
         ensures sorted { AreInOrder (items result.now) }
     {

@@ -1,5 +1,5 @@
 //! Versions put into a tree.
-ghost use Rattle.std.specs.Prelude.{◌≡◌, ◌++◌, ◌∷◌, []};
+ghost use Rattle.std.specs.Prelude.{◌≡◌};
 ghost use Rattle.table_laws.specs.Place.{place_cmp};
 ghost use Rattle.version_chain.specs.Versions.{moment_cmp, with_version, AreInOrder};
 ghost use Rattle.version_chain.specs.Trees.{items, own, moment, IsMarked};

@@ -1,13 +1,13 @@
 //! Versions of view rows.
 ghost use Rattle.std.specs.Prelude.{◌≡◌, ◌+◌, ◌≤◌, ◌-ℤ◌, ◌++◌, ℤ, List, length, true, Some, None, IfOk, OnOk};
 ghost use Rattle.std.specs.Int.{w128, int_wrap};
-ghost use Rattle.std.specs.Option.{option_copied, option_map};
+ghost use Rattle.std.specs.Option.{option_copied};
 ghost use Rattle.iv_types.specs.declared.value.Kind.TheVariants.{Huge};
 ghost use Rattle.iv_types.specs.declared.value.Value.TheVariants.{Number};
 ghost use Rattle.iv_types.specs.Encoding.{value_bytes};
 ghost use Rattle.ghost_rows.specs.Numbers.{numbers_bytes, Fits128};
 ghost use Rattle.version_chain.specs.Versions.{AreInOrder};
-ghost use Rattle.version_chain.specs.Trees.{items, own};
+ghost use Rattle.version_chain.specs.Trees.{items};
 ghost use Rattle.version_chain.specs.Chains.{pushed, none_above};
 ghost use Rattle.version_chain.specs.Deltas.{worth, due, less};
 

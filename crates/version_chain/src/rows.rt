@@ -1,8 +1,6 @@
 //! Versions of rows.
 ghost use Rattle.std.specs.Prelude.{◌≡◌, ◌+◌, ◌≤◌, length, IfOk};
 ghost use Rattle.std.specs.Option.{option_copied};
-ghost use Rattle.version_chain.specs.Versions.{first_where, is_from};
-ghost use Rattle.version_chain.specs.Trees.{items, own};
 ghost use Rattle.version_chain.specs.Chains.{pushed, row_at};
 
 use crate::chains::{Chains, is_of};
