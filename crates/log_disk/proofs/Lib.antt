@@ -23,3 +23,4 @@ pub mod Breaking
 pub mod Lying
 pub mod Laying
 pub mod Tying
+pub mod WorkedPlaces

@@ -2,6 +2,7 @@
 ghost use Rattle.log_disk.specs.Spelled.{FieldsLaw, CommitBytes};
 ghost use Rattle.log_disk.specs.Bears.{StoredLaw, FirstEndLaw, OneImageLaw};
 ghost use Rattle.log_disk.specs.Placed.{PlacedLaw, RecordsLieLaw, PlacedThereLaw};
+ghost use Rattle.log_disk.specs.WorkedPlaces.{WorkedPlaces};
 ghost use Rattle.log_disk.specs.Places.{PlacesLaw, GateLaw, BreakLaw};
 ghost use Rattle.log_disk.specs.Found.{LiveLaw, FoundLaw, NotDamagedLaw, WholeLaw};
 
@@ -64,7 +65,8 @@ pub fn records_lie_law()
     ensures { RecordsLieLaw }
 {}
 
-/// For whole blocks and stored pages there is what is placed.
+/// For whole blocks and stored pages there is what is placed, as of an area with a carried record and one behind the redo place.
 pub fn placed_there_law()
-    ensures { PlacedThereLaw }
+    ensures there { PlacedThereLaw }
+    ensures worked { WorkedPlaces }
 {}
