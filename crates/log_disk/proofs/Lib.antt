@@ -19,6 +19,8 @@ pub mod Parting
 pub mod Building
 pub mod Whole
 pub mod Scanning
+pub mod Breaking
 pub mod Lying
 pub mod Laying
 pub mod Tying
+pub mod WorkedPlaces

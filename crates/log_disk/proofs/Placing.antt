@@ -45,7 +45,7 @@ all_stand room k c (p ∷ ps) found h f among = stand_first room p (map_byte k p
 some_pair : {x y : ℕ × ℕ} → Some x ≡ Some y → x ≡ y
 some_pair h = cc
 
-one_fault : {X : Type 0} (e f : Fault) → ◌≡◌ {A = Result X Fault} (Err e) (Err f) → e ≡ f
+pub one_fault : {X : Type 0} (e f : Fault) → ◌≡◌ {A = Result X Fault} (Err e) (Err f) → e ≡ f
 one_fault e f h = cc
 
 module _ (c : List ℕ) (h : Header) where
@@ -87,7 +87,7 @@ places c d found h is = by (live_on c) refl found.by
 
 -- ---- gates
 
-joined_fault : {X : Type 0} (xs : List X) (r : Result (List X) Fault) (e : Fault) → joined xs r ≡ Err e → r ≡ Err e
+pub joined_fault : {X : Type 0} (xs : List X) (r : Result (List X) Fault) (e : Fault) → joined xs r ≡ Err e → r ≡ Err e
 joined_fault xs (Ok ys) e h = absurd (cc)
 joined_fault xs (Err f) e h = h
 
@@ -115,7 +115,7 @@ is_165 : (n : ℕ) → (n == 165) ≡ true → n ≡ 165
 is_165 n e = grind (arith, nat_tests)
 
 -- frames fail at an open gate
-frames_gate : (fuel place : ℕ) (bytes : List ℕ) (e : Fault) → frames fuel place bytes ≡ Err e → (n : ℕ) × (e.place ≡ place + n) × (get_or bytes n 0 ≡ 165) × (e.rule ≡ 6)
+pub frames_gate : (fuel place : ℕ) (bytes : List ℕ) (e : Fault) → frames fuel place bytes ≡ Err e → (n : ℕ) × (e.place ≡ place + n) × (get_or bytes n 0 ≡ 165) × (e.rule ≡ 6)
 unfolding frames
 frames_gate zero place bytes e h = absurd (cc)
 frames_gate (suc fuel) place bytes e h = by_bool (get_or bytes 0 0 == 165)

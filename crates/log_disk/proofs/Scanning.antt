@@ -14,17 +14,17 @@ use Rattle.log_records.proofs.RecordLaws.{IsScanned, record_takes}
 use Rattle.table_laws.proofs.Tables.{by_bool}
 use Rattle.wal_log.proofs.KeptLaws.{block_is}
 
-is_empty : (bs : List ℕ) → length bs ≤ 0 → bs ≡ []
+pub is_empty : (bs : List ℕ) → length bs ≤ 0 → bs ≡ []
 is_empty [] le = refl
 is_empty (b ∷ bs) le = absurd (omega arith)
 
-none_of : (bs : List ℕ) → (length bs == 0) ≡ true → length bs ≤ 0
+pub none_of : (bs : List ℕ) → (length bs == 0) ≡ true → length bs ≤ 0
 none_of bs e = grind (arith, nat_tests)
 
 ok_same : {X : Type 0} (x y : X) → ◌≡◌ {A = Result X Fault} (Ok x) (Ok y) → x ≡ y
 ok_same x y e = cc
 
-joined_ok : {X : Type 0} (xs zs : List X) (r : Result (List X) Fault) → joined xs r ≡ Ok zs → (ys : List X) × (r ≡ Ok ys) × (zs ≡ xs ++ ys)
+pub joined_ok : {X : Type 0} (xs zs : List X) (r : Result (List X) Fault) → joined xs r ≡ Ok zs → (ys : List X) × (r ≡ Ok ys) × (zs ≡ xs ++ ys)
 joined_ok {X = X} xs zs (Ok ys) h = (ys, refl, sym (ok_same (xs ++ ys) zs h))
 joined_ok xs zs (Err f) h = absurd (cc)
 
@@ -35,10 +35,10 @@ and_then_ok (Err f) more zs h = absurd (cc)
 -- ---- the records of one block
 
 -- these bytes are those of records, which are scanned from this place on
-record AreRead (place : ℕ) (bytes : List ℕ) (ss : List Scanned) : Type 0 where
-  es : List Entry
-  bytes_are : bytes ≡ group es
-  read : ss ≡ placed place es
+pub record AreRead (place : ℕ) (bytes : List ℕ) (ss : List Scanned) : Type 0 where
+  pub es : List Entry
+  pub bytes_are : bytes ≡ group es
+  pub read : ss ≡ placed place es
 
 one_more : (place : ℕ) (bytes rest : List ℕ) (s : Scanned) (ss ys : List Scanned) → IsScanned place bytes s rest → ss ≡ s ∷ ys → AreRead s.end rest ys → AreRead place bytes ss
 one_more place bytes rest s ss ys is split h =
@@ -50,7 +50,7 @@ one_more place bytes rest s ss ys is split h =
       read = split ∙ (λ t. this t ∷ (h.read ∙ ap (λ n. placed n h.es) size) t);
     }
 
-records_are : (fuel place : ℕ) (bytes : List ℕ) (ss : List Scanned) → IsBytes bytes → length bytes ≤ fuel → records fuel place bytes ≡ Ok ss → AreRead place bytes ss
+pub records_are : (fuel place : ℕ) (bytes : List ℕ) (ss : List Scanned) → IsBytes bytes → length bytes ≤ fuel → records fuel place bytes ≡ Ok ss → AreRead place bytes ss
 unfolding records
 records_are zero place bytes ss fits le h = record { es = []; bytes_are = is_empty bytes le; read = sym (ok_same [] ss h) }
 records_are (suc fuel) place bytes ss fits le h = by_bool (length bytes == 0)
@@ -79,13 +79,13 @@ pub record AreBlocks (place : ℕ) (bytes : List ℕ) (ss : List Scanned) : Type
   pub read : ss ≡ laid place groups
   pub shut : get_or tail 0 0 ≢ 165
 
-is_165 : (n : ℕ) → (n == 165) ≡ true → n ≡ 165
+pub is_165 : (n : ℕ) → (n == 165) ≡ true → n ≡ 165
 is_165 n e = grind (arith, nat_tests)
 
 not_165 : (n : ℕ) → (n == 165) ≡ false → n ≢ 165
 not_165 n e same = grind (arith, nat_tests)
 
-enough : (bytes : List ℕ) → holds_block bytes ≡ true → frame_size bytes < length bytes
+pub enough : (bytes : List ℕ) → holds_block bytes ≡ true → frame_size bytes < length bytes
 enough bytes e = by (nat_lt (length bytes) 5) (nat_lt (length bytes) (frame_size bytes + 1)) refl e
   where
     not_less : (m n : ℕ) → nat_lt m n ≡ false → n ≤ m
@@ -97,7 +97,7 @@ enough bytes e = by (nat_lt (length bytes) 5) (nat_lt (length bytes) (frame_size
     by false false is k = let le = not_less (length bytes) (frame_size bytes + 1) is in omega (arith, le)
 
 -- a gate, a length and so many bytes are a block
-front_block : (bytes : List ℕ) → IsBytes bytes → get_or bytes 0 0 ≡ 165 → frame_size bytes < length bytes
+pub front_block : (bytes : List ℕ) → IsBytes bytes → get_or bytes 0 0 ≡ 165 → frame_size bytes < length bytes
     → (bytes ≡ block (part 5 (big_number 4 (drop 1 bytes)) bytes) ++ drop (frame_size bytes) bytes) × (length (part 5 (big_number 4 (drop 1 bytes)) bytes) ≡ big_number 4 (drop 1 bytes))
 front_block [] fits gate le = absurd (omega (arith, gate))
 front_block (b ∷ bs) fits gate le =

@@ -1,11 +1,13 @@
 -- No clause of `run` rests on this module: it serves contracts between crates.
 --
 -- Where on a device that stands what is found in its bytes: so each place at which a rule fails is that of the bytes that fail it.
-use Rattle.std.specs.Prelude.{◌≡◌, ◌↔◌, ℕ, ◌+◌, ◌*◌, true, List, get_or, Some, Err}
+use Rattle.std.specs.Prelude.{◌≡◌, ◌↔◌, ℕ, ◌+◌, ◌*◌, ◌<◌, true, List, ◌++◌, length, get_or, Some, Err}
 use Rattle.std.specs.List.{Contains}
-use Rattle.disk_io.specs.Disk.{part}
+use Rattle.disk_io.specs.Disk.{part, AreBytes}
 use Rattle.page_store.specs.Image.{area_at, number_at}
 use Rattle.slot_page.specs.Page.{IsLeaf}
+use Rattle.log_records.specs.declared.record.Record.{Record}
+use Rattle.log_records.specs.Area.{Entry, group, block, blocks, BeginsWith}
 use Rattle.log_records.specs.Scan.{Fault, scanned}
 use Rattle.txn_log.specs.Damaged.{Header, Page, Device}
 use Rattle.log_disk.specs.Bears.{page_entries, end_of_first}
@@ -52,3 +54,19 @@ PlacesLaw = (c : List ℕ) (d : Device) → IsFound c d → (h : Header) → d.h
 -- where a block does not lie in the area, its open gate stands
 abbrev pub GateLaw : Type 0
 GateLaw = (area : List ℕ) (place : ℕ) → scanned area ≡ Err (record { rule = 6; place = place }) → get_or area place 0 ≡ 165
+
+-- Whole blocks, and then whole records of the block that fails, stand before this place; the bytes there, to that block's end, do not
+-- begin with a record.
+pub record BreaksAt (area : List ℕ) (place : ℕ) : Type 0 where
+  pub before : List (List Entry)
+  pub records : List Entry
+  pub rest : List ℕ
+  pub tail : List ℕ
+  pub split : area ≡ blocks before ++ (block (group records ++ rest) ++ tail)
+  pub place_is : place ≡ length (blocks before) + (5 + length (group records))
+  pub some : 0 < length rest
+  pub none : (number : ℕ) (e : Record) → BeginsWith number e rest → ⊥
+
+-- where a block is not whole records, the first byte of what is none stands
+abbrev pub BreakLaw : Type 0
+BreakLaw = (area : List ℕ) (place : ℕ) → AreBytes area → scanned area ≡ Err (record { rule = 7; place = place }) → BreaksAt area place

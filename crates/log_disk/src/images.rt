@@ -2,7 +2,8 @@
 ghost use Rattle.log_disk.specs.Spelled.{FieldsLaw, CommitBytes};
 ghost use Rattle.log_disk.specs.Bears.{StoredLaw, FirstEndLaw, OneImageLaw};
 ghost use Rattle.log_disk.specs.Placed.{PlacedLaw, RecordsLieLaw, PlacedThereLaw};
-ghost use Rattle.log_disk.specs.Places.{PlacesLaw, GateLaw};
+ghost use Rattle.log_disk.specs.WorkedPlaces.{WorkedPlaces};
+ghost use Rattle.log_disk.specs.Places.{PlacesLaw, GateLaw, BreakLaw};
 ghost use Rattle.log_disk.specs.Found.{LiveLaw, FoundLaw, NotDamagedLaw, WholeLaw};
 
 /// A record's fields stand in its bytes as they are named.
@@ -31,10 +32,12 @@ pub fn found_law()
     ensures { FoundLaw }
 {}
 
-/// What is found stands where it is found, and a block that does not lie in the area is told by its open gate.
+/// What is found stands where it is found; a block that does not lie in the area is told by its open gate, and one that is not
+/// whole records by the first byte of what is none.
 pub fn places_law()
     ensures found { PlacesLaw }
     ensures gates { GateLaw }
+    ensures breaks { BreakLaw }
 {}
 
 /// Bytes bear one image.
@@ -62,7 +65,8 @@ pub fn records_lie_law()
     ensures { RecordsLieLaw }
 {}
 
-/// For whole blocks and stored pages there is what is placed.
+/// For whole blocks and stored pages there is what is placed, as of an area with a carried record and one behind the redo place.
 pub fn placed_there_law()
-    ensures { PlacedThereLaw }
+    ensures there { PlacedThereLaw }
+    ensures worked { WorkedPlaces }
 {}
