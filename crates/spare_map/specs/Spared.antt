@@ -1,3 +1,5 @@
+-- No clause of `run` rests on this module: it serves contracts between crates.
+--
 -- What a map is to its callers.
 use Rattle.std.specs.Prelude.{ℕ, List}
 use mathlib.Core.Path.{refl}
