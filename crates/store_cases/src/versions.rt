@@ -157,7 +157,9 @@ fn slice_of(row: &Option<Bytes>) -> Option<&[u8]> {
 fn push_many(alloc: Global, rows: &mut RowChains, count: u32) -> anyhow::Result<u32> {
     rows.reserve(alloc, count)?;
     for number in 0..count {
-        let key = (number as u16).wrapping_mul(40_503).to_be_bytes();
+        let key = ((number % 65_536) as u16)
+            .wrapping_mul(40_503)
+            .to_be_bytes();
         if rows.room() == 0 {
             bail!("no room");
         }
@@ -170,7 +172,9 @@ fn push_many(alloc: Global, rows: &mut RowChains, count: u32) -> anyhow::Result<
     }
     let mut found = 0;
     for number in 0..count {
-        let key = (number as u16).wrapping_mul(40_503).to_be_bytes();
+        let key = ((number % 65_536) as u16)
+            .wrapping_mul(40_503)
+            .to_be_bytes();
         let before = row_then(alloc, rows, u64::from(number), 1, &key, &None)?;
         let after = row_then(alloc, rows, u64::from(number) + 1, 1, &key, &None)?;
         if slice_of(&before) == Some(&key) && after.is_none() && found < count {
