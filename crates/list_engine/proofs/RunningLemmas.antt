@@ -18,11 +18,12 @@ use Rattle.iv_types.specs.declared.reply.Reply.TheVariants as reply
 use Rattle.iv_types.specs.Syntax.{StatementTree, create_table, create_index, create_view, insert, update, delete, select, begin, commit, rollback, savepoint}
 use Rattle.iv_types.specs.Trees.{statement_tree}
 use Rattle.iv_meaning.specs.Database.{Database}
-use Rattle.iv_meaning.specs.Schema.{Object}
+use Rattle.iv_meaning.specs.Schema.{Object, as_table}
 use Rattle.iv_types.specs.declared.catalog.TableDef.{TableDef}
-use Rattle.iv_meaning.specs.Names.{scope_of}
+use Rattle.iv_meaning.specs.Resolving as resolving
+use Rattle.iv_meaning.specs.Resolving.{Resolved}
 use Rattle.iv_meaning.specs.Statement.{BoundTree, create, control, defines, keep, bound_meaning}
-use Rattle.iv_meaning.specs.Binding.{first_of, made_view, bound_to, faults, unless}
+use Rattle.iv_meaning.specs.Passes.{bind, bound_of, made_view}
 use Rattle.iv_meaning.specs.Transaction.{means, bound_or_refused}
 use Rattle.list_engine.specs.Whole.{whole_meaning, means_whole, whole_or_refused}
 use Rattle.list_engine.specs.declared.step.Step.{Step}
@@ -37,6 +38,7 @@ use Rattle.list_engine.specs.declared.engine.ListEngine.{ListEngine}
 use Rattle.list_engine.specs.Told.{number_committed, is_begun, is_ended}
 use Rattle.list_engine.specs.Parts.{part_in, open_of, open_in}
 use Rattle.list_engine.specs.Engine.{Stands, IsIn, EndsAs, IsReading, IsClosedBut, IsBegun}
+use Rattle.query_laws.proofs.Bound.{AreAlike, is_bound}
 use Rattle.list_engine.proofs.EngineLemmas.{passed_over, refused_ends, accepted_ends}
 use Rattle.list_engine.proofs.SteppingLemmas.{none_opened}
 
@@ -117,28 +119,25 @@ left_in engine s after st l h = subst (IsIn engine) l.committed (is_in engine af
 -- ---- CREATE
 
 -- a CREATE statement means the same where views are evaluated whole
-of_bound : (found : List Refusal) (to : BoundTree) (db : Database) → whole_meaning to db ≡ bound_meaning to db → whole_or_refused (unless found to) db ≡ bound_or_refused (unless found to) db
-of_bound [] to db e = e
-of_bound (fault ∷ more) to db e = refl
-
 of_view : (first : Option TableDef) (made : TableDef → Object) (db : Database) → whole_meaning (elim first [ None ↦ control | Some t ↦ create (made t) ]) db ≡ bound_meaning (elim first [ None ↦ control | Some t ↦ create (made t) ]) db
 of_view None made db = refl
 of_view (Some t) made db = refl
 
+of_resolved : (s : StatementTree) (to : Resolved) (db : Database) → IsCreate s → AreAlike s to → whole_meaning (bound_of db.schema to) db ≡ bound_meaning (bound_of db.schema to) db
+of_resolved (create_table name columns primary) (resolving.table n cs ps) db is alike = refl
+of_resolved (create_index name of columns) (resolving.index n o cs) db is alike = refl
+of_resolved (create_view name query) (resolving.view n q) db is alike = of_view (as_table q.first) (made_view db.schema n q) db
+of_resolved (create_table name columns primary) _ db is alike = absurd alike
+of_resolved (create_index name of columns) _ db is alike = absurd alike
+of_resolved (create_view name query) _ db is alike = absurd alike
+of_resolved _ to db is alike = absurd is
+
 means_created : (s : StatementTree) (db : Database) → IsCreate s → means_whole s db ≡ means s db
-means_created (create_table name columns primary) db is = of_bound (faults db.schema (create_table name columns primary)) (bound_to db.schema (create_table name columns primary)) db refl
-means_created (create_index name of columns) db is = of_bound (faults db.schema (create_index name of columns)) (bound_to db.schema (create_index name of columns)) db refl
-means_created (create_view name query) db is =
-    of_bound (faults db.schema (create_view name query)) (bound_to db.schema (create_view name query)) db
-    (of_view (first_of (scope_of db.schema query)) (λ first. made_view db.schema name query (scope_of db.schema query) first) db)
-means_created (insert into tuples) db is = absurd is
-means_created (update in_ ss condition) db is = absurd is
-means_created (delete in_ condition) db is = absurd is
-means_created (select query order) db is = absurd is
-means_created (begin mode) db is = absurd is
-means_created commit db is = absurd is
-means_created (rollback to) db is = absurd is
-means_created (savepoint name) db is = absurd is
+means_created s db is = by (bind db.schema s) refl
+  where
+    by : (r : Result BoundTree Refusal) → bind db.schema s ≡ r → whole_or_refused r db ≡ bound_or_refused r db
+    by (Err why) e = refl
+    by (Ok what) e = let b = is_bound db.schema s what e in subst (λ (x : BoundTree). whole_meaning x db ≡ bound_meaning x db) b.made (of_resolved s b.to db is b.alike)
 
 pub created_whole : {P : List Reply → Type 0} (new : ListEngine) (db : Database) (statement : Statement) → IsCreate (statement_tree statement)
     → ((replies : List Reply) → P replies → EndsAs (means (statement_tree statement) db) db replies new) → (replies : List Reply) → P replies → EndsAs (means_whole (statement_tree statement) db) db replies new

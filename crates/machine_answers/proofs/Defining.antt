@@ -1,23 +1,24 @@
 -- A CREATE statement is bound to an object or refused, some session has a transaction open or none has, and there is room or not.
 use Rattle.std.specs.Prelude.{◌≡◌, ◌⊎◌, ℕ, ◌+◌, ◌≤◌, ◌<◌, Bool, true, false, cond, List, [], ◌∷◌, map, Option, Some, None, IsSome, is_some, Result, Ok, Err, if◌then◌else◌}
 use Rattle.std.specs.List.{AllByRecursion, list_any}
-use Rattle.std.specs.Option.{option_and_then}
 use mathlib.Core.Path.{refl, sym, ap, ◌∙◌}
 use mathlib.Core.Logic.{inl, inr}
 use Rattle.iv_types.specs.declared.refusal.Refusal.{Refusal}
-use Rattle.iv_types.specs.declared.refusal.Refusal.TheVariants.{UnknownName, NumberRange}
+use Rattle.iv_types.specs.declared.refusal.Refusal.TheVariants.{NumberRange}
 use Rattle.iv_types.specs.declared.refusal.EngineRefusal.TheVariants as refusal
 use Rattle.iv_types.specs.declared.catalog.TableDef.{TableDef}
 use Rattle.iv_types.specs.Syntax.{StatementTree, create_table, create_index, create_view}
-use Rattle.iv_meaning.specs.Schema.{Schema, Object, ViewTree, table, index, view, named, as_table, as_index, as_view}
+use Rattle.iv_meaning.specs.Schema.{Schema, Object, ViewTree, table, index, view, as_table, as_index, as_view}
 use Rattle.iv_meaning.specs.Database.{Database}
-use Rattle.iv_meaning.specs.Names.{Visible, scope_of, visible, name_faults, object_taken, object_unknown, view_item_faults, from_faults, relation_faults}
-use Rattle.iv_meaning.specs.Shape.{is_index, is_view, rules_of}
+use Rattle.iv_meaning.specs.Resolving as resolving
+use Rattle.iv_meaning.specs.Resolving.{Joined, Resolved}
+use Rattle.iv_meaning.specs.Tests.{tests}
 use Rattle.iv_meaning.specs.View.{whole_view}
 use Rattle.iv_meaning.specs.Statement as statement
 use Rattle.iv_meaning.specs.Statement.{Kept, defines, Meaning, Refused, Accepted, BoundTree, create, create_meaning, bound_meaning}
-use Rattle.iv_meaning.specs.Binding.{bind, unless, faults, bound_to, made_view}
-use Rattle.query_laws.proofs.SoundLemmas.{Keeps, rules_hold, neither, nothing_first, nothing_second}
+use Rattle.iv_meaning.specs.Passes.{bind, bound_of, made_view}
+use Rattle.query_laws.proofs.Bound.{AreAlike, IsPassed, is_bound}
+use Rattle.query_laws.proofs.SoundLemmas.{neither}
 use Rattle.txn_machine.specs.Acts as act
 use Rattle.txn_machine.specs.Answers as answer
 use Rattle.txn_machine.specs.Store.{Store, committed, schema_of, Defines}
@@ -31,35 +32,31 @@ use Rattle.machine_answers.proofs.Choosing.{at_most_or_more, within_or_above, th
 
 -- ---- what it is bound to
 
-no_fault : (fs : List Refusal) (made what : BoundTree) → unless fs made ≡ Ok what → fs ≡ []
-no_fault [] made what e = refl
-no_fault (f ∷ fs) made what e = absurd (cc)
-
 -- what a view's query begins with is a table
-first_there : (o : Option Object) (name : List ℕ) → cond (is_some o) [] (UnknownName name ∷ []) ≡ [] → is_some (option_and_then as_index o) ≡ false → is_some (option_and_then as_view o) ≡ false
-    → (t : TableDef) × (option_and_then as_table o ≡ Some t)
-first_there None name known no_index no_view = absurd (cc)
-first_there (Some (table t)) name known no_index no_view = (t, refl)
-first_there (Some (index i)) name known no_index no_view = absurd (cc)
-first_there (Some (view v)) name known no_index no_view = absurd (cc)
+first_there : (o : Object) → is_some (as_index o) ≡ false → is_some (as_view o) ≡ false → (t : TableDef) × (as_table o ≡ Some t)
+first_there (table t) no_index no_view = (t, refl)
+first_there (index i) no_index no_view = absurd (cc)
+first_there (view v) no_index no_view = absurd (cc)
+
+bound_create : (objects : Schema) (s : StatementTree) (to : Resolved) (size : ℕ) → IsCreate s → AreAlike s to → AllByRecursion IsPassed (tests objects size to) → (o : Object) × (bound_of objects to ≡ create o)
+bound_create objects (create_table name columns primary) (resolving.table n cs ps) size is alike passed = (_, refl)
+bound_create objects (create_index name target columns) (resolving.index n o cs) size is alike passed = (_, refl)
+bound_create objects (create_view name query) (resolving.view n q) size is alike passed =
+    let more : List Object = map (λ (j : Joined). j.object) q.joins in
+    let no_index = (neither (is_some (as_index q.first)) (list_any (λ o. is_some (as_index o)) more) passed.1.0).0 in
+    let no_view = (neither (is_some (as_view q.first)) (list_any (λ o. is_some (as_view o)) more) passed.1.1.1.1.1.1.1.0).0 in
+    let first = first_there q.first no_index no_view in
+    (made_view objects n q first.0, ap (λ (f : Option TableDef). elim f [ None ↦ statement.control | Some t ↦ create (made_view objects n q t) ]) first.1)
+bound_create objects (create_table name columns primary) _ size is alike passed = absurd alike
+bound_create objects (create_index name target columns) _ size is alike passed = absurd alike
+bound_create objects (create_view name query) _ size is alike passed = absurd alike
+bound_create objects _ to size is alike passed = absurd is
 
 creates : (objects : Schema) (s : StatementTree) (what : BoundTree) → IsCreate s → bind objects s ≡ Ok what → (o : Object) × (what ≡ create o)
-creates objects (create_table name columns primary) what is e = (_, sym (rules_hold objects (create_table name columns primary) what e).1)
-creates objects (create_index name target columns) what is e = (_, sym (rules_hold objects (create_index name target columns) what e).1)
-creates objects (create_view name q) what is e =
-    let bound = rules_hold objects (create_view name q) what e in
-    let scope : List Visible = scope_of objects q in
-    let rules : AllByRecursion Keeps (rules_of objects (create_view name q)) = bound.0 in
-    let names : name_faults objects (create_view name q) ≡ [] = nothing_first (name_faults objects (create_view name q)) _ (no_fault (faults objects (create_view name q)) (bound_to objects (create_view name q)) what e) in
-    let behind : from_faults objects scope q ≡ [] = nothing_second (view_item_faults scope [] q.items) _ (nothing_second (object_taken objects name) _ names) in
-    let known : object_unknown objects q.first.name ≡ [] = nothing_first (object_unknown objects q.first.name) _ (nothing_first (relation_faults objects [] q.first) _ behind) in
-    let no_index = (neither (is_index (visible objects q.first)) (list_any is_index (map (visible objects) (map (λ join. join.relation) q.joins))) rules.1.0).0 in
-    let no_view = (neither (is_view (visible objects q.first)) (list_any is_view (map (visible objects) (map (λ join. join.relation) q.joins))) rules.1.1.1.1.1.1.1.0).0 in
-    let first = first_there (named objects q.first.name) q.first.name known no_index no_view in (
-      made_view objects name q scope first.0,
-      sym bound.1 ∙ ap (λ (f : Option TableDef). elim f [ None ↦ statement.control | Some t ↦ create (made_view objects name q scope t) ]) first.1,
-    )
-creates objects _ what is e = absurd is
+creates objects s what is e =
+    let b = is_bound objects s what e in
+    let o = bound_create objects s b.to b.size is b.alike b.passed in
+    (o.0, sym b.made ∙ o.1)
 
 -- what it means
 

@@ -11,7 +11,7 @@ use Rattle.iv_types.specs.declared.catalog.TableDef.{TableDef}
 use Rattle.iv_types.specs.declared.value.Interval.{Interval}
 use Rattle.iv_meaning.specs.Schema.{numbered}
 use Rattle.iv_meaning.specs.Objects.{schema_of, object_of, view_tree}
-use Rattle.bind_names.proofs.Objects.{numbered_alike}
+use Rattle.bind_resolve.proofs.Objects.{numbered_alike}
 use Rattle.iv_meaning.specs.Database.{Row, Database}
 use Rattle.iv_meaning.specs.View as view
 use Rattle.iv_meaning.specs.Sound.{IsSound}

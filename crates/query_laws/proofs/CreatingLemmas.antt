@@ -1,70 +1,32 @@
 -- What a statement creates is an object like the others.
-use Rattle.std.specs.Prelude.{◌≡◌, ℕ, ◌+◌, ◌&&◌, ◌||◌, not, Bool, true, false, List, [], ◌∷◌, ◌++◌, length, map, is_some, Option, Some, None}
+use Rattle.std.specs.Prelude.{◌≡◌, ℕ, ◌+◌, ◌<◌, ◌&&◌, ◌||◌, not, is_some, Bool, true, false, List, [], ◌∷◌, ◌++◌, length, map, Option, Some, None}
 use Rattle.std.specs.List.{AllByRecursion}
-use Rattle.std.specs.Option.{option_map, option_and_then, option_map_or, unwrap_or}
+use Rattle.std.specs.Option.{option_map}
 use mathlib.Core.Path.{refl, sym, ap, subst, ◌∙◌}
 use Rattle.std.proofs.Common.{inl, inr}
 use Rattle.std.proofs.lemmas.List.{length-map}
 use Rattle.std.proofs.lemmas.List.Elements.{All-from_recursion}
 use Rattle.iv_types.specs.declared.value.Kind.{Kind}
 use Rattle.iv_types.specs.declared.statement.ColumnDef.{ColumnDef}
-use Rattle.iv_types.specs.declared.statement.Relation.{Relation}
 use Rattle.iv_types.specs.declared.catalog.TableDef.{TableDef}
 use Rattle.iv_types.specs.declared.catalog.IndexDef.{IndexDef}
-use Rattle.iv_types.specs.Encoding.{kinds_of}
-use Rattle.iv_types.specs.Syntax.{Tree, StatementTree, QueryTree, JoinTree, create_table, create_index, create_view, insert, update, delete, select}
-use Rattle.iv_meaning.specs.Schema.{Schema, Object, table, index, view, numbered, named, as_table, column_names, kinds_of_table, object_columns, object_kinds}
+use Rattle.iv_types.specs.Syntax.{Tree, StatementTree}
+use Rattle.iv_meaning.specs.Schema.{Schema, Object, table, index, view, numbered, as_table, kinds_of_table, object_kinds}
 use Rattle.iv_meaning.specs.Database.{Database}
-use Rattle.iv_meaning.specs.Names.{bound, Visible, seen_as, visible, scope_of}
-use Rattle.iv_meaning.specs.Shape.{terms, places_of, group_of, rules_of, table_of, is_empty, is_many_to_one, joins_tables, object_number}
-use Rattle.iv_meaning.specs.Binding.{join_columns, bound_to, made_view, first_of, second_of, second_kept, target_number}
+use Rattle.iv_meaning.specs.Shape.{terms, is_empty, joins_tables, object_number}
+use Rattle.iv_meaning.specs.Binding.{join_columns, second_kept}
+use Rattle.iv_meaning.specs.Resolving as resolving
+use Rattle.iv_meaning.specs.Resolving.{Joined, ResolvedQuery, Resolved}
+use Rattle.iv_meaning.specs.Typing.{sources_of}
+use Rattle.iv_meaning.specs.Tests.{tests, is_many_to_one, second_of}
+use Rattle.iv_meaning.specs.Passes.{made_view, bound_of}
 use Rattle.iv_meaning.specs.Statement as statement
-use Rattle.iv_meaning.specs.Statement.{BoundTree, keep, defines}
 use Rattle.iv_meaning.specs.Sound.{IsSound, IsObject, IsTable}
 use Rattle.query_laws.specs.Laws.{CreatedLaw}
+use Rattle.query_laws.proofs.Bound.{HasKinds, IsThere, IsQuery, IsResolved, IsPassed, is_bound}
 use Rattle.query_laws.proofs.Each.{each_to}
 use Rattle.query_laws.proofs.GroupRows.{some_same, IsKnown}
-use Rattle.query_laws.proofs.SoundLemmas.{Keeps, rules_hold, named_numbered, numbered_more, numbered_cases, object_more, table_more, same_kinds, are_columns, HasKinds, kinds_seen, group_known}
-
--- ---- tables that a statement sees
-
-pub record IsTableSeen (objects : Schema) (v : Visible) : Type 0 where
-  pub of : TableDef
-  pub object_is : v.object ≡ Some (table of)
-  pub columns_are : v.columns ≡ column_names of
-  pub kinds_are : v.kinds ≡ kinds_of of
-  pub there : numbered objects of.number ≡ Some (table of)
-
-table_seen : (db : Database) → IsSound db → (name called : List ℕ) (o : Option Object) → named db.schema name ≡ o → (t : TableDef) → option_and_then as_table o ≡ Some t
-    → (seen : IsTableSeen db.schema (seen_as db.schema name called)) × (seen.of ≡ t)
-table_seen db sound name called None e t is = absurd (cc)
-table_seen db sound name called (Some (index i)) e t is = absurd (cc)
-table_seen db sound name called (Some (view v)) e t is = absurd (cc)
-table_seen db sound name called (Some (table u)) e t is = (
-  record {
-    of = u;
-    object_is = e;
-    columns_are = ap (λ o. option_map_or object_columns o []) e;
-    kinds_are = ap (λ o. option_map_or (object_kinds db.schema) o []) e;
-    there = named_numbered db sound name (table u) e;
-  },
-  some_same u t is,
-)
-
--- the name by which a relation is called
-abbrev called : Relation → List ℕ
-called relation = unwrap_or relation.alias relation.name
-
-seen : (db : Database) → IsSound db → (name called : List ℕ) (t : TableDef) → table_of (seen_as db.schema name called) ≡ Some t → (s : IsTableSeen db.schema (seen_as db.schema name called)) × (s.of ≡ t)
-seen db sound name called t e = table_seen db sound name called (named db.schema name) refl t e
-
-has_kinds : (objects : Schema) (v : Visible) → IsTableSeen objects v → HasKinds v
-has_kinds objects v s =
-    ap length s.columns_are ∙ (length-map s.of.columns (λ (c : ColumnDef). c.name) ∙ (sym (length-map s.of.columns (λ (c : ColumnDef). c.kind)) ∙ ap length (sym s.kinds_are)))
-
-some_there : {X : Type 0} (o : Option X) → not (is_some o) ≡ false → (x : X) × (o ≡ Some x)
-some_there None e = absurd (cc)
-some_there (Some x) e = (x, refl)
+use Rattle.query_laws.proofs.SoundLemmas.{named_numbered, numbered_more, numbered_cases, object_more, table_more, same_kinds}
 
 -- ---- the tables that a view reads
 
@@ -72,122 +34,125 @@ some_there (Some x) e = (x, refl)
 abbrev pub sources_by : Schema → TableDef → Option (TableDef × List ℕ) → List ℕ
 sources_by objects first second = first.number ∷ elim (option_map (second_kept objects first) second) [ None ↦ [] | Some s ↦ s.table ∷ [] ]
 
--- the tables that a view reads are those that its query sees
-pub record AreSources (objects : Schema) (numbers : List ℕ) (scope : List Visible) : Type 0 where
+-- the tables that a view reads are those of its query
+pub record AreSources (objects : Schema) (numbers : List ℕ) (sources : List Object) : Type 0 where
   pub tables : AllByRecursion (IsTable objects) numbers
-  pub kinds : map (λ n. kinds_of_table (numbered objects n)) numbers ≡ kinds_seen scope
-  pub have : AllByRecursion HasKinds scope
+  pub kinds : map (λ n. kinds_of_table (numbered objects n)) numbers ≡ map (object_kinds objects) sources
+  pub have : AllByRecursion (HasKinds objects) sources
 
-of_seen : (objects : Schema) (v : Visible) (s : IsTableSeen objects v) → kinds_of_table (numbered objects s.of.number) ≡ v.kinds
-of_seen objects v s = ap kinds_of_table s.there ∙ sym s.kinds_are
+has_kinds : (objects : Schema) (t : TableDef) → HasKinds objects (table t)
+has_kinds objects t = length-map t.columns (λ (c : ColumnDef). c.name) ∙ sym (length-map t.columns (λ (c : ColumnDef). c.kind))
 
-one_source : (objects : Schema) (v : Visible) (s : IsTableSeen objects v) → AreSources objects (s.of.number ∷ []) (v ∷ [])
-one_source objects v s = record { tables = ((s.of, s.there), tt); kinds = λ i. of_seen objects v s i ∷ []; have = (has_kinds objects v s, tt) }
+-- the second table that a join brings in
+abbrev pub second_by : Option TableDef → Tree → Option (TableDef × List ℕ)
+second_by o on = option_map (λ second. (second, join_columns (terms on) second)) o
 
-two_sources : (objects : Schema) (v w : Visible) (s : IsTableSeen objects v) (t : IsTableSeen objects w) → AreSources objects (s.of.number ∷ t.of.number ∷ []) (v ∷ w ∷ [])
-two_sources objects v w s t = record {
-  tables = ((s.of, s.there), ((t.of, t.there), tt));
-  kinds = λ i. of_seen objects v s i ∷ of_seen objects w t i ∷ [];
-  have = (has_kinds objects v s, (has_kinds objects w t, tt));
-}
+second_source : (db : Database) → IsSound db → (first : TableDef) → IsThere db.schema (table first) → (o : Object) → IsThere db.schema o → (on : Tree) → joins_tables (Some first) (as_table o) on ≡ true
+    → AreSources db.schema (sources_by db.schema first (second_by (as_table o) on)) (table first ∷ o ∷ [])
+second_source db sound first here (index i) there on many = absurd (cc)
+second_source db sound first here (view v) there on many = absurd (cc)
+second_source db sound first here (table second) there on many =
+    let first_is = named_numbered db sound here.0 (table first) here.1 in
+    let second_is = named_numbered db sound there.0 (table second) there.1 in
+    record {
+      tables = ((first, first_is), ((second, second_is), tt));
+      kinds = λ i. kinds_of_table (first_is i) ∷ kinds_of_table (second_is i) ∷ [];
+      have = (has_kinds db.schema first, (has_kinds db.schema second, tt));
+    }
 
--- the second table is one that the query sees
-second_source : (db : Database) → IsSound db → (relation : Relation) (join : JoinTree) (first : TableDef) → table_of (visible db.schema relation) ≡ Some first
-    → (o : Option TableDef) → table_of (visible db.schema join.relation) ≡ o → (on : Tree) → joins_tables (Some first) o on ≡ true → (columns : TableDef → List ℕ)
-    → AreSources db.schema (sources_by db.schema first (option_map (λ second. (second, columns second)) o)) (visible db.schema relation ∷ visible db.schema join.relation ∷ [])
-second_source db sound relation join first e None f on many columns = absurd (cc)
-second_source db sound relation join first e (Some second) f on many columns =
-    let s = seen db sound relation.name (called relation) first e in
-    let t = seen db sound join.relation.name (called join.relation) second f in
-    subst (λ (a : TableDef). AreSources db.schema (a.number ∷ second.number ∷ []) (visible db.schema relation ∷ visible db.schema join.relation ∷ [])) s.1
-    (subst (λ (b : TableDef). AreSources db.schema (s.0.of.number ∷ b.number ∷ []) (visible db.schema relation ∷ visible db.schema join.relation ∷ [])) t.1
-    (two_sources db.schema (visible db.schema relation) (visible db.schema join.relation) s.0 t.0))
+sources_so : (db : Database) → IsSound db → (first : TableDef) (joins : List Joined) → AllByRecursion (IsThere db.schema) (table first ∷ map (λ (j : Joined). j.object) joins) → is_many_to_one (table first) joins ≡ true
+    → AreSources db.schema (sources_by db.schema first (elim joins as (λ (l : List Joined). Option (TableDef × List ℕ)) [ [] ↦ None | j ∷ js ↦ second_by (as_table j.object) j.on ])) (table first ∷ map (λ (j : Joined). j.object) joins)
+sources_so db sound first [] there many =
+    let first_is = named_numbered db sound there.0.0 (table first) there.0.1 in
+    record { tables = ((first, first_is), tt); kinds = λ i. kinds_of_table (first_is i) ∷ []; have = (has_kinds db.schema first, tt) }
+sources_so db sound first (j ∷ []) there many = second_source db sound first there.0 j.object there.1.0 j.on many
+sources_so db sound first (j ∷ other ∷ joins) there many = absurd (cc)
 
-pub sources_are : (db : Database) → IsSound db → (relation : Relation) (joins : List JoinTree) (first : TableDef) → table_of (visible db.schema relation) ≡ Some first
-    → is_many_to_one (map (visible db.schema) (relation ∷ map (λ (join : JoinTree). join.relation) joins)) joins ≡ true
-    → AreSources db.schema (sources_by db.schema first (second_of (map (visible db.schema) (relation ∷ map (λ (join : JoinTree). join.relation) joins)) joins)) (map (visible db.schema) (relation ∷ map (λ (join : JoinTree). join.relation) joins))
-sources_are db sound relation [] first e many =
-    let s = seen db sound relation.name (called relation) first e in
-    subst (λ (t : TableDef). AreSources db.schema (t.number ∷ []) (visible db.schema relation ∷ [])) s.1 (one_source db.schema (visible db.schema relation) s.0)
-sources_are db sound relation (join ∷ []) first e many =
-    let scope : List Visible = visible db.schema relation ∷ visible db.schema join.relation ∷ [] in
-    let on = bound scope join.on in
-    second_source db sound relation join first e (table_of (visible db.schema join.relation)) refl on
-    (ap (λ o. joins_tables o (table_of (visible db.schema join.relation)) on) (sym e) ∙ many) (λ second. join_columns (terms on) second)
-sources_are db sound relation (join ∷ other ∷ joins) first e many = absurd (cc)
+pub table_is : (o : Object) (t : TableDef) → as_table o ≡ Some t → o ≡ table t
+table_is (table u) t e = ap table (some_same u t e)
+table_is (index i) t e = absurd (cc)
+table_is (view v) t e = absurd (cc)
+
+pub sources_are : (db : Database) → IsSound db → (q : ResolvedQuery) → AllByRecursion (IsThere db.schema) (sources_of q) → (first : TableDef) → as_table q.first ≡ Some first → is_many_to_one q.first q.joins ≡ true
+    → AreSources db.schema (sources_by db.schema first (second_of q)) (sources_of q)
+sources_are db sound q there first e many =
+    let is : q.first ≡ table first = table_is q.first first e in
+    subst (λ (o : Object). AreSources db.schema (sources_by db.schema first (second_of q)) (o ∷ map (λ (j : Joined). j.object) q.joins)) (sym is)
+    (sources_so db sound first q.joins (subst (IsThere db.schema) is there.0, there.1) (subst (λ (o : Object). is_many_to_one o q.joins ≡ true) is many))
 
 -- ---- what is created
 
-of_create : (o x : Object) → statement.create o ≡ statement.create x → o ≡ x
+pub of_create : (o x : Object) → statement.create o ≡ statement.create x → o ≡ x
 of_create o x e = cc
 
 -- an object with its number
 abbrev IsNew : Schema → Object → Type 0
 IsNew objects o = IsObject (objects ++ o ∷ []) (length objects + 1) o
 
-and_rest : (a b : Bool) → not a && not b ≡ false → a ≡ false → b ≡ true
+pub and_rest : (a b : Bool) → not a && not b ≡ false → a ≡ false → b ≡ true
 and_rest true b e f = absurd (cc)
 and_rest false true e f = refl
 and_rest false false e f = absurd (cc)
 
-or_first : (a b : Bool) → a || b ≡ false → a ≡ false
+pub or_first : (a b : Bool) → a || b ≡ false → a ≡ false
 or_first true b e = absurd (cc)
 or_first false b e = refl
 
-new_view : (db : Database) → IsSound db → (name : List ℕ) (q : QueryTree) (first : TableDef) → table_of (visible db.schema q.first) ≡ Some first → is_many_to_one (scope_of db.schema q) q.joins ≡ true
-    → IsNew db.schema (made_view db.schema name q (scope_of db.schema q) first)
-new_view db sound name q first e many =
-    let scope : List Visible = scope_of db.schema q in
-    let made : Object = made_view db.schema name q scope first in
-    let sources : List ℕ = sources_by db.schema first (second_of scope q.joins) in
-    let s : AreSources db.schema sources scope = sources_are db sound q.first q.joins first e many in
+-- the query of a view that is bound is grouped, and so of one table or two
+pub many_to_one : (objects : Schema) (size : ℕ) (name : List ℕ) (q : ResolvedQuery) → AllByRecursion IsPassed (tests objects size (resolving.view name q)) → is_many_to_one q.first q.joins ≡ true
+many_to_one objects size name q passed = and_rest (is_empty q.group) (is_many_to_one q.first q.joins) passed.1.1.1.1.0 (or_first (is_empty q.group) _ passed.1.1.1.1.1.0)
+
+new_view : (db : Database) → IsSound db → (name : List ℕ) (q : ResolvedQuery) → IsQuery db.schema q → (first : TableDef) → as_table q.first ≡ Some first → is_many_to_one q.first q.joins ≡ true
+    → IsNew db.schema (made_view db.schema name q first)
+new_view db sound name q is first e many =
+    let made : Object = made_view db.schema name q first in
+    let sources : List ℕ = sources_by db.schema first (second_of q) in
+    let s : AreSources db.schema sources (sources_of q) = sources_are db sound q is.there first e many in
     let kinds = same_kinds db.schema made sources s.tables ∙ s.kinds in (
       refl,
       record {
         tables = All-from_recursion (IsTable (db.schema ++ made ∷ [])) sources (each_to (IsTable db.schema) (IsTable (db.schema ++ made ∷ [])) (table_more db.schema made) sources s.tables);
-        group = All-from_recursion (IsKnown (map (λ n. kinds_of_table (numbered (db.schema ++ made ∷ []) n)) sources)) (group_of scope q)
-            (subst (λ (l : List (List Kind)). AllByRecursion (IsKnown l) (group_of scope q)) (sym kinds) (group_known scope s.have q));
+        group = All-from_recursion (IsKnown (map (λ n. kinds_of_table (numbered (db.schema ++ made ∷ []) n)) sources)) q.group
+            (subst (λ (l : List (List Kind)). AllByRecursion (IsKnown l) q.group) (sym kinds) (is.group s.have));
       },
     )
 
-by_first : (db : Database) → IsSound db → (name : List ℕ) (q : QueryTree) (f : Option TableDef) → table_of (visible db.schema q.first) ≡ f → is_many_to_one (scope_of db.schema q) q.joins ≡ true → (o : Object)
-    → elim f [ None ↦ statement.control | Some first ↦ statement.create (made_view db.schema name q (scope_of db.schema q) first) ] ≡ statement.create o → IsNew db.schema o
-by_first db sound name q None f many o e = absurd (cc)
-by_first db sound name q (Some first) f many o e =
-    subst (IsNew db.schema) (of_create (made_view db.schema name q (scope_of db.schema q) first) o e) (new_view db sound name q first f many)
+by_first : (db : Database) → IsSound db → (name : List ℕ) (q : ResolvedQuery) → IsQuery db.schema q → (f : Option TableDef) → as_table q.first ≡ f → is_many_to_one q.first q.joins ≡ true → (o : Object)
+    → elim f [ None ↦ statement.control | Some first ↦ statement.create (made_view db.schema name q first) ] ≡ statement.create o → IsNew db.schema o
+by_first db sound name q is None f many o e = absurd (cc)
+by_first db sound name q is (Some first) f many o e = subst (IsNew db.schema) (of_create (made_view db.schema name q first) o e) (new_view db sound name q is first f many)
 
-created_new : (db : Database) → IsSound db → (s : StatementTree) (o : Object) → AllByRecursion Keeps (rules_of db.schema s) → bound_to db.schema s ≡ statement.create o → IsNew db.schema o
-created_new db sound (create_table name columns primary) o rules e =
-    let t : TableDef = record { number = length db.schema + 1; name = name; columns = columns; primary = places_of (map (λ c. c.name) columns) primary } in
-    subst (IsNew db.schema) (of_create (table t) o e)
-    (refl, are_columns t (map (λ c. c.name) columns) primary (length-map columns (λ (c : ColumnDef). c.name)))
-created_new db sound (create_index name target columns) o rules e =
-    let v : Visible = seen_as db.schema target target in
-    let there = some_there (table_of v) rules.1.0 in
-    let s = seen db sound target target there.0 there.1 in
-    let i : IndexDef = record { number = length db.schema + 1; name = name; table = target_number db.schema target; columns = places_of v.columns columns } in
-    let its_table : target_number db.schema target ≡ s.0.of.number = ap (λ x. option_map_or object_number x 0) s.0.object_is in
-    subst (IsNew db.schema) (of_create (index i) o e) (
+new_index : (db : Database) → IsSound db → (name : List ℕ) (target : Object) (columns : List ℕ) → IsResolved db.schema (resolving.index name target columns) → not (is_some (as_table target)) ≡ false
+    → IsNew db.schema (index (record { number = length db.schema + 1; name = name; table = object_number target; columns = columns }))
+new_index db sound name (table t) columns is rule =
+    let i : IndexDef = record { number = length db.schema + 1; name = name; table = t.number; columns = columns } in (
       refl,
       record {
-        of = s.0.of;
-        table_is = numbered_more db.schema (index i) (target_number db.schema target) (table s.0.of) (ap (numbered db.schema) its_table ∙ s.0.there);
-        columns = are_columns s.0.of v.columns columns (ap length s.0.columns_are ∙ length-map s.0.of.columns (λ (c : ColumnDef). c.name));
+        of = t;
+        table_is = numbered_more db.schema (index i) t.number (table t) (named_numbered db sound is.0.0 (table t) is.0.1);
+        columns = All-from_recursion (λ p. p < length t.columns) columns (subst (λ n. AllByRecursion (λ p. p < n) columns) (length-map t.columns (λ (c : ColumnDef). c.name)) is.1);
       },
     )
-created_new db sound (create_view name q) o rules e =
-    let grouped : is_empty q.group ≡ false = or_first (is_empty q.group) _ rules.1.1.1.1.1.0 in
-    by_first db sound name q (first_of (scope_of db.schema q)) refl (and_rest (is_empty q.group) (is_many_to_one (scope_of db.schema q) q.joins) rules.1.1.1.1.0 grouped) o e
-created_new db sound (insert target tuples) o rules e = absurd (cc)
-created_new db sound (update target sets condition) o rules e = absurd (cc)
-created_new db sound (delete target condition) o rules e = absurd (cc)
-created_new db sound (select q order) o rules e = absurd (cc)
-created_new db sound s o rules e = absurd (cc)
+new_index db sound name (index i) columns is rule = absurd (cc)
+new_index db sound name (view v) columns is rule = absurd (cc)
+
+created_new : (db : Database) → IsSound db → (to : Resolved) (size : ℕ) → IsResolved db.schema to → AllByRecursion IsPassed (tests db.schema size to) → (o : Object) → bound_of db.schema to ≡ statement.create o → IsNew db.schema o
+created_new db sound (resolving.table name columns primary) size is passed o e =
+    let t : TableDef = record { number = length db.schema + 1; name = name; columns = columns; primary = primary } in
+    subst (IsNew db.schema) (of_create (table t) o e) (refl, All-from_recursion (λ p. p < length columns) primary is)
+created_new db sound (resolving.index name target columns) size is passed o e =
+    subst (IsNew db.schema) (of_create (index (record { number = length db.schema + 1; name = name; table = object_number target; columns = columns })) o e) (new_index db sound name target columns is passed.1.0)
+created_new db sound (resolving.view name q) size is passed o e = by_first db sound name q is (as_table q.first) refl (many_to_one db.schema size name q passed) o e
+created_new db sound (resolving.insert target tuples) size is passed o e = absurd (cc)
+created_new db sound (resolving.update target sets condition) size is passed o e = absurd (cc)
+created_new db sound (resolving.delete target condition) size is passed o e = absurd (cc)
+created_new db sound (resolving.select q order) size is passed o e = absurd (cc)
+created_new db sound resolving.control size is passed o e = absurd (cc)
 
 pub created_law : CreatedLaw
 created_law db sound s o e =
-    let b = rules_hold db.schema s (statement.create o) e in
-    let new : IsNew db.schema o = created_new db sound s o b.0 b.1 in
+    let b = is_bound db.schema s (statement.create o) e in
+    let new : IsNew db.schema o = created_new db sound b.to b.size b.is_resolved b.passed o b.made in
     record {
       objects = λ n x there. elim (numbered_cases db.schema o n x there) [
         | inl old ↦ object_more db.schema o n x (sound.objects n x old)

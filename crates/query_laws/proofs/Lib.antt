@@ -12,5 +12,6 @@ pub mod Relations
 pub mod WholeViews
 pub mod ReadingLemmas
 pub mod Asking
+pub mod Bound
 pub mod SoundLemmas
 pub mod CreatingLemmas

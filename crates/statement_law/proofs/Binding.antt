@@ -1,52 +1,50 @@
 -- What a bound INSERT, UPDATE or DELETE is of: a table of the database, whose rows it makes as they should be.
 use Rattle.std.specs.Prelude.{◌≡◌, ℕ, zero, suc, ◌+◌, ◌==◌, ◌&&◌, not, is_some, Bool, true, false, cond, List, [], ◌∷◌, map, length, slice_get, Option, Some, None, Ok}
-use Rattle.std.specs.List.{AllByRecursion, flat_map, list_all, list_any, cons_option}
-use Rattle.std.specs.Option.{option_map, option_map_or, option_and_then}
+use Rattle.std.specs.List.{AllByRecursion, list_all, list_any, cons_option}
+use Rattle.std.specs.Option.{option_and_then}
 use mathlib.Core.Path.{refl, sym, ap, subst, ◌∙◌}
-use Rattle.std.proofs.Common.{arith, eqb-true, append-nil}
+use Rattle.std.proofs.Common.{arith, eqb-true}
 use Rattle.std.proofs.lemmas.List.{length-map}
 use Rattle.iv_types.specs.declared.value.Kind.{Kind}
 use Rattle.iv_types.specs.declared.value.Value.{Value}
 use Rattle.iv_types.specs.declared.statement.ColumnDef.{ColumnDef}
+use Rattle.iv_types.specs.declared.statement.Order.{Order}
 use Rattle.iv_types.specs.declared.catalog.TableDef.{TableDef}
 use Rattle.iv_types.specs.Encoding.{kinds_of, FitAll, Fits, key_bytes, fits}
-use Rattle.iv_types.specs.declared.expression.ColumnAt.{ColumnAt}
-use Rattle.iv_types.specs.Syntax.{Tree, SetTree, insert, update, delete}
-use Rattle.iv_meaning.specs.Schema.{Object, table, index, view, numbered, named, column_names, object_columns, items_at, key_kinds, as_table, primary_of}
+use Rattle.iv_types.specs.Syntax as tree
+use Rattle.iv_types.specs.Syntax.{Tree, StatementTree, QueryTree}
+use Rattle.iv_meaning.specs.Schema.{Schema, Object, table, index, view, numbered, column_names, object_columns, items_at, key_kinds, as_table, primary_of}
 use Rattle.iv_meaning.specs.Database.{Row, Database, key_of}
-use Rattle.iv_meaning.specs.Names.{Visible, seen_as, bound, columns_named}
-use Rattle.iv_meaning.specs.Shape.{is_table, places_of, object_number}
+use Rattle.iv_meaning.specs.Shape.{object_number}
 use Rattle.iv_meaning.specs.Values.{meaning, value_of}
 use Rattle.iv_meaning.specs.Grouping.{all_of}
 use Rattle.iv_meaning.specs.Statement as statement
-use Rattle.iv_meaning.specs.Statement.{BoundSet, if_fitting, stored, tuple_values, tuple_rows, column_after, columns_after, row_after}
-use Rattle.iv_meaning.specs.Binding.{bind, target_number}
+use Rattle.iv_meaning.specs.Statement.{BoundTree, BoundSet, if_fitting, stored, tuple_values, tuple_rows, column_after, columns_after, row_after}
+use Rattle.iv_meaning.specs.Query.{BoundQuery}
+use Rattle.iv_meaning.specs.Resolving as resolving
+use Rattle.iv_meaning.specs.Resolving.{Resolved}
+use Rattle.iv_meaning.specs.Tests.{tests}
+use Rattle.iv_meaning.specs.Passes.{bind, bound_of, made_view}
 use Rattle.iv_meaning.specs.Sound.{IsSound}
+use Rattle.script_law.specs.Works.{is_work}
 use Rattle.query_laws.proofs.WholeViews.{all_of_cons}
-use Rattle.statement_law.proofs.Each.{each_parts, paired}
-use Rattle.query_laws.proofs.SoundLemmas.{rules_hold, named_numbered, neither}
-use Rattle.query_laws.proofs.Each.{each_to, each_append}
+use Rattle.query_laws.proofs.Bound.{IsThere, AreAlike, IsResolved, IsPassed, is_bound}
+use Rattle.query_laws.proofs.SoundLemmas.{named_numbered, neither}
+use Rattle.query_laws.proofs.Each.{each_to}
+use Rattle.statement_law.proofs.Each.{paired}
 
 -- ---- the table
 
--- a name stands for this table, which has its number
-pub record IsNamed (db : Database) (name : List ℕ) : Type 0 where
+-- the number is that of a table
+pub record IsTarget (db : Database) (number : ℕ) : Type 0 where
   pub of : TableDef
-  pub object_is : named db.schema name ≡ Some (table of)
+  pub number_is : of.number ≡ number
   pub there : numbered db.schema of.number ≡ Some (table of)
 
-is_named : (db : Database) → IsSound db → (name : List ℕ) (o : Option Object) → named db.schema name ≡ o → not (is_some (option_and_then as_table o)) ≡ false → IsNamed db name
-is_named db sound name None e h = absurd (cc)
-is_named db sound name (Some (index i)) e h = absurd (cc)
-is_named db sound name (Some (view v)) e h = absurd (cc)
-is_named db sound name (Some (table t)) e h = record { of = t; object_is = e; there = named_numbered db sound name (table t) e }
-
-module _ (db : Database) (name : List ℕ) (n : IsNamed db name) where
-  pub number_is : target_number db.schema name ≡ n.of.number
-  number_is = ap (λ o. option_map_or object_number o 0) n.object_is
-
-  pub columns_are : (seen_as db.schema name name).columns ≡ column_names n.of
-  columns_are = ap (λ o. option_map_or object_columns o []) n.object_is
+target_is : (db : Database) → IsSound db → (o : Object) → IsThere db.schema o → not (is_some (as_table o)) ≡ false → IsTarget db (object_number o)
+target_is db sound (index i) there h = absurd (cc)
+target_is db sound (view v) there h = absurd (cc)
+target_is db sound (table t) there h = record { of = t; number_is = refl; there = named_numbered db sound there.0 (table t) there.1 }
 
 -- ---- INSERT
 
@@ -91,31 +89,16 @@ tuples_fit t (tuple ∷ tuples) h rows e =
     subst (AllByRecursion (FitAll (kinds_of t))) (sym parts.4) (tuple_fits (kinds_of t) tuple parts.0 same parts.2, tuples_fit t tuples long.1 parts.1 parts.3)
 
 -- a bound INSERT
-pub record IsInsert (db : Database) (target : List ℕ) (tuples : List (List Tree)) : Type 0 where
-  pub named : IsNamed db target
-  pub long : list_all (λ tuple. length tuple == length (column_names named.of)) tuples ≡ true
+pub record IsInsert (db : Database) (number : ℕ) (tuples : List (List Tree)) : Type 0 where
+  pub target : IsTarget db number
+  pub long : list_all (λ tuple. length tuple == length (column_names target.of)) tuples ≡ true
 
-pub bound_insert : (db : Database) → IsSound db → (target : List ℕ) (tuples : List (List Tree)) (what : statement.BoundTree) → bind db.schema (insert target tuples) ≡ Ok what
-    → IsInsert db target tuples × (statement.insert (target_number db.schema target) tuples ≡ what)
-bound_insert db sound target tuples what e =
-    let b = rules_hold db.schema (insert target tuples) what e in
-    let n : IsNamed db target = is_named db sound target (named db.schema target) refl b.0.1.0 in
-    let v = seen_as db.schema target target in (
-      record {
-        named = n;
-        long = subst (λ (l : List (List ℕ)). list_all (λ (tuple : List Tree). length tuple == length l) tuples ≡ true) (columns_are db target n)
-            (left_is (is_table v) (list_all (λ (tuple : List Tree). length tuple == length v.columns) tuples) (not_not (is_table v) b.0.1.0) b.0.0);
-      },
-      b.1,
-    )
-
--- ---- DELETE
-
-pub bound_delete : (db : Database) → IsSound db → (target : List ℕ) (condition : Option Tree) (what : statement.BoundTree) → bind db.schema (delete target condition) ≡ Ok what
-    → IsNamed db target × (statement.delete (target_number db.schema target) (option_map (bound (seen_as db.schema target target ∷ [])) condition) ≡ what)
-bound_delete db sound target condition what e =
-    let b = rules_hold db.schema (delete target condition) what e in
-    (is_named db sound target (named db.schema target) refl b.0.0, b.1)
+insert_is : (db : Database) → IsSound db → (o : Object) (tuples : List (List Tree)) → IsThere db.schema o → (is_some (as_table o) && not (list_all (λ tuple. length tuple == length (object_columns o)) tuples)) ≡ false
+    → not (is_some (as_table o)) ≡ false → IsInsert db (object_number o) tuples
+insert_is db sound (index i) tuples there long h = absurd (cc)
+insert_is db sound (view v) tuples there long h = absurd (cc)
+insert_is db sound (table t) tuples there long h =
+    record { target = record { of = t; number_is = refl; there = named_numbered db sound there.0 (table t) there.1 }; long = left_is true (list_all (λ (tuple : List Tree). length tuple == length (column_names t)) tuples) refl long }
 
 -- ---- UPDATE
 
@@ -192,45 +175,74 @@ row_after_fits t ss none row after f e = (
     from_zero : (p : ℕ) → 0 + p ≡ p
     from_zero p = omega arith
 
--- the assignments of a statement, and their places
-abbrev pub sets_to : Visible → List SetTree → List BoundSet
-sets_to v ss = flat_map (λ x. map (λ place. record { column = place; value = bound (v ∷ []) x.value }) (places_of v.columns (x.name ∷ []))) ss
-
-map_sets : (P : ℕ → Type 0) (value : Tree) (places : List ℕ) → AllByRecursion P places → AllByRecursion (λ (s : BoundSet). P s.column) (map (λ place. record { column = place; value = value }) places)
-map_sets P value [] h = tt
-map_sets P value (p ∷ places) h = (h.0, map_sets P value places h.1)
-
-places_sets : (P : ℕ → Type 0) (v : Visible) (ss : List SetTree) → AllByRecursion P (places_of v.columns (map (λ (x : SetTree). x.name) ss)) → AllByRecursion (λ (s : BoundSet). P s.column) (sets_to v ss)
-places_sets P v [] h = tt
-places_sets P v (x ∷ ss) h =
-    let here : List ℕ = map (λ (place : ColumnAt). place.column) (columns_named x.name 0 0 v.columns) in
-    let parts = each_parts P here (places_of v.columns (map (λ (x : SetTree). x.name) ss)) h in
-    each_append (λ (s : BoundSet). P s.column) (map (λ place. record { column = place; value = bound (v ∷ []) x.value }) (places_of v.columns (x.name ∷ []))) (sets_to v ss)
-    (map_sets P (bound (v ∷ []) x.value) (places_of v.columns (x.name ∷ [])) (subst (AllByRecursion P) (sym (append-nil here)) parts.0)) (places_sets P v ss parts.1)
-
 -- a bound UPDATE
-pub record IsUpdate (db : Database) (target : List ℕ) (ss : List BoundSet) : Type 0 where
-  pub named : IsNamed db target
-  pub keeps_key : AllByRecursion (SetsNot ss) named.of.primary
+pub record IsUpdate (db : Database) (number : ℕ) (ss : List BoundSet) : Type 0 where
+  pub target : IsTarget db number
+  pub keeps_key : AllByRecursion (SetsNot ss) target.of.primary
 
-pub bound_update : (db : Database) → IsSound db → (target : List ℕ) (ss : List SetTree) (condition : Option Tree) (what : statement.BoundTree) → bind db.schema (update target ss condition) ≡ Ok what
-    → IsUpdate db target (sets_to (seen_as db.schema target target) ss)
-    × (statement.update (target_number db.schema target) (sets_to (seen_as db.schema target target) ss) (option_map (bound (seen_as db.schema target target ∷ [])) condition) ≡ what)
-bound_update db sound target ss condition what e =
-    let b = rules_hold db.schema (update target ss condition) what e in
-    let n : IsNamed db target = is_named db sound target (named db.schema target) refl b.0.1.1.0 in
-    let v : Visible = seen_as db.schema target target in
-    let primary : primary_of v.object ≡ n.of.primary = ap primary_of n.object_is in
-    let places : List ℕ = places_of v.columns (map (λ (x : SetTree). x.name) ss) in
-    let none : AllByRecursion (λ place. AllByRecursion (λ key. (place == key) ≡ false) n.of.primary) places =
-    each_to (λ place. list_any (λ key. key == place) (primary_of v.object) ≡ false) (λ place. AllByRecursion (λ key. (place == key) ≡ false) n.of.primary)
-    (λ place h. each_to (λ key. (key == place) ≡ false) (λ key. (place == key) ≡ false) (λ key k. turned key place k) n.of.primary
-    (none_of (λ key. key == place) n.of.primary (subst (λ l. list_any (λ key. key == place) l ≡ false) primary h))) places
-    (none_of (λ place. list_any (λ key. key == place) (primary_of v.object)) places b.0.0) in (
-      record {
-        named = n;
-        keeps_key = swapped (λ (s : BoundSet) (key : ℕ). (s.column == key) ≡ false) (sets_to v ss) n.of.primary
-            (places_sets (λ place. AllByRecursion (λ key. (place == key) ≡ false) n.of.primary) v ss none);
-      },
-      b.1,
-    )
+update_is : (db : Database) → IsSound db → (o : Object) (ss : List BoundSet) → IsThere db.schema o → list_any (λ a. list_any (λ key. key == a.column) (primary_of (Some o))) ss ≡ false
+    → not (is_some (as_table o)) ≡ false → IsUpdate db (object_number o) ss
+update_is db sound (index i) ss there keys h = absurd (cc)
+update_is db sound (view v) ss there keys h = absurd (cc)
+update_is db sound (table t) ss there keys h =
+    let none : AllByRecursion (λ (a : BoundSet). AllByRecursion (λ key. (a.column == key) ≡ false) t.primary) ss =
+    each_to (λ (a : BoundSet). list_any (λ key. key == a.column) t.primary ≡ false) (λ (a : BoundSet). AllByRecursion (λ key. (a.column == key) ≡ false) t.primary)
+    (λ a g. each_to (λ key. (key == a.column) ≡ false) (λ key. (a.column == key) ≡ false) (λ key k. turned key a.column k) t.primary (none_of (λ key. key == a.column) t.primary g)) ss
+    (none_of (λ (a : BoundSet). list_any (λ key. key == a.column) t.primary) ss keys) in
+    record { target = record { of = t; number_is = refl; there = named_numbered db sound there.0 (table t) there.1 }; keeps_key = swapped (λ (a : BoundSet) (key : ℕ). (a.column == key) ≡ false) ss t.primary none }
+
+-- ---- what a bound statement is of
+
+-- a statement on a table is of one that is there
+abbrev pub IsOf : Database → BoundTree → Type 0
+IsOf db (statement.insert number tuples) = IsInsert db number tuples
+IsOf db (statement.update number ss condition) = IsUpdate db number ss
+IsOf db (statement.delete number condition) = IsTarget db number
+IsOf db _ = Unit {0}
+
+of_resolved : (db : Database) → IsSound db → (to : Resolved) (size : ℕ) → IsResolved db.schema to → AllByRecursion IsPassed (tests db.schema size to) → IsOf db (bound_of db.schema to)
+of_resolved db sound (resolving.insert target tuples) size is passed = insert_is db sound target tuples is passed.0 passed.1.0
+of_resolved db sound (resolving.update target ss condition) size is passed = update_is db sound target ss is passed.0 passed.1.1.0
+of_resolved db sound (resolving.delete target condition) size is passed = target_is db sound target is passed.0
+of_resolved db sound (resolving.select q order) size is passed = tt
+of_resolved db sound (resolving.table name columns primary) size is passed = tt
+of_resolved db sound (resolving.index name target columns) size is passed = tt
+of_resolved db sound (resolving.view name q) size is passed = by (as_table q.first)
+  where
+    by : (f : Option TableDef) → IsOf db (elim f [ None ↦ statement.control | Some first ↦ statement.create (made_view db.schema name q first) ])
+    by None = tt
+    by (Some first) = tt
+of_resolved db sound resolving.control size is passed = tt
+
+pub bound_so : (db : Database) → IsSound db → (s : StatementTree) (what : BoundTree) → bind db.schema s ≡ Ok what → IsOf db what
+bound_so db sound s what e = let b = is_bound db.schema s what e in subst (IsOf db) b.made (of_resolved db sound b.to b.size b.is_resolved b.passed)
+
+-- a SELECT, or a statement on a table
+abbrev pub IsWork : BoundTree → Type 0
+IsWork (statement.select query) = Unit {0}
+IsWork (statement.insert number tuples) = Unit {0}
+IsWork (statement.update number ss condition) = Unit {0}
+IsWork (statement.delete number condition) = Unit {0}
+IsWork _ = ⊥
+
+work_of : (objects : Schema) (s : StatementTree) (to : Resolved) → is_work s ≡ true → AreAlike s to → IsWork (bound_of objects to)
+work_of objects (tree.insert target tuples) (resolving.insert o ts) w alike = tt
+work_of objects (tree.insert target tuples) _ w alike = absurd alike
+work_of objects (tree.update target ss condition) (resolving.update o sets c) w alike = tt
+work_of objects (tree.update target ss condition) _ w alike = absurd alike
+work_of objects (tree.delete target condition) (resolving.delete o c) w alike = tt
+work_of objects (tree.delete target condition) _ w alike = absurd alike
+work_of objects (tree.select query order) (resolving.select q o) w alike = tt
+work_of objects (tree.select query order) _ w alike = absurd alike
+work_of objects _ to w alike = absurd (cc)
+
+pub bound_is_work : (objects : Schema) (s : StatementTree) (what : BoundTree) → is_work s ≡ true → bind objects s ≡ Ok what → IsWork what
+bound_is_work objects s what w e = let b = is_bound objects s what e in subst IsWork b.made (work_of objects s b.to w b.alike)
+
+-- a SELECT is bound to a SELECT
+pub bound_select : (objects : Schema) (query : QueryTree) (order : List Order) (what : BoundTree) → bind objects (tree.select query order) ≡ Ok what → (made : BoundQuery) × (what ≡ statement.select made)
+bound_select objects query order what e = let b = is_bound objects (tree.select query order) what e in by b.to b.alike b.made
+  where
+    by : (to : Resolved) → AreAlike (tree.select query order) to → bound_of objects to ≡ what → (made : BoundQuery) × (what ≡ statement.select made)
+    by (resolving.select q o) alike made = (_, sym made)
+    by _ alike made = absurd alike

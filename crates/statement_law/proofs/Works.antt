@@ -1,6 +1,5 @@
 -- The works of statements keep the laws of works.
 use Rattle.std.specs.Prelude.{◌≡◌, ℕ, true, List, [], ◌∷◌, None, Result, Ok, Err}
-use Rattle.std.specs.Option.{option_map}
 use mathlib.Core.Path.{refl, sym, ap, subst, ◌∙◌}
 use Rattle.iv_types.specs.declared.statement.Mode.{Mode}
 use Rattle.iv_types.specs.declared.statement.Mode.TheVariants.{Serial, Snapshot}
@@ -13,13 +12,11 @@ use Rattle.iv_types.specs.Syntax as s
 use Rattle.iv_types.specs.Syntax.{StatementTree, QueryTree}
 use Rattle.iv_meaning.specs.Schema.{Schema}
 use Rattle.iv_meaning.specs.Database.{Row, Database}
-use Rattle.iv_meaning.specs.Names.{bound, seen_as, scope_of}
-use Rattle.iv_meaning.specs.Binding.{bind, bound_query, target_number}
+use Rattle.iv_meaning.specs.Passes.{bind}
 use Rattle.iv_meaning.specs.Statement.{BoundTree, insert, update, delete, select, bound_meaning, tuple_rows, on_table, insert_meaning, update_meaning, delete_meaning, matching}
 use Rattle.iv_meaning.specs.Query.{BoundQuery}
 use Rattle.iv_meaning.specs.Reading.{Program, done as replies_with, fetch, program, sources_for}
 use Rattle.iv_meaning.specs.Transaction.{means, bound_or_refused, refused_inside}
-use Rattle.query_laws.proofs.SoundLemmas.{rules_hold}
 use Rattle.txn_machine.specs.ViewLaws.{AreSound}
 use Rattle.script_law.specs.Works.{Work, done, refuses, fetches, puts, alone_on, OnlyReads, is_work}
 use Rattle.script_law.specs.Sessions.{programs_of}
@@ -34,7 +31,7 @@ use Rattle.statement_law.specs.Laws.{WorksLaw, FitsLaw, StatementsLaw}
 use Rattle.statement_law.specs.Statements.{work_on, bound_work, work_if_bound, statement_work, the_works}
 use Rattle.statement_law.proofs.Rows.{is_sound}
 use Rattle.statement_law.proofs.Selecting.{select_right}
-use Rattle.statement_law.proofs.Binding.{IsNamed, number_is, tuples_fit, bound_insert, bound_delete, bound_update, sets_to}
+use Rattle.statement_law.proofs.Binding.{IsTarget, IsOf, IsWork, tuples_fit, bound_so, bound_is_work, bound_select}
 use Rattle.statement_law.proofs.Inserting.{insert_right}
 use Rattle.statement_law.proofs.Changing.{update_right, delete_right}
 use Rattle.statement_law.proofs.Asking.{select_fits}
@@ -46,46 +43,38 @@ module _ (mode : Mode) (db : Database) (sound : AreSound db.schema db.rows) wher
   abbrev Comes : BoundTree → Type 0
   Comes what = alone_on (bound_work mode db.schema what) db [] ≡ bound_meaning what db
 
-  -- the table of a number that a statement names
-  at_table : (target : List ℕ) (n : IsNamed db target) (f : ℕ → BoundTree) → Comes (f n.of.number) → Comes (f (target_number db.schema target))
-  at_table target n f h = subst (λ m. Comes (f m)) (sym (number_is db target n)) h
+  -- the table of a number
+  at_table : (number : ℕ) (n : IsTarget db number) (f : ℕ → BoundTree) → Comes (f n.of.number) → Comes (f number)
+  at_table number n f h = subst (λ m. Comes (f m)) n.number_is h
 
-  comes_so : (statement : StatementTree) → is_work statement ≡ true → (what : BoundTree) → bind db.schema statement ≡ Ok what → Comes what
-  comes_so (s.select query order) w what e =
-      let b = rules_hold db.schema (s.select query order) what e in
-      subst Comes b.1 (select_right mode db (is_sound db sound) (s.select query order) _ (e ∙ ap Ok (sym b.1)))
-  comes_so (s.insert target tuples) w what e =
-      let b = bound_insert db (is_sound db sound) target tuples what e in
-      let t = b.0.named.of in
-      subst Comes b.1 (at_table target b.0.named (λ m. insert m tuples)
-      (ap (λ o. alone_on (work_on (λ t. insert_work t (tuple_rows t tuples)) o) db []) b.0.named.there
-      ∙ (insert_right db t b.0.named.there sound (tuple_rows t tuples) (λ rows is. tuples_fit t tuples b.0.long rows is)
-      ∙ sym (ap (λ o. on_table (λ t. insert_meaning t (tuple_rows t tuples) db.rows) o) b.0.named.there))))
-  comes_so (s.update target ss condition) w what e =
-      let b = bound_update db (is_sound db sound) target ss condition what e in
-      let t = b.0.named.of in
-      let sets = sets_to (seen_as db.schema target target) ss in
-      let where_ = option_map (bound (seen_as db.schema target target ∷ [])) condition in
-      subst Comes b.1 (at_table target b.0.named (λ m. update m sets where_)
-      (ap (λ o. alone_on (work_on (λ t'. by_plan mode db.schema (update t.number sets where_) (λ rows. update_rows t' sets (chosen_by where_ rows))) o) db []) b.0.named.there
-      ∙ (update_right db t sound b.0.named.there mode sets where_
-      ∙ sym (ap (λ o. on_table (λ t'. update_meaning t' sets (matching t' where_ db.rows)) o) b.0.named.there))))
-  comes_so (s.delete target condition) w what e =
-      let b = bound_delete db (is_sound db sound) target condition what e in
-      let t = b.0.of in
-      let where_ = option_map (bound (seen_as db.schema target target ∷ [])) condition in
-      subst Comes b.1 (at_table target b.0 (λ m. delete m where_)
-      (ap (λ o. alone_on (work_on (λ t'. by_plan mode db.schema (delete t.number where_) (λ rows. delete_rows t' (chosen_by where_ rows))) o) db []) b.0.there
-      ∙ (delete_right db t sound b.0.there mode where_
-      ∙ sym (ap (λ o. on_table (λ t'. delete_meaning t' (matching t' where_ db.rows)) o) b.0.there))))
-  comes_so _ w what e = absurd (cc)
+  comes_so : (statement : StatementTree) (what : BoundTree) → bind db.schema statement ≡ Ok what → IsWork what → IsOf db what → Comes what
+  comes_so statement (select query) e w of = select_right mode db (is_sound db sound) statement query e
+  comes_so statement (insert number tuples) e w of =
+      let t = of.target.of in
+      at_table number of.target (λ m. insert m tuples)
+      (ap (λ o. alone_on (work_on (λ t. insert_work t (tuple_rows t tuples)) o) db []) of.target.there
+      ∙ (insert_right db t of.target.there sound (tuple_rows t tuples) (λ rows is. tuples_fit t tuples of.long rows is)
+      ∙ sym (ap (λ o. on_table (λ t. insert_meaning t (tuple_rows t tuples) db.rows) o) of.target.there)))
+  comes_so statement (update number sets where_) e w of =
+      let t = of.target.of in
+      at_table number of.target (λ m. update m sets where_)
+      (ap (λ o. alone_on (work_on (λ t'. by_plan mode db.schema (update t.number sets where_) (λ rows. update_rows t' sets (chosen_by where_ rows))) o) db []) of.target.there
+      ∙ (update_right db t sound of.target.there mode sets where_
+      ∙ sym (ap (λ o. on_table (λ t'. update_meaning t' sets (matching t' where_ db.rows)) o) of.target.there)))
+  comes_so statement (delete number where_) e w of =
+      let t = of.of in
+      at_table number of (λ m. delete m where_)
+      (ap (λ o. alone_on (work_on (λ t'. by_plan mode db.schema (delete t.number where_) (λ rows. delete_rows t' (chosen_by where_ rows))) o) db []) of.there
+      ∙ (delete_right db t sound of.there mode where_
+      ∙ sym (ap (λ o. on_table (λ t'. delete_meaning t' (matching t' where_ db.rows)) o) of.there)))
+  comes_so statement _ e w of = absurd w
 
   pub right : (statement : StatementTree) → is_work statement ≡ true → alone_on (statement_work mode db.schema statement) db [] ≡ means statement db
   right statement w = by (bind db.schema statement) refl
     where
       by : (r : Result BoundTree Refusal) → bind db.schema statement ≡ r → alone_on (work_if_bound mode db.schema r) db [] ≡ bound_or_refused r db
       by (Err why) e = refl
-      by (Ok what) e = comes_so statement w what e
+      by (Ok what) e = comes_so statement what e (bound_is_work db.schema statement what w e) (bound_so db (is_sound db sound) statement what e)
 
 -- ---- each step fits, and what is left is sound
 
@@ -93,50 +82,42 @@ module _ (db : Database) (sound : AreSound db.schema db.rows) where
   abbrev FitsSo : BoundTree → Type 0
   FitsSo what = (locks : List Want) → EachFits Serial db (bound_work Serial db.schema what) locks []
 
-  fits_at : (target : List ℕ) (n : IsNamed db target) (f : ℕ → BoundTree) → FitsSo (f n.of.number) → FitsSo (f (target_number db.schema target))
-  fits_at target n f h = subst (λ m. FitsSo (f m)) (sym (number_is db target n)) h
+  fits_at : (number : ℕ) (n : IsTarget db number) (f : ℕ → BoundTree) → FitsSo (f n.of.number) → FitsSo (f number)
+  fits_at number n f h = subst (λ m. FitsSo (f m)) n.number_is h
 
-  fits_so : (statement : StatementTree) → is_work statement ≡ true → (what : BoundTree) → bind db.schema statement ≡ Ok what → FitsSo what
-  fits_so (s.select query order) w what e =
-      let b = rules_hold db.schema (s.select query order) what e in
-      subst FitsSo b.1 (λ locks. select_fits db (is_sound db sound) Serial (bound_query (scope_of db.schema query) query order) locks [])
-  fits_so (s.insert target tuples) w what e =
-      let b = bound_insert db (is_sound db sound) target tuples what e in
-      let t = b.0.named.of in
-      subst FitsSo b.1 (fits_at target b.0.named (λ m. insert m tuples) (λ locks.
-      subst (λ o. EachFits Serial db (work_on (λ t. insert_work t (tuple_rows t tuples)) o) locks []) (sym b.0.named.there)
-      (insert_fits db t b.0.named.there sound (tuple_rows t tuples) (λ rows is. tuples_fit t tuples b.0.long rows is) locks)))
-  fits_so (s.update target ss condition) w what e =
-      let b = bound_update db (is_sound db sound) target ss condition what e in
-      let t = b.0.named.of in
-      let sets = sets_to (seen_as db.schema target target) ss in
-      let where_ = option_map (bound (seen_as db.schema target target ∷ [])) condition in
-      subst FitsSo b.1 (fits_at target b.0.named (λ m. update m sets where_) (λ locks.
-      subst (λ o. EachFits Serial db (work_on (λ t'. by_plan Serial db.schema (update t.number sets where_) (λ rows. update_rows t' sets (chosen_by where_ rows))) o) locks []) (sym b.0.named.there)
-      (update_fits db sound t b.0.named.there where_ sets b.0.keeps_key locks)))
-  fits_so (s.delete target condition) w what e =
-      let b = bound_delete db (is_sound db sound) target condition what e in
-      let t = b.0.of in
-      let where_ = option_map (bound (seen_as db.schema target target ∷ [])) condition in
-      subst FitsSo b.1 (fits_at target b.0 (λ m. delete m where_) (λ locks.
-      subst (λ o. EachFits Serial db (work_on (λ t'. by_plan Serial db.schema (delete t.number where_) (λ rows. delete_rows t' (chosen_by where_ rows))) o) locks []) (sym b.0.there)
-      (delete_fits db sound t b.0.there where_ locks)))
-  fits_so _ w what e = absurd (cc)
+  fits_so : (what : BoundTree) → IsWork what → IsOf db what → FitsSo what
+  fits_so (select query) w of = λ locks. select_fits db (is_sound db sound) Serial query locks []
+  fits_so (insert number tuples) w of =
+      let t = of.target.of in
+      fits_at number of.target (λ m. insert m tuples) (λ locks.
+      subst (λ o. EachFits Serial db (work_on (λ t. insert_work t (tuple_rows t tuples)) o) locks []) (sym of.target.there)
+      (insert_fits db t of.target.there sound (tuple_rows t tuples) (λ rows is. tuples_fit t tuples of.long rows is) locks))
+  fits_so (update number sets where_) w of =
+      let t = of.target.of in
+      fits_at number of.target (λ m. update m sets where_) (λ locks.
+      subst (λ o. EachFits Serial db (work_on (λ t'. by_plan Serial db.schema (update t.number sets where_) (λ rows. update_rows t' sets (chosen_by where_ rows))) o) locks []) (sym of.target.there)
+      (update_fits db sound t of.target.there where_ sets of.keeps_key locks))
+  fits_so (delete number where_) w of =
+      let t = of.of in
+      fits_at number of (λ m. delete m where_) (λ locks.
+      subst (λ o. EachFits Serial db (work_on (λ t'. by_plan Serial db.schema (delete t.number where_) (λ rows. delete_rows t' (chosen_by where_ rows))) o) locks []) (sym of.there)
+      (delete_fits db sound t of.there where_ locks))
+  fits_so _ w of = absurd w
 
   fits_serial : (statement : StatementTree) → is_work statement ≡ true → (locks : List Want) → EachFits Serial db (statement_work Serial db.schema statement) locks []
   fits_serial statement w locks = by (bind db.schema statement) refl
     where
       by : (r : Result BoundTree Refusal) → bind db.schema statement ≡ r → EachFits Serial db (work_if_bound Serial db.schema r) locks []
       by (Err why) e = tt
-      by (Ok what) e = fits_so statement w what e locks
+      by (Ok what) e = fits_so what (bound_is_work db.schema statement what w e) (bound_so db (is_sound db sound) statement what e) locks
 
 -- a snapshot may do a SELECT alone
 select_bound : (objects : Schema) (query : QueryTree) (order : List Order) (P : Result BoundTree Refusal → Type 0) → ((why : Refusal) → P (Err why)) → ((made : BoundQuery) → P (Ok (select made))) → P (bind objects (s.select query order))
-select_bound objects query order P refused bound_so = by (bind objects (s.select query order)) refl
+select_bound objects query order P refused selected = by (bind objects (s.select query order)) refl
   where
     by : (r : Result BoundTree Refusal) → bind objects (s.select query order) ≡ r → P r
     by (Err why) e = refused why
-    by (Ok what) e = let b = rules_hold objects (s.select query order) what e in subst (λ x. P (Ok x)) b.1 (bound_so (bound_query (scope_of objects query) query order))
+    by (Ok what) e = let b = bound_select objects query order what e in subst (λ x. P (Ok x)) (sym b.1) (selected b.0)
 
 fits_snapshot : (db : Database) → AreSound db.schema db.rows → (statement : StatementTree) → is_work statement ≡ true → refused_inside Snapshot [] statement ≡ None → (locks : List Want)
     → EachFits Snapshot db (statement_work Snapshot db.schema statement) locks []

@@ -1,39 +1,38 @@
 -- What a CREATE statement makes of a sound database is sound: a view of two tables joins them as it should.
-use Rattle.std.specs.Prelude.{◌≡◌, ◌≢◌, ℕ, suc, ◌+◌, ◌<◌, ◌==◌, ◌&&◌, ◌||◌, not, Bool, true, false, cond, List, [], ◌∷◌, ◌++◌, length, map, filter, slice_get, Option, Some, None, Result, Ok, Err}
+use Rattle.std.specs.Prelude.{◌≡◌, ◌≢◌, ℕ, suc, ◌+◌, ◌<◌, ◌==◌, ◌&&◌, not, is_none, Bool, true, false, cond, List, [], ◌∷◌, ◌++◌, length, map, filter, slice_get, Option, Some, None, Ok}
 use Rattle.std.specs.List.{AllByRecursion, filter_map, cons_option, flat_map, list_any, list_all}
-use Rattle.std.specs.Option.{option_map, option_and_then, option_map_or, unwrap_or}
+use Rattle.std.specs.Option.{option_map, option_map_or, unwrap_or}
 use mathlib.Core.Path.{refl, sym, ap, subst, ◌∙◌}
 use Rattle.std.proofs.Common.{inl, inr, eq-eqb, eqb-true}
 use Rattle.std.proofs.lemmas.List.{length-map}
 use Rattle.std.proofs.lemmas.List.Elements.{All-from_recursion, recursion_from_All}
 use Rattle.iv_types.specs.declared.value.Kind.{Kind}
 use Rattle.iv_types.specs.declared.value.Kind.TheVariants.{Int, Huge, Text}
-use Rattle.iv_types.specs.declared.refusal.Refusal.{Refusal}
-use Rattle.iv_types.specs.declared.refusal.Refusal.TheVariants.{NeedsIndex, UnknownName, WrongType}
-use Rattle.iv_types.specs.declared.expression.ColumnAt.{ColumnAt}
-use Rattle.iv_types.specs.declared.expression.Op.TheVariants as op
-use Rattle.iv_types.specs.declared.expression.Ref.{Ref}
+use Rattle.iv_types.specs.declared.refusal.Refusal.TheVariants.{NeedsIndex}
 use Rattle.iv_types.specs.declared.statement.ColumnDef.{ColumnDef}
-use Rattle.iv_types.specs.declared.statement.Relation.{Relation}
 use Rattle.iv_types.specs.declared.catalog.TableDef.{TableDef}
 use Rattle.iv_types.specs.declared.catalog.IndexDef.{IndexDef}
 use Rattle.iv_types.specs.declared.catalog.Second.{Second}
 use Rattle.iv_types.specs.Encoding.{kinds_of}
-use Rattle.iv_types.specs.Syntax as tree
-use Rattle.iv_types.specs.Syntax.{Tree, StatementTree, QueryTree, JoinTree, create_table, create_index, create_view, insert, update, delete, select}
-use Rattle.iv_meaning.specs.Schema.{Schema, Object, table, index, view, ViewTree, numbered, named, as_table, as_index, items_at, indexes_of, sources_of}
+use Rattle.iv_types.specs.Syntax.{Tree, StatementTree}
+use Rattle.iv_meaning.specs.Schema.{Schema, Object, table, index, view, ViewTree, numbered, as_table, as_index, items_at, indexes_of, sources_of}
 use Rattle.iv_meaning.specs.Database.{Database}
-use Rattle.iv_meaning.specs.Names.{Visible, bound, visible, scope_of, resolve, how_many, ref_faults, condition_faults, view_item_faults, relation_faults, join_faults, object_taken, name_faults}
-use Rattle.iv_meaning.specs.Types.{family, family_in, is_truth, condition_typed, item_typed, query_typed}
-use Rattle.iv_meaning.specs.Shape.{has_arithmetic, resolved, group_of, terms, joins_by, joins_key, same_kind, both_kinds, rules_of, limits_of, table_of, is_empty, is_many_to_one, joins_tables}
-use Rattle.iv_meaning.specs.Binding.{bind, unless, faults, type_faults, shape_faults, limit_faults, index_faults, joined_with, begins_with, first_index, join_index, bound_to, made_view, first_of, second_of, second_kept}
+use Rattle.iv_meaning.specs.Names.{how_many}
+use Rattle.iv_meaning.specs.Types.{family, is_truth}
+use Rattle.iv_meaning.specs.Shape.{has_arithmetic, terms, joins_by, joins_key, same_kind, both_kinds, is_empty, joins_tables}
+use Rattle.iv_meaning.specs.Binding.{joined_with, begins_with, first_index, join_index, second_kept}
+use Rattle.iv_meaning.specs.Resolving as resolving
+use Rattle.iv_meaning.specs.Resolving.{Joined, ResolvedQuery, Resolved}
+use Rattle.iv_meaning.specs.Typing.{kinds_seen, item_typed, condition_typed, query_typed, well_typed}
+use Rattle.iv_meaning.specs.Tests.{Test, tests, is_many_to_one, second_of, lacks_index}
+use Rattle.iv_meaning.specs.Passes.{made_view, bound_of, bind}
 use Rattle.iv_meaning.specs.Statement as statement
-use Rattle.iv_meaning.specs.Statement.{BoundTree}
 use Rattle.iv_meaning.specs.Sound.{IsSound, IsTable}
+use Rattle.query_laws.proofs.Bound.{IsThere, IsQuery, IsResolved, IsPassed, is_bound}
 use Rattle.query_laws.proofs.Fitting.{inside}
 use Rattle.query_laws.proofs.GroupRows.{some_same}
-use Rattle.query_laws.proofs.SoundLemmas.{Keeps, rules_hold, named_numbered, numbered_more, numbered_cases, same_kinds, kinds_seen, nothing_first, nothing_second}
-use Rattle.query_laws.proofs.CreatingLemmas.{sources_are, created_law}
+use Rattle.query_laws.proofs.SoundLemmas.{named_numbered, numbered_more, numbered_cases, same_kinds}
+use Rattle.query_laws.proofs.CreatingLemmas.{table_is, sources_are, many_to_one, or_first, of_create, created_law}
 use Rattle.txn_machine.specs.ViewLaws.{BeginsWith, primary, secondary, IsJoin, IsJoined, IsTyped}
 use Rattle.txn_machine.specs.Laws.{CreatesSound}
 
@@ -156,17 +155,6 @@ module _ (db : Database) (sound : IsSound db) where
       | false ↦ λ s g. by_first_index (filter_map as_index db.schema) all_there g
     ] refl e
 
-  -- ---- a table that a query sees
-
-  table_named : (name : List ℕ) (t : TableDef) → option_and_then as_table (named db.schema name) ≡ Some t → numbered db.schema t.number ≡ Some (table t)
-  table_named name t e = go (named db.schema name) refl e
-    where
-      go : (o : Option Object) → named db.schema name ≡ o → option_and_then as_table o ≡ Some t → numbered db.schema t.number ≡ Some (table t)
-      go None is f = absurd (cc)
-      go (Some (index i)) is f = absurd (cc)
-      go (Some (view v)) is f = absurd (cc)
-      go (Some (table u)) is f = subst (λ (x : TableDef). numbered db.schema x.number ≡ Some (table x)) (some_same u t f) (named_numbered db sound name (table u) is)
-
 -- ---- more objects
 
 module _ (objects : Schema) (o : Object) where
@@ -199,22 +187,12 @@ module _ (objects : Schema) (o : Object) where
 
 -- ---- the tables that a view joins
 
--- the fault of a view for which there is no index
-abbrev needs_one : TableDef → Option ℕ → List Refusal
-needs_one first number = elim number [ None ↦ NeedsIndex first.name ∷ [] | Some number ↦ [] ]
-
-abbrev needs : Schema → TableDef → Option (TableDef × List ℕ) → List Refusal
-needs objects first second = elim second [ None ↦ [] | Some second ↦ needs_one first (join_index objects first second.1) ]
-
-abbrev needs_of : Schema → Option TableDef → Option (TableDef × List ℕ) → List Refusal
-needs_of objects first second = elim first [ None ↦ [] | Some first ↦ needs objects first second ]
-
 module _ (db : Database) (sound : IsSound db) (v : ViewTree) (first : TableDef) (first_is : v.first ≡ first.number) (first_there : numbered db.schema first.number ≡ Some (table first)) where
   abbrev Joins : Option Second → Type 0
   Joins second = elim second [ None ↦ Unit {0} | Some second ↦ IsJoin db.schema v second ]
 
   join_is : (second : TableDef) → numbered db.schema second.number ≡ Some (table second) → (on : Tree) → joins_tables (Some first) (Some second) on ≡ true
-      → (n : Option ℕ) → join_index db.schema first (flat_map (joined_with (terms on)) second.primary) ≡ n → needs_one first n ≡ []
+      → (n : Option ℕ) → join_index db.schema first (flat_map (joined_with (terms on)) second.primary) ≡ n → is_none n ≡ false
       → IsJoin db.schema v (second_kept db.schema first (second, flat_map (joined_with (terms on)) second.primary))
   join_is second there on many None is none = absurd (cc)
   join_is second there on many (Some number) is none =
@@ -241,64 +219,26 @@ module _ (db : Database) (sound : IsSound db) (v : ViewTree) (first : TableDef) 
       not_same true n e = absurd (cc)
       not_same false n e = absurd (cc)
 
-  second_joins : (join : JoinTree) (o : Option TableDef) → table_of (visible db.schema join.relation) ≡ o → (on : Tree) → joins_tables (Some first) o on ≡ true
-      → needs db.schema first (option_map (λ second. (second, flat_map (joined_with (terms on)) second.primary)) o) ≡ []
-      → Joins (option_map (second_kept db.schema first) (option_map (λ second. (second, flat_map (joined_with (terms on)) second.primary)) o))
-  second_joins join None e on many none = absurd (cc)
-  second_joins join (Some second) e on many none = join_is second (table_named db sound join.relation.name second e) on many (join_index db.schema first (flat_map (joined_with (terms on)) second.primary)) refl none
+  -- the second table, and the columns of the first that are equal to its key
+  abbrev second_so : Option TableDef → Tree → Option (TableDef × List ℕ)
+  second_so o on = option_map (λ second. (second, flat_map (joined_with (terms on)) second.primary)) o
 
-  view_joins : (relation : Relation) (joins : List JoinTree) → table_of (visible db.schema relation) ≡ Some first
-      → is_many_to_one (map (visible db.schema) (relation ∷ map (λ (join : JoinTree). join.relation) joins)) joins ≡ true
-      → needs db.schema first (second_of (map (visible db.schema) (relation ∷ map (λ (join : JoinTree). join.relation) joins)) joins) ≡ []
-      → Joins (option_map (second_kept db.schema first) (second_of (map (visible db.schema) (relation ∷ map (λ (join : JoinTree). join.relation) joins)) joins))
-  view_joins relation [] e many none = tt
-  view_joins relation (join ∷ []) e many none =
-      let on : Tree = bound (visible db.schema relation ∷ visible db.schema join.relation ∷ []) join.on in
-      second_joins join (table_of (visible db.schema join.relation)) refl on (ap (λ o. joins_tables o (table_of (visible db.schema join.relation)) on) (sym e) ∙ many) none
-  view_joins relation (join ∷ other ∷ joins) e many none = absurd (cc)
+  abbrev lacks : Option (TableDef × List ℕ) → Bool
+  lacks second = option_map_or (λ x. is_none (join_index db.schema first x.1)) second false
 
--- ---- the condition of a view, and its groups
+  second_joins : (o : Object) → IsThere db.schema o → (on : Tree) → joins_tables (Some first) (as_table o) on ≡ true → lacks (second_so (as_table o) on) ≡ false → Joins (option_map (second_kept db.schema first) (second_so (as_table o) on))
+  second_joins (index i) there on many none = absurd (cc)
+  second_joins (view w) there on many none = absurd (cc)
+  second_joins (table second) there on many none = join_is second (named_numbered db sound there.0 (table second) there.1) on many (join_index db.schema first (flat_map (joined_with (terms on)) second.primary)) refl none
 
--- names have no arithmetic
-bound_arithmetic : (scope : List Visible) (e : Tree) → has_arithmetic (bound scope e) ≡ has_arithmetic e
-bound_arithmetic scope (tree.number n) = refl
-bound_arithmetic scope (tree.word w) = refl
-bound_arithmetic scope (tree.named ref) = go (resolve scope ref)
-  where
-    go : (r : Result ColumnAt (List ℕ)) → has_arithmetic (elim r [ Ok place ↦ tree.at place | Err name ↦ tree.named ref ]) ≡ false
-    go (Ok place) = refl
-    go (Err name) = refl
-bound_arithmetic scope (tree.at place) = refl
-bound_arithmetic scope (tree.not e) = bound_arithmetic scope e
-bound_arithmetic scope (tree.minus e) = refl
-bound_arithmetic scope (tree.pair op.Add a b) = refl
-bound_arithmetic scope (tree.pair op.Subtract a b) = refl
-bound_arithmetic scope (tree.pair op.Multiply a b) = refl
-bound_arithmetic scope (tree.pair op.Or a b) = λ i. bound_arithmetic scope a i || bound_arithmetic scope b i
-bound_arithmetic scope (tree.pair op.And a b) = λ i. bound_arithmetic scope a i || bound_arithmetic scope b i
-bound_arithmetic scope (tree.pair op.Equal a b) = λ i. bound_arithmetic scope a i || bound_arithmetic scope b i
-bound_arithmetic scope (tree.pair op.NotEqual a b) = λ i. bound_arithmetic scope a i || bound_arithmetic scope b i
-bound_arithmetic scope (tree.pair op.Less a b) = λ i. bound_arithmetic scope a i || bound_arithmetic scope b i
-bound_arithmetic scope (tree.pair op.AtMost a b) = λ i. bound_arithmetic scope a i || bound_arithmetic scope b i
-bound_arithmetic scope (tree.pair op.Greater a b) = λ i. bound_arithmetic scope a i || bound_arithmetic scope b i
-bound_arithmetic scope (tree.pair op.AtLeast a b) = λ i. bound_arithmetic scope a i || bound_arithmetic scope b i
+  -- that of a FROM
+  abbrev second_in : List Joined → Option (TableDef × List ℕ)
+  second_in joins = elim joins [ [] ↦ None | j ∷ js ↦ second_so (as_table j.object) j.on ]
 
--- a group column that is named has its place
-grouped_there : (scope : List Visible) (refs : List Ref) → is_empty refs ≡ false → flat_map (ref_faults scope) refs ≡ [] → flat_map (resolved scope) refs ≢ []
-grouped_there scope [] some none e = absurd (cc)
-grouped_there scope (ref ∷ refs) some none e = go (resolve scope ref) (nothing_first (ref_faults scope ref) (flat_map (ref_faults scope) refs) none) e
-  where
-    go : (r : Result ColumnAt (List ℕ)) → elim r as (λ (r : Result ColumnAt (List ℕ)). List Refusal) [ Ok place ↦ [] | Err name ↦ UnknownName name ∷ [] ] ≡ []
-        → elim r as (λ (r : Result ColumnAt (List ℕ)). List ColumnAt) [ Ok place ↦ place ∷ [] | Err name ↦ [] ] ++ flat_map (resolved scope) refs ≡ [] → ⊥
-    go (Ok place) n e = cc
-    go (Err name) n e = cc
-
--- a typed condition without arithmetic, as it is bound
-condition_is : (scope : List Visible) (condition : Option Tree) → condition_typed scope condition ≡ true → option_map_or has_arithmetic condition false ≡ false
-    → (e : Tree) → option_map (bound scope) condition ≡ Some e → (is_truth (family (kinds_seen scope) e) ≡ true) × (has_arithmetic e ≡ false)
-condition_is scope None t a e is = absurd (cc)
-condition_is scope (Some c) t a e is =
-    subst (λ (x : Tree). (is_truth (family (kinds_seen scope) x) ≡ true) × (has_arithmetic x ≡ false)) (some_same (bound scope c) e is) (t, bound_arithmetic scope c ∙ a)
+  view_joins : (joins : List Joined) → AllByRecursion (IsThere db.schema) (map (λ (j : Joined). j.object) joins) → is_many_to_one (table first) joins ≡ true → lacks (second_in joins) ≡ false → Joins (option_map (second_kept db.schema first) (second_in joins))
+  view_joins [] there many none = tt
+  view_joins (j ∷ []) there many none = second_joins j.object there.0 j.on many none
+  view_joins (j ∷ other ∷ joins) there many none = absurd (cc)
 
 -- more objects leave a view typed
 typed_more : (objects : Schema) (o : Object) (v : ViewTree) → AllByRecursion (IsTable objects) (sources_of v) → IsTyped objects v → IsTyped (objects ++ o ∷ []) v
@@ -309,152 +249,92 @@ typed_more objects o v tables t = record {
 
 -- ---- what is created
 
-no_fault : (fs : List Refusal) (made what : BoundTree) → unless fs made ≡ Ok what → fs ≡ []
-no_fault [] made what e = refl
-no_fault (f ∷ fs) made what e = absurd (cc)
-
--- a statement that is bound has its index
-has_index : (objects : Schema) (s : StatementTree) (what : BoundTree) → bind objects s ≡ Ok what → index_faults objects s ≡ []
-has_index objects s what e =
-    nothing_second (limit_faults (limits_of objects s)) _
-    (nothing_second (shape_faults (rules_of objects s)) _
-    (nothing_second (type_faults objects s) _
-    (nothing_second (name_faults objects s) _ (no_fault (faults objects s) (bound_to objects s) what e))))
-
-of_create : (o x : Object) → statement.create o ≡ statement.create x → o ≡ x
-of_create o x e = cc
-
 of_view : (v w : ViewTree) → view v ≡ view w → v ≡ w
 of_view v w e = cc
 
-and_rest : (a b : Bool) → (not a && not b) ≡ false → a ≡ false → b ≡ true
-and_rest true b e f = absurd (cc)
-and_rest false true e f = refl
-and_rest false false e f = absurd (cc)
-
-or_first : (a b : Bool) → (a || b) ≡ false → a ≡ false
-or_first true b e = absurd (cc)
-or_first false b e = refl
-
 module _ (db : Database) (sound : IsSound db) where
-  -- the view that a query makes
-  made_joins : (name : List ℕ) (q : QueryTree) (first : TableDef) → first_of (scope_of db.schema q) ≡ Some first → is_many_to_one (scope_of db.schema q) q.joins ≡ true
-      → needs db.schema first (second_of (scope_of db.schema q) q.joins) ≡ [] → (v : ViewTree) → made_view db.schema name q (scope_of db.schema q) first ≡ view v → IsJoined db.schema v
-  made_joins name q first e many none v is =
-      let w : ViewTree = record {
-        number = length db.schema + 1;
-        name = name;
-        names = _;
-        first = first.number;
-        second = option_map (second_kept db.schema first) (second_of (scope_of db.schema q) q.joins);
-        condition = _;
-        group = _;
-        sums = _;
-      } in
-      subst (IsJoined db.schema) (of_view w v is) (view_joins db sound w first refl (table_named db sound q.first.name first e) q.first q.joins e many none)
-
-  by_first : (name : List ℕ) (q : QueryTree) (f : Option TableDef) → first_of (scope_of db.schema q) ≡ f → is_many_to_one (scope_of db.schema q) q.joins ≡ true
-      → needs_of db.schema f (second_of (scope_of db.schema q) q.joins) ≡ []
-      → (v : ViewTree) → elim f [ None ↦ statement.control | Some first ↦ statement.create (made_view db.schema name q (scope_of db.schema q) first) ] ≡ statement.create (view v) → IsJoined db.schema v
-  by_first name q None e many none v is = absurd (cc)
-  by_first name q (Some first) e many none v is = made_joins name q first e many none v (of_create (made_view db.schema name q (scope_of db.schema q) first) (view v) is)
-
-  created_joins : (s : StatementTree) (v : ViewTree) → AllByRecursion Keeps (rules_of db.schema s) → index_faults db.schema s ≡ [] → bound_to db.schema s ≡ statement.create (view v) → IsJoined db.schema v
-  created_joins (create_view name q) v rules none e =
-      let grouped : is_empty q.group ≡ false = or_first (is_empty q.group) _ rules.1.1.1.1.1.0 in
-      by_first name q (first_of (scope_of db.schema q)) refl (and_rest (is_empty q.group) (is_many_to_one (scope_of db.schema q) q.joins) rules.1.1.1.1.0 grouped) none v e
-  created_joins (create_table name columns keys) v rules none e = absurd (cc)
-  created_joins (create_index name target columns) v rules none e = absurd (cc)
-  created_joins (insert target tuples) v rules none e = absurd (cc)
-  created_joins (update target sets condition) v rules none e = absurd (cc)
-  created_joins (delete target condition) v rules none e = absurd (cc)
-  created_joins (select q order) v rules none e = absurd (cc)
-  created_joins s v rules none e = absurd (cc)
-
--- of a view that a query makes
-module _ (db : Database) (sound : IsSound db) where
-  -- it reads tables, and is typed
+  -- a view joins as it should, is typed, and reads tables
   abbrev IsMade : ViewTree → Type 0
-  IsMade v = IsTyped db.schema v × AllByRecursion (IsTable db.schema) (sources_of v)
+  IsMade v = IsJoined db.schema v × IsTyped db.schema v × AllByRecursion (IsTable db.schema) (sources_of v)
 
-  made_typed : (name : List ℕ) (q : QueryTree) (first : TableDef) → first_of (scope_of db.schema q) ≡ Some first → is_many_to_one (scope_of db.schema q) q.joins ≡ true
-      → group_of (scope_of db.schema q) q ≢ [] → ((e : Tree) → option_map (bound (scope_of db.schema q)) q.condition ≡ Some e → (is_truth (family (kinds_seen (scope_of db.schema q)) e) ≡ true) × (has_arithmetic e ≡ false))
-      → (v : ViewTree) → made_view db.schema name q (scope_of db.schema q) first ≡ view v → IsMade v
-  made_typed name q first e many grouped told v is =
-      let sources = sources_are db sound q.first q.joins first e many in
+  some_group : {X : Type 0} (xs : List X) → is_empty xs ≡ false → xs ≢ []
+  some_group [] some e = absurd (cc)
+  some_group (x ∷ xs) some e = cc
+
+  condition_is : (kinds : List (List Kind)) (condition : Option Tree) → condition_typed kinds condition ≡ true → option_map_or has_arithmetic condition false ≡ false
+      → (e : Tree) → condition ≡ Some e → (is_truth (family kinds e) ≡ true) × (has_arithmetic e ≡ false)
+  condition_is kinds None t a e is = absurd (cc)
+  condition_is kinds (Some c) t a e is = subst (λ (x : Tree). (is_truth (family kinds x) ≡ true) × (has_arithmetic x ≡ false)) (some_same c e is) (t, a)
+
+  no_lack : (f : Option TableDef) (q : ResolvedQuery) (first : TableDef) → f ≡ Some first → AllByRecursion IsPassed (elim f as (λ (f : Option TableDef). List Test) [ None ↦ [] | Some first ↦ (lacks_index db.schema first q, NeedsIndex first.name) ∷ [] ])
+      → lacks_index db.schema first q ≡ false
+  no_lack None q first e passed = absurd (cc)
+  no_lack (Some f) q first e passed = subst (λ (x : TableDef). lacks_index db.schema x q ≡ false) (some_same f first e) passed.0
+
+  made_so : (name : List ℕ) (q : ResolvedQuery) (size : ℕ) (first : TableDef) → as_table q.first ≡ Some first → IsQuery db.schema q → query_typed db.schema q ≡ true
+      → AllByRecursion IsPassed (tests db.schema size (resolving.view name q)) → (v : ViewTree) → made_view db.schema name q first ≡ view v → IsMade v
+  made_so name q size first e is typed passed v same =
+      let many = many_to_one db.schema size name q passed in
+      let sources = sources_are db sound q is.there first e many in
       let w : ViewTree = record {
         number = length db.schema + 1;
         name = name;
         names = _;
         first = first.number;
-        second = option_map (second_kept db.schema first) (second_of (scope_of db.schema q) q.joins);
-        condition = option_map (bound (scope_of db.schema q)) q.condition;
-        group = group_of (scope_of db.schema q) q;
+        second = option_map (second_kept db.schema first) (second_of q);
+        condition = q.condition;
+        group = q.group;
         sums = _;
       } in
-      subst IsMade (of_view w v is) (
+      let first_is : q.first ≡ table first = table_is q.first first e in
+      let joins = view_joins db sound w first refl (named_numbered db sound is.there.0.0 (table first) (is.there.0.1 ∙ ap Some first_is)) q.joins is.there.1
+          (subst (λ (o : Object). is_many_to_one o q.joins ≡ true) first_is many) (no_lack (as_table q.first) q first e passed.1.1.1.1.1.1.1.1.1.1.1.1.1.1) in
+      let kinds_typed = and_both (list_all (λ i. item_typed (kinds_seen db.schema q) i.item) q.items && list_all (λ j. is_truth (family (kinds_seen db.schema q) j.on)) q.joins) (condition_typed (kinds_seen db.schema q) q.condition) typed in
+      subst IsMade (of_view w v same) (
+        joins,
         record {
-          grouped = grouped;
-          condition = λ c h. let t = told c h in (ap (λ (kinds : List (List Kind)). is_truth (family kinds c)) sources.kinds ∙ t.0, t.1);
+          grouped = some_group q.group (or_first (is_empty q.group) _ passed.1.1.1.1.1.0);
+          condition = λ c h.
+              let t = condition_is (kinds_seen db.schema q) q.condition kinds_typed.1 passed.1.1.1.1.1.1.0 c h in
+              (ap (λ (kinds : List (List Kind)). is_truth (family kinds c)) sources.kinds ∙ t.0, t.1);
         },
         sources.tables,
       )
 
-  typed_by_first : (name : List ℕ) (q : QueryTree) (f : Option TableDef) → first_of (scope_of db.schema q) ≡ f → is_many_to_one (scope_of db.schema q) q.joins ≡ true
-      → group_of (scope_of db.schema q) q ≢ [] → ((e : Tree) → option_map (bound (scope_of db.schema q)) q.condition ≡ Some e → (is_truth (family (kinds_seen (scope_of db.schema q)) e) ≡ true) × (has_arithmetic e ≡ false))
-      → (v : ViewTree) → elim f [ None ↦ statement.control | Some first ↦ statement.create (made_view db.schema name q (scope_of db.schema q) first) ] ≡ statement.create (view v) → IsMade v
-  typed_by_first name q None e many grouped told v is = absurd (cc)
-  typed_by_first name q (Some first) e many grouped told v is = made_typed name q first e many grouped told v (of_create (made_view db.schema name q (scope_of db.schema q) first) (view v) is)
+  by_first : (name : List ℕ) (q : ResolvedQuery) (size : ℕ) (f : Option TableDef) → as_table q.first ≡ f → IsQuery db.schema q → query_typed db.schema q ≡ true
+      → AllByRecursion IsPassed (tests db.schema size (resolving.view name q)) → (v : ViewTree)
+      → elim f [ None ↦ statement.control | Some first ↦ statement.create (made_view db.schema name q first) ] ≡ statement.create (view v) → IsMade v
+  by_first name q size None e is typed passed v same = absurd (cc)
+  by_first name q size (Some first) e is typed passed v same = made_so name q size first e is typed passed v (of_create (made_view db.schema name q first) (view v) same)
 
-  created_typed : (s : StatementTree) (v : ViewTree) → AllByRecursion Keeps (rules_of db.schema s) → name_faults db.schema s ≡ [] → type_faults db.schema s ≡ [] → bound_to db.schema s ≡ statement.create (view v) → IsMade v
-  created_typed (create_view name q) v rules names types e =
-      let scope : List Visible = scope_of db.schema q in
-      let grouped : is_empty q.group ≡ false = or_first (is_empty q.group) _ rules.1.1.1.1.1.0 in
-      let behind = nothing_second (view_item_faults scope [] q.items) _ (nothing_second (object_taken db.schema name) _ names) in
-      let behind_joins = nothing_second (join_faults db.schema scope _ q.joins) _ (nothing_second (relation_faults db.schema [] q.first) _ behind) in
-      let group_named : flat_map (ref_faults scope) q.group ≡ [] = nothing_second (condition_faults scope q.condition) _ behind_joins in
-      let typed = and_both (list_all (item_typed scope) q.items && list_all (λ (join : JoinTree). is_truth (family_in scope join.on)) q.joins) (condition_typed scope q.condition) (typed_is (query_typed scope q) types) in
-      typed_by_first name q (first_of scope) refl (and_rest (is_empty q.group) (is_many_to_one scope q.joins) rules.1.1.1.1.0 grouped)
-      (grouped_there scope q.group grouped group_named) (condition_is scope q.condition typed.1 rules.1.1.1.1.1.1.0) v e
-    where
-      typed_is : (b : Bool) → cond b [] (WrongType ∷ []) ≡ [] → b ≡ true
-      typed_is true e = refl
-      typed_is false e = absurd (cc)
-  created_typed (create_table name columns keys) v rules names types e = absurd (cc)
-  created_typed (create_index name target columns) v rules names types e = absurd (cc)
-  created_typed (insert target tuples) v rules names types e = absurd (cc)
-  created_typed (update target sets condition) v rules names types e = absurd (cc)
-  created_typed (delete target condition) v rules names types e = absurd (cc)
-  created_typed (select q order) v rules names types e = absurd (cc)
-  created_typed s v rules names types e = absurd (cc)
+  created_so : (to : Resolved) (size : ℕ) → IsResolved db.schema to → well_typed db.schema to ≡ true → AllByRecursion IsPassed (tests db.schema size to) → (v : ViewTree) → bound_of db.schema to ≡ statement.create (view v) → IsMade v
+  created_so (resolving.view name q) size is typed passed v e = by_first name q size (as_table q.first) refl is typed passed v e
+  created_so (resolving.table name columns keys) size is typed passed v e = absurd (cc)
+  created_so (resolving.index name target columns) size is typed passed v e = absurd (cc)
+  created_so (resolving.insert target tuples) size is typed passed v e = absurd (cc)
+  created_so (resolving.update target sets condition) size is typed passed v e = absurd (cc)
+  created_so (resolving.delete target condition) size is typed passed v e = absurd (cc)
+  created_so (resolving.select q order) size is typed passed v e = absurd (cc)
+  created_so resolving.control size is typed passed v e = absurd (cc)
 
--- a statement that is bound has no fault of names or types
-no_early_fault : (objects : Schema) (s : StatementTree) (what : BoundTree) → bind objects s ≡ Ok what → (name_faults objects s ≡ []) × (type_faults objects s ≡ [])
-no_early_fault objects s what e =
-    let none = no_fault (faults objects s) (bound_to objects s) what e in
-    (nothing_first (name_faults objects s) _ none, nothing_first (type_faults objects s) _ (nothing_second (name_faults objects s) _ none))
+  view_made : (s : StatementTree) (v : ViewTree) → bind db.schema s ≡ Ok (statement.create (view v)) → IsMade v
+  view_made s v e = let b = is_bound db.schema s (statement.create (view v)) e in created_so b.to b.size b.is_resolved b.typed b.passed v b.made
 
 pub creates_sound : CreatesSound
 creates_sound db s o sound e =
     let plain : IsSound db = record { objects = sound.objects; rows = sound.rows } in
     let created = created_law db plain s o e in
+    let New : ViewTree → Type 0 = λ v. o ≡ view v in
+    let made : (v : ViewTree) → New v → IsMade db plain v = λ v is. view_made db plain s v (e ∙ ap (λ x. Ok (statement.create x)) is) in
     record {
       objects = created.objects;
       rows = created.rows;
       joins = λ n v there. elim (numbered_cases db.schema o n (view v) there) [
         | inl old ↦ joined_more db.schema o v v.second (sound.joins n v old)
-        | inr is ↦
-            let bound_is : bind db.schema s ≡ Ok (statement.create (view v)) = e ∙ ap (λ x. Ok (statement.create x)) is.1 in
-            let rules = rules_hold db.schema s (statement.create (view v)) bound_is in
-            joined_more db.schema o v v.second (created_joins db plain s v rules.0 (has_index db.schema s (statement.create (view v)) bound_is) rules.1)
+        | inr is ↦ joined_more db.schema o v v.second (made v is.1).0
       ];
       typed = λ n v there. elim (numbered_cases db.schema o n (view v) there) [
         | inl old ↦ typed_more db.schema o v (recursion_from_All (IsTable db.schema) (sources_of v) (sound.objects n (view v) old).1.tables) (sound.typed n v old)
-        | inr is ↦
-            let bound_is : bind db.schema s ≡ Ok (statement.create (view v)) = e ∙ ap (λ x. Ok (statement.create x)) is.1 in
-            let rules = rules_hold db.schema s (statement.create (view v)) bound_is in
-            let early = no_early_fault db.schema s (statement.create (view v)) bound_is in
-            let made = created_typed db plain s v rules.0 early.0 early.1 rules.1 in
-            typed_more db.schema o v made.1 made.0
+        | inr is ↦ let m = made v is.1 in typed_more db.schema o v m.2 m.1
       ];
     }

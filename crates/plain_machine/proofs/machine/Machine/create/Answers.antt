@@ -15,7 +15,7 @@ pub returns-in-Err : goal.returns-in-Err
 returns-in-Err c = if_ok c.denied.result _ _ (λ said told s i st.
     let m = c.args.self.now in
     let statement = statement_tree c.args.statement.now in
-    elim c.in-Err.ensures.fault [
+    elim c.in-Err.ensures [
       | inl memory ↦ absurd (told.1 memory)
       | inr why ↦ subst (λ (x : Answer). Told s i (act.Schema statement) (answer_of x) m) (sym told.0) (unbound_told m s i statement st c.in-Err.refusal why)
     ]) c.denied.ensures
@@ -25,5 +25,5 @@ returns-in-Some c = λ s i st.
     let m = c.args.self.now in
     let statement = statement_tree c.args.statement.now in
     let o = object_of c.in_ok-definition.definition in
-    busy_told m s i statement st c.in-Some.least o (makes_here m s i statement st (bound_tree c.in-Ok.bound) o c.in-Ok.ensures.found c.in_ok-definition.ensures)
+    busy_told m s i statement st c.in-Some.least o (makes_here m s i statement st (bound_tree c.in-Ok.bound) o c.in-Ok.ensures c.in_ok-definition.ensures)
     (subst (λ xs. IsLeastOpen xs (Some c.in-Some.least)) c.deref.ensures.value c.in-Some.ensures)
