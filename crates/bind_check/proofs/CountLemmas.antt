@@ -6,7 +6,7 @@ use Rattle.std.specs.Option.{option_map_or}
 use Rattle.std.proofs.lemmas.List.Recursion.{is_count_by}
 use Rattle.iv_types.specs.declared.catalog.Definition.{Definition}
 use Rattle.iv_meaning.specs.Schema.{Object, ViewTree, as_view}
-use Rattle.iv_meaning.specs.Names.{how_many}
+use Rattle.iv_meaning.specs.Resolving.{how_many}
 use Rattle.iv_meaning.specs.Objects.{object_of, schema_of}
 use Rattle.iv_meaning.specs.Shape.{readers}
 use Rattle.bind_check.specs.Counting.{reads}

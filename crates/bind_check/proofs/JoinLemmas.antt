@@ -9,7 +9,7 @@ use Rattle.iv_types.specs.declared.expression.Op.TheVariants as op
 use Rattle.iv_types.specs.declared.expression.ColumnAt.{ColumnAt}
 use Rattle.iv_types.specs.declared.catalog.TableDef.{TableDef}
 use Rattle.iv_types.specs.Syntax.{Tree, number, word, named, at, not, minus, pair}
-use Rattle.iv_meaning.specs.Names.{how_many}
+use Rattle.iv_meaning.specs.Resolving.{how_many}
 use Rattle.iv_meaning.specs.Shape.{terms, joins_by, joins_key, joins_whole_key}
 use Rattle.bind_check.specs.Joining.{place_in}
 use Rattle.bind_check.specs.Joining.{is_and, is_equal, perhaps_joined, pairs_of, is_key, is_of_column}

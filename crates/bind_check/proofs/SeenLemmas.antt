@@ -7,8 +7,7 @@ use Rattle.iv_types.specs.Trees.{perhaps_tree}
 use Rattle.iv_meaning.specs.Schema.{Schema, Object}
 use Rattle.iv_meaning.specs.Objects.{object_of}
 use Rattle.iv_meaning.specs.Shape.{repeats}
-use Rattle.iv_meaning.specs.Types.{family, is_truth}
-use Rattle.iv_meaning.specs.Typing.{condition_typed, item_typed, kinds_seen, query_typed, sources_of}
+use Rattle.iv_meaning.specs.Types.{family, is_truth, condition_typed, item_typed, kinds_seen, query_typed, sources_of}
 use Rattle.bind_resolve.specs.declared.resolved.Joined.{Joined}
 use Rattle.bind_resolve.specs.declared.resolved.ResolvedQuery.{ResolvedQuery}
 use Rattle.bind_resolve.specs.Seen.{item_seen, joined_seen, query_seen}

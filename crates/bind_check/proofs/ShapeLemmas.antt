@@ -6,7 +6,8 @@ use Rattle.iv_types.specs.declared.expression.Op.TheVariants as op
 use Rattle.iv_types.specs.declared.expression.ColumnAt.{ColumnAt}
 use Rattle.iv_types.specs.Syntax.{Tree, pair}
 use Rattle.iv_meaning.specs.Query.{BoundItem, count, sum, plain}
-use Rattle.iv_meaning.specs.Shape.{NamedItem, has_arithmetic, are_sums, is_count_and_sums, is_view_list}
+use Rattle.iv_meaning.specs.Resolving.{NamedItem}
+use Rattle.iv_meaning.specs.Shape.{has_arithmetic, are_sums, is_count_and_sums, is_view_list}
 use Rattle.bind_check.specs.Shapes.{is_arithmetic, is_group_item, is_named_count, is_named_sum}
 
 -- ---- arithmetic

@@ -13,10 +13,10 @@ use Rattle.iv_types.specs.Trees.{trees}
 use Rattle.iv_meaning.specs.Schema.{Schema, Object, object_columns, object_kinds, primary_of}
 use Rattle.iv_meaning.specs.Bound.{set_tree}
 use Rattle.iv_meaning.specs.Shape.{repeats}
-use Rattle.iv_meaning.specs.Typing.{condition_typed, query_typed, set_typed, tuple_typed}
+use Rattle.iv_meaning.specs.Types.{condition_typed, query_typed, set_typed, tuple_typed}
 use Rattle.iv_meaning.specs.Resolving.{ResolvedQuery, and_then, insert, select, update, view}
 use Rattle.iv_meaning.specs.Tests.{Test, at_most, index_test, is_table, item_named, query_rules, rule, view_rules}
-use Rattle.iv_meaning.specs.Passes.{passed, refuse_if}
+use Rattle.iv_meaning.specs.Binding.{passed, refuse_if}
 use Rattle.bind_check.specs.Checked.{every_test, insert_tests, select_chain, update_tests, view_chain, view_limits}
 use Rattle.bind_check.proofs.SeenLemmas.{all_is, any_is, repeats_is}
 

@@ -11,7 +11,7 @@ use Rattle.iv_types.specs.Syntax.{Tree}
 use Rattle.iv_meaning.specs.Schema.{indexes_of}
 use Rattle.iv_meaning.specs.Objects.{object_of, schema_of}
 use Rattle.iv_meaning.specs.Shape.{joins_by, object_number, terms}
-use Rattle.iv_meaning.specs.Binding.{joined_with, join_columns, begins_with, first_index}
+use Rattle.iv_meaning.specs.Tests.{joined_with, join_columns, begins_with, first_index}
 use Rattle.iv_types.proofs.Walks.{cons_is}
 use Rattle.bind_check.specs.Joining.{first_left, is_of_column, left_in, pairs_of, serves}
 

@@ -15,11 +15,10 @@ use Rattle.iv_types.specs.Trees.{perhaps_tree, trees}
 use Rattle.iv_meaning.specs.Schema.{Schema, Object, as_view, kind_at, object_columns, primary_of}
 use Rattle.iv_meaning.specs.Bound.{set_tree}
 use Rattle.iv_meaning.specs.Shape.{key_width, object_number, readers, repeats, sums_in, width}
-use Rattle.iv_meaning.specs.Types.{family, is_of, is_truth, is_value}
+use Rattle.iv_meaning.specs.Types.{family, is_of, is_truth, is_value, condition_typed, item_typed, kinds_seen, set_typed, sources_of, tuple_typed, query_typed, well_typed}
 use Rattle.iv_meaning.specs.Resolving as meant
 use Rattle.iv_meaning.specs.Resolving.{Resolved, table, index, and_then}
-use Rattle.iv_meaning.specs.Typing.{condition_typed, item_typed, kinds_seen, set_typed, sources_of, tuple_typed, query_typed, well_typed}
-use Rattle.iv_meaning.specs.Passes.{passed, refuse_if}
+use Rattle.iv_meaning.specs.Binding.{passed, refuse_if}
 use Rattle.iv_meaning.specs.Tests.{Test, at_most, is_table, index_test, item_named, query_rules, rule, tests, view_rules}
 use Rattle.bind_resolve.specs.declared.resolved.ResolvedQuery.{ResolvedQuery}
 use Rattle.bind_resolve.specs.Seen.{item_seen, joined_seen}

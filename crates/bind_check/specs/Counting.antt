@@ -5,7 +5,8 @@ use Rattle.std.specs.Prelude.{ℕ, ◌==◌, Bool, true, false}
 use Rattle.std.specs.List.{list_any}
 use Rattle.iv_types.specs.declared.value.Kind.{Kind}
 use Rattle.iv_meaning.specs.Schema.{ViewTree, sources_of}
-use Rattle.iv_meaning.specs.Shape.{NamedItem, key_width, row_width}
+use Rattle.iv_meaning.specs.Resolving.{NamedItem}
+use Rattle.iv_meaning.specs.Shape.{key_width, row_width}
 use Rattle.iv_meaning.specs.Query.{count, sum, plain}
 use Rattle.bind_check.specs.declared.widths.Width.{Width}
 use Rattle.bind_check.specs.declared.widths.Width.TheVariants.{Key, Row}

@@ -13,7 +13,7 @@ use Rattle.iv_types.specs.Syntax as s
 use Rattle.iv_types.specs.Syntax.{Tree}
 use Rattle.iv_meaning.specs.Schema.{Object, as_table, index}
 use Rattle.iv_meaning.specs.Shape.{terms, joins_by, both_kinds}
-use Rattle.iv_meaning.specs.Binding.{begins_with, join_columns}
+use Rattle.iv_meaning.specs.Tests.{begins_with, join_columns}
 use Rattle.iv_meaning.specs.Resolving.{Joined}
 use denote.Ref.{Bor}
 

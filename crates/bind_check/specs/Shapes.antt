@@ -6,7 +6,8 @@ use Rattle.iv_types.specs.declared.expression.Op.{Op}
 use Rattle.iv_types.specs.declared.expression.Op.TheVariants as op
 use Rattle.iv_types.specs.declared.expression.ColumnAt.{ColumnAt}
 use Rattle.iv_meaning.specs.Query.{count, sum, plain}
-use Rattle.iv_meaning.specs.Shape.{NamedItem, is_grouped}
+use Rattle.iv_meaning.specs.Resolving.{NamedItem}
+use Rattle.iv_meaning.specs.Shape.{is_grouped}
 
 abbrev pub is_arithmetic : Op → Bool
 is_arithmetic op.Add = true

@@ -4,7 +4,7 @@
 ghost use Rattle.std.specs.Prelude.{◌≡◌};
 ghost use Rattle.iv_types.specs.Trees.{perhaps_tree};
 ghost use Rattle.iv_meaning.specs.Objects.{object_of};
-ghost use Rattle.iv_meaning.specs.Passes.{passed};
+ghost use Rattle.iv_meaning.specs.Binding.{passed};
 ghost use Rattle.bind_resolve.specs.Meant.{IsMeant};
 ghost use Rattle.bind_check.specs.Checked.{delete_tests, insert_tests, update_tests};
 

@@ -7,7 +7,7 @@ ghost use Rattle.iv_types.specs.Printing.{statement_size};
 ghost use Rattle.iv_types.specs.Trees.{statement_tree};
 ghost use Rattle.iv_meaning.specs.Objects.{object_of, schema_of};
 ghost use Rattle.iv_meaning.specs.Tests.{at_most, index_test};
-ghost use Rattle.iv_meaning.specs.Passes.{passed, refuse_if};
+ghost use Rattle.iv_meaning.specs.Binding.{passed, refuse_if};
 ghost use Rattle.bind_resolve.specs.Meant.{IsMeant};
 ghost use Rattle.bind_resolve.specs.Seen.{query_seen};
 ghost use Rattle.bind_check.specs.Checked.{index_tests, table_tests, view_limits};

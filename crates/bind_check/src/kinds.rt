@@ -2,7 +2,7 @@
 ghost use Rattle.std.specs.Prelude.{◌≡◌, ◌∷◌, [], map, IfOk};
 ghost use Rattle.iv_meaning.specs.Schema.{object_kinds};
 ghost use Rattle.iv_meaning.specs.Objects.{schema_of, object_of};
-ghost use Rattle.iv_meaning.specs.Typing as meant;
+ghost use Rattle.iv_meaning.specs.Types as meant;
 ghost use Rattle.bind_resolve.specs.Seen.{query_seen};
 
 use bind_resolve::ResolvedQuery;

@@ -1,10 +1,9 @@
 //! The items by which an ORDER BY sorts.
 ghost use Rattle.std.specs.Prelude.{◌≡◌, ◌&&◌, None, Some, if◌then◌else◌, int_le, is_some, length, map, pos};
 ghost use Rattle.std.specs.List.{list_all};
-ghost use Rattle.iv_meaning.specs.Names.{how_many};
+ghost use Rattle.iv_meaning.specs.Resolving.{how_many};
 ghost use Rattle.iv_meaning.specs.Shape.{is_named};
-ghost use Rattle.iv_meaning.specs.Binding.{before_number, item_place};
-ghost use Rattle.iv_meaning.specs.Tests.{item_named};
+ghost use Rattle.iv_meaning.specs.Tests.{before_number, item_place, item_named};
 ghost use Rattle.bind_resolve.specs.Seen.{item_seen};
 
 use bind_resolve::{NamedItem, ShortList};

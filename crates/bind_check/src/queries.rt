@@ -3,10 +3,10 @@ ghost use Rattle.std.specs.Prelude.{◌≡◌, ◌+◌, ◌&&◌, ◌||◌, is_s
 ghost use Rattle.std.specs.List.{list_any, list_all};
 ghost use Rattle.iv_meaning.specs.Schema.{as_index, as_view};
 ghost use Rattle.iv_meaning.specs.Objects.{object_of, schema_of};
-ghost use Rattle.iv_meaning.specs.Typing.{sources_of};
+ghost use Rattle.iv_meaning.specs.Types.{sources_of};
 ghost use Rattle.iv_meaning.specs.Shape.{is_aggregate, is_empty, is_grouped, is_view_list, object_number, readers, repeats, same_place};
 ghost use Rattle.iv_meaning.specs.Tests.{is_many_to_one, query_rules, view_rules};
-ghost use Rattle.iv_meaning.specs.Passes.{passed};
+ghost use Rattle.iv_meaning.specs.Binding.{passed};
 ghost use Rattle.bind_resolve.specs.Meant.{IsMeant};
 ghost use Rattle.bind_resolve.specs.Seen.{item_seen, query_seen};
 

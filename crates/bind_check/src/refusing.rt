@@ -2,7 +2,7 @@
 ghost use Rattle.std.specs.Prelude.{◌≡◌, nat_lt, pos};
 ghost use Rattle.iv_types.specs.declared.refusal.Refusal.TheVariants as refusal;
 ghost use Rattle.iv_meaning.specs.Tests.{at_most};
-ghost use Rattle.iv_meaning.specs.Passes.{refuse_if};
+ghost use Rattle.iv_meaning.specs.Binding.{refuse_if};
 ghost use Rattle.bind_resolve.specs.Meant.{IsMeant};
 
 use iv_types::Refusal;

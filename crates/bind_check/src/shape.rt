@@ -4,10 +4,9 @@ ghost use Rattle.std.specs.List.{list_any, list_all};
 ghost use Rattle.std.specs.Option.{option_map_or};
 ghost use Rattle.iv_types.specs.Trees.{tree, trees, perhaps_tree};
 ghost use Rattle.iv_meaning.specs.Bound.{item_tree, set_tree};
-ghost use Rattle.iv_meaning.specs.Names.{how_many};
+ghost use Rattle.iv_meaning.specs.Resolving.{how_many};
 ghost use Rattle.iv_meaning.specs.Shape.{same_place, repeats, is_aggregate, is_empty, is_grouped, has_arithmetic, is_named};
-ghost use Rattle.iv_meaning.specs.Binding.{item_place, before_number};
-ghost use Rattle.iv_meaning.specs.Tests.{item_named, same_number};
+ghost use Rattle.iv_meaning.specs.Tests.{item_place, before_number, item_named, same_number};
 ghost use Rattle.bind_resolve.specs.Seen.{item_seen};
 ghost use Rattle.bind_check.specs.Shapes.{is_arithmetic};
 

@@ -6,10 +6,9 @@ ghost use Rattle.iv_types.specs.Trees.{tree, trees, perhaps_tree};
 ghost use Rattle.iv_meaning.specs.Schema.{object_kinds, kind_at};
 ghost use Rattle.iv_meaning.specs.Objects.{schema_of, object_of};
 ghost use Rattle.iv_meaning.specs.Bound.{item_tree, set_tree};
-ghost use Rattle.iv_meaning.specs.Types.{family_of_kind, is_number, is_text, is_truth, is_of, is_value, alike, typed, family_of_pair, family};
+ghost use Rattle.iv_meaning.specs.Types.{family_of_kind, is_number, is_text, is_truth, is_of, is_value, alike, typed, family_of_pair, family, condition_typed, item_typed, query_typed, set_typed, tuple_typed};
 ghost use Rattle.bind_check.specs.Families.{family_of, perhaps_family};
 ghost use Rattle.bind_check.specs.Checked.{query_by, value_typed};
-ghost use Rattle.iv_meaning.specs.Typing.{condition_typed, item_typed, query_typed, set_typed, tuple_typed};
 ghost use Rattle.bind_resolve.specs.Seen.{item_seen, joined_seen, query_seen};
 
 use crate::family::Family;

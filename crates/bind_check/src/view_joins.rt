@@ -2,7 +2,7 @@
 ghost use Rattle.std.specs.Prelude.{◌≡◌, find, map, IfOk};
 ghost use Rattle.std.specs.List.{filter_map};
 ghost use Rattle.std.specs.Option.{option_copied, option_map};
-ghost use Rattle.iv_meaning.specs.Binding.{begins_with, join_index};
+ghost use Rattle.iv_meaning.specs.Tests.{begins_with, join_index};
 ghost use Rattle.iv_meaning.specs.Objects.{object_of, schema_of};
 ghost use Rattle.iv_meaning.specs.Tests as meant;
 ghost use Rattle.bind_resolve.specs.Seen.{joined_seen, query_seen};

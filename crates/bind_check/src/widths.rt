@@ -4,7 +4,7 @@ ghost use Rattle.std.specs.List.{filter_map};
 ghost use Rattle.iv_meaning.specs.Schema.{items_at, kind_at, object_kinds, primary_of};
 ghost use Rattle.iv_meaning.specs.Objects.{object_of, schema_of};
 ghost use Rattle.iv_meaning.specs.Shape.{key_width, row_width, width};
-ghost use Rattle.iv_meaning.specs.Typing as meant;
+ghost use Rattle.iv_meaning.specs.Types as meant;
 ghost use Rattle.bind_resolve.specs.Seen.{query_seen};
 ghost use Rattle.bind_check.specs.Counting.{width_of};
 

@@ -10,7 +10,8 @@ use Rattle.iv_types.specs.declared.refusal.Refusal.{Refusal}
 use Rattle.iv_types.specs.declared.refusal.Refusal.TheVariants.{NameTaken, UnknownName}
 use Rattle.iv_types.specs.Syntax.{ItemTree, JoinTree, SetTree}
 use Rattle.iv_meaning.specs.Schema.{Schema}
-use Rattle.iv_meaning.specs.Names.{Visible, is_among, taken, item_faults, names_of_item, view_item_faults, object_unknown, relation_faults, expression_faults, join_faults, columns_unknown, set_faults}
+use Rattle.iv_meaning.specs.Names.{Visible, taken, item_faults, names_of_item, view_item_faults, object_unknown, relation_faults, expression_faults, join_faults, columns_unknown, set_faults}
+use Rattle.iv_meaning.specs.Resolving.{is_among}
 use Rattle.bind_names.specs.Checks.{Refuses, Checks}
 use Rattle.bind_names.specs.Seeing.{Alike}
 use Rattle.bind_names.proofs.Checking.{before}

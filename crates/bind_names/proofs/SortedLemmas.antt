@@ -10,7 +10,7 @@ use Rattle.std.specs.List.{list_any}
 use Rattle.std.specs.Cmp.Lexicographic.{slice_cmp, bytes_decides}
 use Rattle.std.specs.BTreeSet.{insert_key}
 use Rattle.std.proofs.lemmas.Map.Text.{is_eq-slice_cmp}
-use Rattle.iv_meaning.specs.Names.{is_among}
+use Rattle.iv_meaning.specs.Resolving.{is_among}
 use Rattle.iv_meaning.specs.Shape.{repeats}
 use Rattle.bind_names.specs.Seeing.{names_in, Alike}
 

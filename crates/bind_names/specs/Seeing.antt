@@ -8,7 +8,8 @@ use Rattle.iv_types.specs.Syntax.{StatementTree, create_index, create_view, inse
 use Rattle.iv_meaning.specs.Schema.{Schema, Object, object_columns, object_kinds}
 use Rattle.iv_meaning.specs.Objects.{object_of}
 use Rattle.iv_meaning.specs.Names as names
-use Rattle.iv_meaning.specs.Names.{seen_as, scope_of, is_among}
+use Rattle.iv_meaning.specs.Names.{seen_as, scope_of}
+use Rattle.iv_meaning.specs.Resolving.{is_among}
 use Rattle.bind_names.specs.declared.visible.Visible.{Visible}
 
 abbrev pub names_in : List (Bor (List ℕ)) → List (List ℕ)

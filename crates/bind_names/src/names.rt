@@ -9,7 +9,8 @@ ghost use Rattle.iv_types.specs.Trees.{tree, trees, perhaps_tree, item_tree, joi
 ghost use Rattle.iv_types.specs.declared.refusal.Refusal.TheVariants as refusal;
 ghost use Rattle.iv_meaning.specs.Schema.{named};
 ghost use Rattle.iv_meaning.specs.Objects.{schema_of};
-ghost use Rattle.iv_meaning.specs.Names.{ref_faults, expression_faults, condition_faults, is_among, taken, object_taken, object_unknown, names_of_item, item_faults, view_item_faults, relation_faults, join_faults, from_faults, columns_unknown, set_faults, name_faults, seen_as, scope_of};
+ghost use Rattle.iv_meaning.specs.Names.{ref_faults, expression_faults, condition_faults, taken, object_taken, object_unknown, names_of_item, item_faults, view_item_faults, relation_faults, join_faults, from_faults, columns_unknown, set_faults, name_faults, seen_as, scope_of};
+ghost use Rattle.iv_meaning.specs.Resolving.{is_among};
 ghost use Rattle.iv_meaning.specs.Names as seen;
 ghost use Rattle.iv_types.specs.Syntax as syntax;
 ghost use Rattle.bind_names.specs.Checks.{Checks};

@@ -2,7 +2,8 @@
 ghost use Rattle.std.specs.Prelude.{◌≡◌, ◌<◌, ◌^◌, length, if◌then◌else◌};
 ghost use Rattle.std.specs.Str.{bytes_eq};
 ghost use Rattle.std.specs.Option.{option_copied};
-ghost use Rattle.iv_meaning.specs.Names.{columns_named, candidates, how_many, is_called, only, resolve};
+ghost use Rattle.iv_meaning.specs.Names.{columns_named, candidates, is_called, only, resolve};
+ghost use Rattle.iv_meaning.specs.Resolving.{how_many};
 ghost use Rattle.bind_names.specs.declared.found.Found.TheVariants.{Nothing, One};
 ghost use Rattle.bind_names.specs.Found.{found_of, both, is_meant, resolved};
 ghost use Rattle.bind_names.specs.Seeing.{names_in, visible_of, scope_seen};

@@ -1,6 +1,6 @@
 //! Names in the order of their bytes, for statements that list many of them.
 ghost use Rattle.std.specs.Prelude.{◌≡◌, ◌∷◌, OnOk};
-ghost use Rattle.iv_meaning.specs.Names.{is_among};
+ghost use Rattle.iv_meaning.specs.Resolving.{is_among};
 ghost use Rattle.bind_names.specs.Seeing.{names_in, Alike};
 
 use iv_types::{Bytes, NoMemory};

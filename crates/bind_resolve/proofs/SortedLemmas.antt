@@ -10,7 +10,7 @@ use Rattle.std.specs.List.{list_any}
 use Rattle.std.specs.Cmp.Lexicographic.{slice_cmp, bytes_decides}
 use Rattle.std.specs.BTreeSet.{insert_key}
 use Rattle.std.proofs.lemmas.Map.Text.{is_eq-slice_cmp}
-use Rattle.iv_meaning.specs.Names.{is_among}
+use Rattle.iv_meaning.specs.Resolving.{is_among}
 use Rattle.bind_resolve.specs.Seen.{names_in, Alike}
 
 abbrev pub by_now : Bor (List ℕ) → Bor (List ℕ) → Ordering

@@ -9,9 +9,7 @@ use Rattle.iv_types.specs.declared.refusal.Refusal.{Refusal}
 use Rattle.iv_types.specs.declared.refusal.Refusal.TheVariants.{NoMemory, NameTaken}
 use Rattle.iv_types.specs.Syntax.{ItemTree, JoinTree}
 use Rattle.iv_meaning.specs.Schema.{Schema}
-use Rattle.iv_meaning.specs.Names.{is_among}
-use Rattle.iv_meaning.specs.Shape.{NamedItem}
-use Rattle.iv_meaning.specs.Resolving.{Scope, Joined, and_then, called, expression, fresh, items_for, items_resolved, joins_resolved, known, names_in, source}
+use Rattle.iv_meaning.specs.Resolving.{is_among, NamedItem, Scope, Joined, and_then, called, expression, fresh, items_for, items_resolved, joins_resolved, known, names_in, source}
 use Rattle.bind_resolve.specs.Seen.{Alike}
 use Rattle.bind_resolve.specs.Walking.{next_items, next_join, Joins}
 

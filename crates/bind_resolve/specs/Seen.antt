@@ -6,7 +6,7 @@ use Rattle.std.specs.Option.{option_copied}
 use denote.Ref.{Bor}
 use Rattle.iv_types.specs.Trees.{tree, trees, perhaps_tree}
 use Rattle.iv_meaning.specs.Objects.{object_of}
-use Rattle.iv_meaning.specs.Names.{is_among}
+use Rattle.iv_meaning.specs.Resolving.{is_among}
 use Rattle.iv_meaning.specs.Shape as shape
 use Rattle.iv_meaning.specs.Bound.{item_tree, set_tree}
 use Rattle.iv_meaning.specs.Resolving as meant

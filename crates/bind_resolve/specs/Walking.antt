@@ -5,8 +5,7 @@ use Rattle.std.specs.Prelude.{◌≡◌, ℕ, List, [], ◌∷◌, ◌++◌, Boo
 use Rattle.iv_types.specs.declared.refusal.Refusal.{Refusal}
 use Rattle.iv_types.specs.Syntax.{ItemTree, JoinTree, QueryTree}
 use Rattle.iv_meaning.specs.Schema.{Schema}
-use Rattle.iv_meaning.specs.Shape.{NamedItem}
-use Rattle.iv_meaning.specs.Resolving.{Scope, Joined, ResolvedQuery, and_then, called, column_of, each, expression, fresh, items_for, items_resolved, joins_resolved, names_in, perhaps, source}
+use Rattle.iv_meaning.specs.Resolving.{NamedItem, Scope, Joined, ResolvedQuery, and_then, called, column_of, each, expression, fresh, items_for, items_resolved, joins_resolved, names_in, perhaps, source}
 
 -- what an item stands for, if its names are new in a view
 abbrev pub next_items : Bool → Scope → List (List ℕ) → ItemTree → Result (List NamedItem) Refusal

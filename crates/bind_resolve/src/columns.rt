@@ -3,7 +3,7 @@
 
 ghost use Rattle.std.specs.Prelude.{◌≡◌, ◌&&◌, map, filter, IfOk, Some, None};
 ghost use Rattle.std.specs.Str.{bytes_eq};
-ghost use Rattle.iv_meaning.specs.Names.{how_many};
+ghost use Rattle.iv_meaning.specs.Resolving.{how_many};
 ghost use Rattle.iv_meaning.specs.Resolving as meant;
 ghost use Rattle.bind_resolve.specs.Meant.{IsMeant};
 ghost use Rattle.bind_resolve.specs.Seen.{scope_seen};

@@ -5,7 +5,7 @@ ghost use Rattle.std.specs.Prelude.{◌≡◌, map, IfOk, OnOk, ◌∷◌, [], �
 ghost use Rattle.std.specs.List.{filter_map};
 ghost use Rattle.std.specs.Option.{option_copied};
 ghost use Rattle.iv_types.specs.Trees.{tree, item_tree};
-ghost use Rattle.iv_meaning.specs.Shape.{item_name};
+ghost use Rattle.iv_meaning.specs.Resolving.{item_name};
 ghost use Rattle.iv_meaning.specs.Resolving as meant;
 ghost use Rattle.bind_resolve.specs.Meant.{IsMeant};
 ghost use Rattle.bind_resolve.specs.Seen.{names_in, column_seen, item_seen, scope_seen};

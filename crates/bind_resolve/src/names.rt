@@ -4,7 +4,7 @@ ghost use Rattle.std.specs.Str.{bytes_eq};
 ghost use Rattle.iv_types.specs.declared.refusal.Refusal.TheVariants as refusal;
 ghost use Rattle.iv_meaning.specs.Schema.{named};
 ghost use Rattle.iv_meaning.specs.Objects.{schema_of, object_of};
-ghost use Rattle.iv_meaning.specs.Names.{is_among};
+ghost use Rattle.iv_meaning.specs.Resolving.{is_among};
 ghost use Rattle.iv_meaning.specs.Resolving as meant;
 ghost use Rattle.bind_resolve.specs.Meant.{IsMeant};
 ghost use Rattle.bind_resolve.specs.Seen.{names_in, Alike};

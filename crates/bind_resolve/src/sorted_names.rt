@@ -2,7 +2,7 @@
 #![tactic(auto, using(crate::proofs::Steps::stops, crate::proofs::Steps::goes_on))]
 
 ghost use Rattle.std.specs.Prelude.{◌≡◌, ◌∷◌, [], OnOk};
-ghost use Rattle.iv_meaning.specs.Names.{is_among};
+ghost use Rattle.iv_meaning.specs.Resolving.{is_among};
 ghost use Rattle.iv_meaning.specs.Resolving as meant;
 ghost use Rattle.bind_resolve.specs.Meant.{IsMeant};
 ghost use Rattle.bind_resolve.specs.Seen.{names_in, Alike};

@@ -11,9 +11,10 @@ use Rattle.iv_types.specs.declared.expression.Ref.{Ref}
 use Rattle.iv_types.specs.declared.expression.ColumnAt.{ColumnAt}
 use Rattle.iv_types.specs.declared.catalog.TableDef.{TableDef}
 use Rattle.iv_types.specs.Syntax.{Tree, JoinTree, number, word, named, at, not, minus, pair}
-use Rattle.iv_meaning.specs.Names.{Visible, bound, resolve, how_many}
+use Rattle.iv_meaning.specs.Names.{Visible, bound, resolve}
+use Rattle.iv_meaning.specs.Resolving.{how_many, NamedItem}
 use Rattle.iv_meaning.specs.Query.{BoundItem, count, sum, plain}
-use Rattle.iv_meaning.specs.Shape.{NamedItem, same_place, terms, joins_by, joins_key, joins_whole_key, joins_tables, table_of, is_many_to_one, is_grouped, has_arithmetic, are_sums, is_count_and_sums, is_view_list}
+use Rattle.iv_meaning.specs.Shape.{same_place, terms, joins_by, joins_key, joins_whole_key, joins_tables, table_of, is_many_to_one, is_grouped, has_arithmetic, are_sums, is_count_and_sums, is_view_list}
 use Rattle.bind_shape.specs.Items.{place_in}
 use Rattle.bind_shape.specs.Joining.{is_and, is_equal, perhaps_joined, pairs_of, is_key, is_of_column, column_of, is_arithmetic, table_at, first_on, is_group_item, is_named_count, is_named_sum}
 

@@ -6,7 +6,7 @@ use Rattle.std.specs.Option.{option_map_or}
 use Rattle.iv_types.specs.declared.value.Kind.{Kind}
 use Rattle.iv_types.specs.declared.value.Kind.TheVariants.{Int, Huge, Text}
 use Rattle.iv_meaning.specs.Schema.{Schema, as_view}
-use Rattle.iv_meaning.specs.Names.{how_many}
+use Rattle.iv_meaning.specs.Resolving.{how_many}
 use Rattle.iv_meaning.specs.Shape.{readers}
 use Rattle.bind_shape.specs.declared.counted.Width.{Width}
 use Rattle.bind_shape.specs.declared.counted.Width.TheVariants.{Key, Row}

@@ -6,7 +6,8 @@ use Rattle.std.specs.List.{list_any}
 use Rattle.std.specs.Option.{option_map_or}
 use Rattle.iv_types.specs.declared.value.Kind.{Kind}
 use Rattle.iv_meaning.specs.Schema.{Object, ViewTree, as_table, as_index, as_view, sources_of}
-use Rattle.iv_meaning.specs.Shape.{NamedItem, key_width, row_width}
+use Rattle.iv_meaning.specs.Resolving.{NamedItem}
+use Rattle.iv_meaning.specs.Shape.{key_width, row_width}
 use Rattle.iv_meaning.specs.Query.{count, sum, plain}
 use Rattle.bind_shape.specs.declared.counted.Counted.{Counted}
 use Rattle.bind_shape.specs.declared.counted.Counted.TheVariants.{Tables, Indexes, Views, Readers}

@@ -13,7 +13,8 @@ use Rattle.iv_types.specs.Syntax as s
 use Rattle.iv_types.specs.Syntax.{Tree, JoinTree}
 use Rattle.iv_meaning.specs.Names.{Visible}
 use Rattle.iv_meaning.specs.Query.{BoundItem, count, sum, plain}
-use Rattle.iv_meaning.specs.Shape.{NamedItem, terms, joins_by, both_kinds, table_of, is_grouped}
+use Rattle.iv_meaning.specs.Resolving.{NamedItem}
+use Rattle.iv_meaning.specs.Shape.{terms, joins_by, both_kinds, table_of, is_grouped}
 use Rattle.bind_shape.specs.Items.{place_in}
 
 abbrev pub is_and : Op → Bool

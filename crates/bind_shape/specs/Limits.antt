@@ -7,7 +7,8 @@ use Rattle.iv_types.specs.declared.value.Kind.{Kind}
 use Rattle.iv_types.specs.declared.expression.ColumnAt.{ColumnAt}
 use Rattle.iv_meaning.specs.Schema.{Schema, as_table, as_index, as_view, items_at, kind_at}
 use Rattle.iv_meaning.specs.Names.{Visible}
-use Rattle.iv_meaning.specs.Shape.{NamedItem, Bounded, at_most, readers, numbers_of, width, key_width, row_width, sums_in}
+use Rattle.iv_meaning.specs.Resolving.{NamedItem}
+use Rattle.iv_meaning.specs.Shape.{Bounded, at_most, readers, numbers_of, width, key_width, row_width, sums_in}
 
 -- the views that read a table of FROM
 abbrev pub many_readers : Schema → List Visible → Bounded

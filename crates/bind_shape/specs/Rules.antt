@@ -7,7 +7,8 @@ use Rattle.std.specs.Option.{option_map_or}
 use Rattle.iv_types.specs.declared.expression.ColumnAt.{ColumnAt}
 use Rattle.iv_types.specs.Syntax.{QueryTree}
 use Rattle.iv_meaning.specs.Names.{Visible}
-use Rattle.iv_meaning.specs.Shape.{NamedItem, same_place, repeats, is_index, is_view, is_aggregate, is_grouped, is_many_to_one, is_empty, is_view_list, has_arithmetic}
+use Rattle.iv_meaning.specs.Resolving.{NamedItem}
+use Rattle.iv_meaning.specs.Shape.{same_place, repeats, is_index, is_view, is_aggregate, is_grouped, is_many_to_one, is_empty, is_view_list, has_arithmetic}
 
 abbrev pub groups : QueryTree → Bool
 groups query = not (is_empty query.group)

@@ -4,7 +4,7 @@ ghost use Rattle.std.specs.List.{filter_map, list_any};
 ghost use Rattle.std.specs.Option.{option_map_or, option_to_list};
 ghost use Rattle.iv_meaning.specs.Schema.{items_at, kind_at};
 ghost use Rattle.iv_meaning.specs.Objects.{schema_of, object_of, view_tree};
-ghost use Rattle.iv_meaning.specs.Names.{how_many};
+ghost use Rattle.iv_meaning.specs.Resolving.{how_many};
 ghost use Rattle.iv_meaning.specs.Shape.{width, object_number, readers, numbers_of, sums_in};
 ghost use Rattle.bind_names.specs.Seeing.{visible_of, scope_seen};
 ghost use Rattle.bind_shape.specs.Items.{named_item, items_seen};

@@ -4,7 +4,8 @@ ghost use Rattle.std.specs.List.{flat_map};
 ghost use Rattle.std.specs.Option.{option_copied, option_to_list};
 ghost use Rattle.iv_types.specs.Trees.{tree, item_tree, query_tree};
 ghost use Rattle.iv_meaning.specs.Names.{bound};
-ghost use Rattle.iv_meaning.specs.Shape.{resolved, group_of, all_columns, item_name, named_items, items_of};
+ghost use Rattle.iv_meaning.specs.Shape.{resolved, group_of, all_columns, named_items, items_of};
+ghost use Rattle.iv_meaning.specs.Resolving.{item_name};
 ghost use Rattle.bind_names.specs.Seeing.{scope_seen};
 ghost use Rattle.bind_shape.specs.Items.{named_item, items_seen, columns_seen, place_in};
 

@@ -11,10 +11,3 @@ pub mod SerialRuns
 pub mod SerialTurns
 pub mod SerialMisses
 pub mod RangeLemmas
-pub mod Agreeing
-pub mod ColumnLemmas
-pub mod QueryLemmas
-pub mod PassLemmas
-pub mod PlaceLemmas
-pub mod SameQueries
-pub mod SameLemmas

@@ -8,7 +8,7 @@ use Rattle.iv_meaning.specs.Schema.{Object, view, numbered}
 use Rattle.iv_meaning.specs.Database.{Database, created}
 use Rattle.iv_meaning.specs.View.{whole_view}
 use Rattle.iv_meaning.specs.Query.{BoundQuery}
-use Rattle.iv_meaning.specs.Passes.{bind}
+use Rattle.iv_meaning.specs.Binding.{bind}
 use Rattle.iv_meaning.specs.Statement as bound
 use Rattle.iv_meaning.specs.Said.{Said, nothing, runs, unread}
 use Rattle.iv_meaning.specs.Serial.{World, opened_with, latest, OnlyReplies, Answers}

@@ -1,9 +1,7 @@
--- No clause of `run` rests on this module: it serves contracts between crates.
---
 -- Pass 1: a statement whose names are places and objects, or the refusal of the first name, in the order of the text, that
 -- stands for nothing or is taken.
 use Rattle.std.specs.Prelude.{ℕ, ◌+◌, ◌==◌, ◌&&◌, Bool, true, false, List, [], ◌∷◌, ◌++◌, map, filter, Option, Some, None, Result, Ok, Err, if◌then◌else◌, is_some}
-use Rattle.std.specs.List.{filter_map}
+use Rattle.std.specs.List.{filter_map, list_any}
 use Rattle.std.specs.Option.{unwrap_or, option_map_or}
 use Rattle.std.specs.Str.{bytes_eq}
 use Rattle.iv_types.specs.declared.expression.Ref.{Ref}
@@ -17,9 +15,7 @@ use Rattle.iv_types.specs.Syntax as s
 use Rattle.iv_types.specs.Syntax.{Tree, ItemTree, QueryTree, JoinTree, SetTree, StatementTree}
 use Rattle.iv_meaning.specs.Schema as schema
 use Rattle.iv_meaning.specs.Schema.{Schema, Object, object_columns}
-use Rattle.iv_meaning.specs.Names.{how_many, is_among}
-use Rattle.iv_meaning.specs.Query.{count, sum, plain}
-use Rattle.iv_meaning.specs.Shape.{NamedItem, item_name}
+use Rattle.iv_meaning.specs.Query.{BoundItem, count, sum, plain}
 use Rattle.iv_meaning.specs.Statement.{BoundSet}
 
 -- ---- one step after another, up to the first refusal
@@ -75,6 +71,10 @@ scope_of_one name columns = record { relations = name ∷ []; columns = columns_
 
 -- ---- columns
 
+abbrev pub how_many : {X : Type 0} → (X → Bool) → List X → ℕ
+how_many test [] = 0
+how_many test (x ∷ xs) = if test x then how_many test xs + 1 else how_many test xs
+
 abbrev pub only : List ColumnAt → List ℕ → Result ColumnAt Refusal
 only (place ∷ []) name = Ok place
 only _ name = Err (UnknownName name)
@@ -115,12 +115,29 @@ known objects name = elim (schema.named objects name) [ None ↦ Err (UnknownNam
 abbrev pub new_object : Schema → List ℕ → Result (List ℕ) Refusal
 new_object objects name = if is_some (schema.named objects name) then Err (NameTaken name) else Ok name
 
+abbrev pub is_among : List (List ℕ) → List ℕ → Bool
+is_among names name = list_any (bytes_eq name) names
+
 -- new names that stand behind some others
 abbrev pub fresh : List (List ℕ) → List (List ℕ) → Result (Unit {0}) Refusal
 fresh others [] = Ok tt
 fresh others (name ∷ names) = if is_among others name then Err (NameTaken name) else fresh (name ∷ others) names
 
 -- ---- queries
+
+-- an item and the name that it has, if it has one
+pub record NamedItem : Type 0 where
+  pub item : BoundItem
+  pub name : Option (List ℕ)
+
+-- an item without AS has the name of its column, if it is one
+abbrev pub plain_name : Tree → Option (List ℕ)
+plain_name (s.named ref) = Some ref.name
+plain_name e = None
+
+abbrev pub item_name : Tree → Option (List ℕ) → Option (List ℕ)
+item_name e None = plain_name e
+item_name e (Some name) = Some name
 
 -- a relation behind JOIN and its condition
 pub record Joined : Type 0 where

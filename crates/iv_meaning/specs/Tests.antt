@@ -1,9 +1,7 @@
--- No clause of `run` rests on this module: it serves contracts between crates.
---
 -- Passes 3 to 5 over a resolved statement: its shape rules, its limits, and the index that a join view needs, each as
 -- whether it fails and its refusal.
-use Rattle.std.specs.Prelude.{ℕ, pos, ◌+◌, ◌==◌, ◌&&◌, ◌||◌, nat_lt, not, is_some, is_none, Bool, true, false, List, [], ◌∷◌, ◌++◌, map, length, int_le, Option, Some, None, if◌then◌else◌}
-use Rattle.std.specs.List.{filter_map, list_any, list_all}
+use Rattle.std.specs.Prelude.{ℕ, ℤ, pos, negsuc, ◌-◌, ◌+◌, ◌==◌, ◌&&◌, ◌||◌, nat_lt, not, is_some, is_none, Bool, true, false, List, [], ◌∷◌, ◌++◌, map, length, int_le, Option, Some, None, if◌then◌else◌}
+use Rattle.std.specs.List.{flat_map, filter_map, list_any, list_all}
 use Rattle.std.specs.Option.{option_map, option_map_or}
 use Rattle.iv_types.specs.declared.value.Kind.{Kind}
 use Rattle.iv_types.specs.declared.refusal.Refusal.{Refusal}
@@ -12,13 +10,13 @@ use Rattle.iv_types.specs.declared.statement.Order.{Order}
 use Rattle.iv_types.specs.declared.statement.OrderKey.{OrderKey}
 use Rattle.iv_types.specs.declared.statement.OrderKey.TheVariants.{Place, Name}
 use Rattle.iv_types.specs.declared.catalog.TableDef.{TableDef}
-use Rattle.iv_meaning.specs.Schema.{Schema, Object, as_table, as_index, as_view, primary_of, items_at, kind_at, object_columns, object_kinds}
-use Rattle.iv_meaning.specs.Names.{how_many}
+use Rattle.iv_types.specs.declared.catalog.IndexDef.{IndexDef}
+use Rattle.iv_types.specs.Syntax.{Tree}
+use Rattle.iv_meaning.specs.Schema.{Schema, Object, as_table, as_index, as_view, primary_of, items_at, kind_at, object_columns, object_kinds, indexes_of}
 use Rattle.iv_meaning.specs.Query.{BoundOrder}
-use Rattle.iv_meaning.specs.Shape.{NamedItem, same_place, repeats, is_aggregate, is_grouped, joins_tables, is_view_list, has_arithmetic, is_named, is_empty, terms, key_width, row_width, width, readers, object_number, sums_in}
-use Rattle.iv_meaning.specs.Binding.{join_columns, join_index, item_place, before_number}
-use Rattle.iv_meaning.specs.Resolving.{ResolvedQuery, Joined, Resolved, table, index, view, insert, update, delete, select, control}
-use Rattle.iv_meaning.specs.Typing.{sources_of, kinds_seen}
+use Rattle.iv_meaning.specs.Shape.{joins_by, same_place, repeats, is_aggregate, is_grouped, joins_tables, is_view_list, has_arithmetic, is_named, is_empty, terms, key_width, row_width, width, readers, object_number, sums_in}
+use Rattle.iv_meaning.specs.Resolving.{how_many, NamedItem, ResolvedQuery, Joined, Resolved, table, index, view, insert, update, delete, select, control}
+use Rattle.iv_meaning.specs.Types.{sources_of, kinds_seen}
 
 -- whether it fails, and how it is refused then
 abbrev pub Test : Type 0
@@ -61,6 +59,15 @@ view_rules query =
     ∷ rule 11 (list_any (λ o. is_some (as_view o)) (sources_of query))
     ∷ []
 
+-- the place of the one item of a name
+abbrev pub item_place : List ℕ → ℕ → List NamedItem → ℕ
+item_place name n [] = n
+item_place name n (i ∷ is) = if is_named name i then n else item_place name (n + 1) is
+
+abbrev pub before_number : ℤ → ℕ
+before_number (pos n) = n - 1
+before_number (negsuc n) = 0
+
 -- the item that an ORDER BY names: by its number from 1, or by a name that it alone has
 abbrev pub item_named : List NamedItem → OrderKey → Option ℕ
 item_named items (Place n) = if int_le (pos 1) n && int_le n (pos (length items)) then Some (before_number n) else None
@@ -70,6 +77,29 @@ abbrev pub ordered : List NamedItem → Order → Option BoundOrder
 ordered items o = option_map (λ place. record { item = place; descending = o.descending }) (item_named items o.by)
 
 -- ---- the join of a view
+
+-- the column of the first table that is held equal to a column of the second
+abbrev pub joined_with : List Tree → ℕ → List ℕ
+joined_with [] place = []
+joined_with (e ∷ es) place = elim (joins_by e) [ None ↦ joined_with es place | Some p ↦ if p.1 == place then p.0 ∷ [] else joined_with es place ]
+
+-- the first table's columns that are equal to the second's primary key, in the key's order
+abbrev pub join_columns : List Tree → TableDef → List ℕ
+join_columns es second = flat_map (joined_with es) second.primary
+
+abbrev pub begins_with : List ℕ → List ℕ → Bool
+begins_with [] places = true
+begins_with (p ∷ ps) [] = false
+begins_with (p ∷ ps) (q ∷ qs) = (p == q) && begins_with ps qs
+
+-- the first index that begins with these columns
+abbrev pub first_index : List ℕ → List IndexDef → Option ℕ
+first_index columns [] = None
+first_index columns (i ∷ is) = if begins_with columns i.columns then Some i.number else first_index columns is
+
+-- the primary index first, and then in the order of creation
+abbrev pub join_index : Schema → TableDef → List ℕ → Option ℕ
+join_index objects t columns = if begins_with columns t.primary then Some t.number else first_index columns (indexes_of objects t.number)
 
 -- the second table of a view, if it has one, and the columns of the first that are equal to its key
 abbrev pub second_of : ResolvedQuery → Option (TableDef × List ℕ)

@@ -9,7 +9,7 @@ use Rattle.iv_types.specs.declared.statement.Mode.{Mode}
 use Rattle.iv_types.specs.declared.statement.Mode.TheVariants.{Serial, Snapshot}
 use Rattle.iv_types.specs.Syntax.{StatementTree, insert, update, delete, select, commit, rollback, savepoint}
 use Rattle.iv_meaning.specs.Database.{Database}
-use Rattle.iv_meaning.specs.Passes.{bind}
+use Rattle.iv_meaning.specs.Binding.{bind}
 use Rattle.iv_meaning.specs.Statement.{BoundTree, Kept, Meaning, Refused, Accepted, bound_meaning, keep_all}
 
 -- what a statement means on a database

@@ -1,4 +1,4 @@
--- The types of a statement's expressions.
+-- Pass 2: the types of a resolved statement.
 use Rattle.std.specs.Prelude.{ℕ, ◌&&◌, Bool, true, false, List, [], ◌∷◌, map, Option, Some, None}
 use Rattle.std.specs.List.{list_all}
 use Rattle.std.specs.Option.{option_map, option_map_or}
@@ -7,9 +7,13 @@ use Rattle.iv_types.specs.declared.value.Kind.TheVariants.{Int, Huge, Text}
 use Rattle.iv_types.specs.declared.expression.Op.{Op}
 use Rattle.iv_types.specs.declared.expression.Op.TheVariants as op
 use Rattle.iv_types.specs.Syntax as s
-use Rattle.iv_types.specs.Syntax.{Tree, ItemTree, all, count, sum, plain, QueryTree, SetTree, StatementTree, create_table, create_index, create_view, insert, update, delete, select}
-use Rattle.iv_meaning.specs.Schema.{Schema, kind_at}
-use Rattle.iv_meaning.specs.Names.{Visible, seen_as, scope_of, bound, columns_named}
+use Rattle.iv_types.specs.Syntax.{Tree}
+use Rattle.iv_meaning.specs.Schema.{Schema, Object, object_kinds, kind_at}
+use Rattle.iv_meaning.specs.Query.{BoundItem, count, sum, plain}
+use Rattle.iv_meaning.specs.Statement.{BoundSet}
+use Rattle.iv_meaning.specs.Resolving.{ResolvedQuery, Resolved, view, insert, update, delete, select}
+
+-- ---- families of expressions
 
 pub data Family : Type 0 where
   number : Family
@@ -73,42 +77,42 @@ family kinds (s.not e) = typed (is_truth (family kinds e)) truth
 family kinds (s.minus e) = typed (is_number (family kinds e)) number
 family kinds (s.pair o a b) = family_of_pair o (family kinds a) (family kinds b)
 
-abbrev pub family_in : List Visible → Tree → Option Family
-family_in scope e = family (map (λ v. v.kinds) scope) (bound scope e)
-
 -- ---- statements
 
-abbrev pub condition_typed : List Visible → Option Tree → Bool
-condition_typed scope condition = option_map_or (λ e. is_truth (family_in scope e)) condition true
+abbrev pub sources_of : ResolvedQuery → List Object
+sources_of query = query.first ∷ map (λ j. j.object) query.joins
 
-abbrev pub item_typed : List Visible → ItemTree → Bool
-item_typed scope all = true
-item_typed scope (count name) = true
-item_typed scope (sum ref name) = is_number (family_in scope (s.named ref))
-item_typed scope (plain e name) = is_value (family_in scope e)
+abbrev pub kinds_seen : Schema → ResolvedQuery → List (List Kind)
+kinds_seen objects query = map (object_kinds objects) (sources_of query)
 
-abbrev pub query_typed : List Visible → QueryTree → Bool
-query_typed scope query = list_all (item_typed scope) query.items && list_all (λ join. is_truth (family_in scope join.on)) query.joins && condition_typed scope query.condition
+abbrev pub item_typed : List (List Kind) → BoundItem → Bool
+item_typed kinds count = true
+item_typed kinds (sum place) = is_number (family kinds (s.at place))
+item_typed kinds (plain e) = is_value (family kinds e)
+
+abbrev pub condition_typed : List (List Kind) → Option Tree → Bool
+condition_typed kinds condition = option_map_or (λ e. is_truth (family kinds e)) condition true
+
+abbrev pub query_typed : Schema → ResolvedQuery → Bool
+query_typed objects query =
+    let kinds : List (List Kind) = kinds_seen objects query in
+    list_all (λ i. item_typed kinds i.item) query.items && list_all (λ j. is_truth (family kinds j.on)) query.joins && condition_typed kinds query.condition
 
 -- the values behind the last column are values of some type
 abbrev pub tuple_typed : List Kind → List Tree → Bool
 tuple_typed kinds [] = true
-tuple_typed [] (e ∷ es) = is_value (family_in [] e) && tuple_typed [] es
-tuple_typed (kind ∷ kinds) (e ∷ es) = is_of kind (family_in [] e) && tuple_typed kinds es
+tuple_typed [] (e ∷ es) = is_value (family [] e) && tuple_typed [] es
+tuple_typed (kind ∷ kinds) (e ∷ es) = is_of kind (family [] e) && tuple_typed kinds es
 
--- the kind of a relation's column of this name
-abbrev pub kind_named : Visible → List ℕ → Option Kind
-kind_named v name = elim (columns_named name 0 0 v.columns) [ [] ↦ None | place ∷ places ↦ kind_at (v.kinds ∷ []) place ]
+abbrev pub set_typed : List (List Kind) → BoundSet → Bool
+set_typed kinds a = option_map_or (λ kind. is_of kind (family kinds a.value)) (kind_at kinds (record { source = 0; column = a.column })) false
 
-abbrev pub set_typed : Visible → SetTree → Bool
-set_typed target s = option_map_or (λ kind. is_of kind (family_in (target ∷ []) s.value)) (kind_named target s.name) false
-
-abbrev pub well_typed : Schema → StatementTree → Bool
-well_typed objects (create_view name query) = query_typed (scope_of objects query) query
-well_typed objects (insert table tuples) = list_all (tuple_typed (seen_as objects table table).kinds) tuples
-well_typed objects (update table ss condition) =
-    let target : Visible = seen_as objects table table in
-    list_all (set_typed target) ss && condition_typed (target ∷ []) condition
-well_typed objects (delete table condition) = condition_typed (seen_as objects table table ∷ []) condition
-well_typed objects (select query order) = query_typed (scope_of objects query) query
+abbrev pub well_typed : Schema → Resolved → Bool
+well_typed objects (view name query) = query_typed objects query
+well_typed objects (insert target tuples) = list_all (tuple_typed (object_kinds objects target)) tuples
+well_typed objects (update target sets condition) =
+    let kinds : List (List Kind) = object_kinds objects target ∷ [] in
+    list_all (set_typed kinds) sets && condition_typed kinds condition
+well_typed objects (delete target condition) = condition_typed (object_kinds objects target ∷ []) condition
+well_typed objects (select query order) = query_typed objects query
 well_typed objects _ = true

@@ -3,6 +3,5 @@
 //! The functions of `laws` have no body: each is there for its contract, which is a law about the definitions.
 #![tactic(auto)]
 
-pub mod binding;
 pub mod example;
 pub mod laws;

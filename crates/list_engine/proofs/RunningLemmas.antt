@@ -23,7 +23,7 @@ use Rattle.iv_types.specs.declared.catalog.TableDef.{TableDef}
 use Rattle.iv_meaning.specs.Resolving as resolving
 use Rattle.iv_meaning.specs.Resolving.{Resolved}
 use Rattle.iv_meaning.specs.Statement.{BoundTree, create, control, defines, keep, bound_meaning}
-use Rattle.iv_meaning.specs.Passes.{bind, bound_of, made_view}
+use Rattle.iv_meaning.specs.Binding.{bind, bound_of, made_view}
 use Rattle.iv_meaning.specs.Transaction.{means, bound_or_refused}
 use Rattle.list_engine.specs.Whole.{whole_meaning, means_whole, whole_or_refused}
 use Rattle.list_engine.specs.declared.step.Step.{Step}

@@ -24,7 +24,7 @@ use Rattle.list_engine.specs.declared.step.Answer.{Answer}
 use Rattle.list_engine.specs.declared.step.Answer.TheVariants as answer
 use Rattle.std.proofs.lemmas.Bool.{cases_lt}
 use Rattle.iv_types.specs.Syntax.{StatementTree}
-use Rattle.iv_meaning.specs.Passes.{bind}
+use Rattle.iv_meaning.specs.Binding.{bind}
 use Rattle.iv_meaning.specs.Statement.{BoundTree}
 use Rattle.iv_types.specs.declared.bound.Bound.{Bound}
 use Rattle.iv_meaning.specs.Bound.{bound_tree}

@@ -14,7 +14,7 @@ use Rattle.iv_types.specs.Syntax.{StatementTree}
 use Rattle.iv_types.specs.Trees.{statement_tree}
 use Rattle.iv_meaning.specs.Database.{Database, created}
 use Rattle.iv_meaning.specs.Reading.{Program, replies_by}
-use Rattle.iv_meaning.specs.Passes.{bind}
+use Rattle.iv_meaning.specs.Binding.{bind}
 use Rattle.iv_meaning.specs.Statement.{Meaning, Refused}
 use Rattle.iv_meaning.specs.Transaction.{means, ended_by}
 use Rattle.list_engine.specs.Whole.{IsTold, IsPassedOver}

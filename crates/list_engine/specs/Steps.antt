@@ -17,7 +17,7 @@ use Rattle.iv_meaning.specs.Schema.{Object, table, numbered}
 use Rattle.iv_meaning.specs.Objects.{schema_of}
 use Rattle.iv_meaning.specs.View.{read}
 use Rattle.iv_meaning.specs.Statement.{BoundTree, defines, Refused, Accepted, keep}
-use Rattle.iv_meaning.specs.Passes.{bind}
+use Rattle.iv_meaning.specs.Binding.{bind}
 use Rattle.iv_meaning.specs.Transaction.{means}
 use Rattle.iv_meaning.specs.Autocommit.{is_refused_whole}
 use Rattle.list_engine.specs.declared.step.Step.{Step}

@@ -8,7 +8,7 @@ use Rattle.iv_types.specs.declared.reply.Reply.{Reply}
 use Rattle.iv_types.specs.declared.reply.Reply.TheVariants.{Error}
 use Rattle.iv_types.specs.Syntax.{StatementTree}
 use Rattle.iv_meaning.specs.Database.{Database}
-use Rattle.iv_meaning.specs.Passes.{bind}
+use Rattle.iv_meaning.specs.Binding.{bind}
 use Rattle.iv_meaning.specs.Statement.{BoundTree, Meaning, Refused, bound_meaning}
 use Rattle.iv_meaning.specs.Statement as bound
 use Rattle.iv_meaning.specs.Transaction.{Transaction, refused_outside, ended_by}

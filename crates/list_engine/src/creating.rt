@@ -6,7 +6,7 @@ ghost use Rattle.iv_types.specs.declared.catalog.Definition.{Definition};
 ghost use Rattle.iv_meaning.specs.Schema.{Object};
 ghost use Rattle.iv_meaning.specs.Objects.{object_of};
 ghost use Rattle.iv_meaning.specs.Database.{Database};
-ghost use Rattle.iv_meaning.specs.Passes as binding;
+ghost use Rattle.iv_meaning.specs.Binding as binding;
 ghost use Rattle.iv_meaning.specs.Statement as statement;
 ghost use Rattle.iv_meaning.specs.Statement.{create_meaning, Refused};
 ghost use Rattle.iv_meaning.specs.Bound.{bound_tree};

@@ -4,7 +4,7 @@ ghost use Rattle.std.specs.Option.{option_map};
 ghost use Rattle.iv_types.specs.Trees.{statement_tree};
 ghost use Rattle.iv_meaning.specs.Objects.{object_of};
 ghost use Rattle.iv_meaning.specs.Database.{created};
-ghost use Rattle.iv_meaning.specs.Passes as binding;
+ghost use Rattle.iv_meaning.specs.Binding as binding;
 ghost use Rattle.iv_meaning.specs.Statement as meaning;
 ghost use Rattle.list_engine.specs.State.{State, Open, counted, refused_step, with_open};
 ghost use Rattle.list_engine.specs.Steps.{IsFree, MayAct, number_at_end};

@@ -4,7 +4,7 @@ ghost use Rattle.iv_types.specs.Syntax.{StatementTree};
 ghost use Rattle.iv_types.specs.Trees.{statement_tree, trees};
 ghost use Rattle.iv_meaning.specs.Database.{Database};
 ghost use Rattle.iv_meaning.specs.Query.{BoundQuery};
-ghost use Rattle.iv_meaning.specs.Passes as binding;
+ghost use Rattle.iv_meaning.specs.Binding as binding;
 ghost use Rattle.iv_meaning.specs.Statement as meaning;
 ghost use Rattle.iv_meaning.specs.Statement.{bound_meaning, Kept};
 ghost use Rattle.iv_meaning.specs.Reading.{replies_by};

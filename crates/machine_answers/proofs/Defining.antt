@@ -16,7 +16,7 @@ use Rattle.iv_meaning.specs.Tests.{tests}
 use Rattle.iv_meaning.specs.View.{whole_view}
 use Rattle.iv_meaning.specs.Statement as statement
 use Rattle.iv_meaning.specs.Statement.{Kept, defines, Meaning, Refused, Accepted, BoundTree, create, create_meaning, bound_meaning}
-use Rattle.iv_meaning.specs.Passes.{bind, bound_of, made_view}
+use Rattle.iv_meaning.specs.Binding.{bind, bound_of, made_view}
 use Rattle.query_laws.proofs.Bound.{AreAlike, IsPassed, is_bound}
 use Rattle.query_laws.proofs.SoundLemmas.{neither}
 use Rattle.txn_machine.specs.Acts as act

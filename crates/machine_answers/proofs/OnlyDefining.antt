@@ -8,7 +8,7 @@ use Rattle.iv_types.specs.declared.refusal.EngineRefusal.TheVariants as refusal
 use Rattle.iv_types.specs.Syntax.{StatementTree}
 use Rattle.iv_meaning.specs.Schema.{Object}
 use Rattle.iv_meaning.specs.Statement.{Kept, Meaning, BoundTree, create, bound_meaning, Refused, Accepted}
-use Rattle.iv_meaning.specs.Passes.{bind}
+use Rattle.iv_meaning.specs.Binding.{bind}
 use Rattle.txn_machine.specs.Acts as act
 use Rattle.txn_machine.specs.Answers as answer
 use Rattle.txn_machine.specs.Answers.{Answer}

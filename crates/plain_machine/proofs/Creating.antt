@@ -5,7 +5,7 @@ use Rattle.iv_types.specs.declared.refusal.Refusal.{Refusal}
 use Rattle.iv_types.specs.declared.refusal.Refusal.TheVariants as refusal
 use Rattle.iv_types.specs.declared.refusal.EngineRefusal.TheVariants.{SchemaBusy}
 use Rattle.iv_types.specs.Syntax.{StatementTree}
-use Rattle.iv_meaning.specs.Passes as binding
+use Rattle.iv_meaning.specs.Binding as binding
 use Rattle.iv_meaning.specs.Database.{Row, Database}
 use Rattle.iv_meaning.specs.Escrow.{IsSession}
 use Rattle.iv_meaning.specs.History.{Entry}

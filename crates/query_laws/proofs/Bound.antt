@@ -17,12 +17,10 @@ use Rattle.iv_types.specs.Printing.{statement_size}
 use Rattle.iv_types.specs.Syntax as s
 use Rattle.iv_types.specs.Syntax.{Tree, SetTree, StatementTree, QueryTree, JoinTree}
 use Rattle.iv_meaning.specs.Schema.{Schema, Object, named, kind_at, object_columns, object_kinds}
-use Rattle.iv_meaning.specs.Names.{how_many}
-use Rattle.iv_meaning.specs.Shape.{NamedItem}
-use Rattle.iv_meaning.specs.Resolving.{and_then, each, perhaps, Column, Scope, columns_from, columns_seen, called, scope_from, scope_of_one, only, places_where, column_by, column_of, place_of, expression, known, new_object, fresh, Joined, ResolvedQuery, items_resolved, source, joins_resolved, query_resolved, Resolved, table, index, view, insert, update, delete, select, control, assignment, resolved}
-use Rattle.iv_meaning.specs.Typing.{sources_of, kinds_seen, well_typed}
+use Rattle.iv_meaning.specs.Resolving.{how_many, NamedItem, and_then, each, perhaps, Column, Scope, columns_from, columns_seen, called, scope_from, scope_of_one, only, places_where, column_by, column_of, place_of, expression, known, new_object, fresh, Joined, ResolvedQuery, items_resolved, source, joins_resolved, query_resolved, Resolved, table, index, view, insert, update, delete, select, control, assignment, resolved}
+use Rattle.iv_meaning.specs.Types.{sources_of, kinds_seen, well_typed}
 use Rattle.iv_meaning.specs.Tests.{Test, tests}
-use Rattle.iv_meaning.specs.Passes.{bound_of, refuse_if, passing, checked, bind}
+use Rattle.iv_meaning.specs.Binding.{bound_of, refuse_if, passing, checked, bind}
 use Rattle.iv_meaning.specs.Statement.{BoundTree, BoundSet}
 use Rattle.query_laws.proofs.Each.{each_append, each_to, each_filtered, each_map}
 use Rattle.query_laws.proofs.GroupRows.{IsKnown}

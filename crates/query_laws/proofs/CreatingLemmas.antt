@@ -14,12 +14,11 @@ use Rattle.iv_types.specs.Syntax.{Tree, StatementTree}
 use Rattle.iv_meaning.specs.Schema.{Schema, Object, table, index, view, numbered, as_table, kinds_of_table, object_kinds}
 use Rattle.iv_meaning.specs.Database.{Database}
 use Rattle.iv_meaning.specs.Shape.{terms, is_empty, joins_tables, object_number}
-use Rattle.iv_meaning.specs.Binding.{join_columns, second_kept}
+use Rattle.iv_meaning.specs.Tests.{join_columns, tests, is_many_to_one, second_of}
+use Rattle.iv_meaning.specs.Binding.{second_kept, made_view, bound_of}
 use Rattle.iv_meaning.specs.Resolving as resolving
 use Rattle.iv_meaning.specs.Resolving.{Joined, ResolvedQuery, Resolved}
-use Rattle.iv_meaning.specs.Typing.{sources_of}
-use Rattle.iv_meaning.specs.Tests.{tests, is_many_to_one, second_of}
-use Rattle.iv_meaning.specs.Passes.{made_view, bound_of}
+use Rattle.iv_meaning.specs.Types.{sources_of}
 use Rattle.iv_meaning.specs.Statement as statement
 use Rattle.iv_meaning.specs.Sound.{IsSound, IsObject, IsTable}
 use Rattle.query_laws.specs.Laws.{CreatedLaw}

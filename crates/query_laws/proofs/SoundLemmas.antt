@@ -19,9 +19,9 @@ use Rattle.iv_meaning.specs.Database.{Database, created, set_row, key_of}
 use Rattle.iv_meaning.specs.Shape.{object_number}
 use Rattle.iv_meaning.specs.Resolving as resolving
 use Rattle.iv_meaning.specs.Resolving.{ResolvedQuery, Resolved}
-use Rattle.iv_meaning.specs.Typing.{sources_of}
+use Rattle.iv_meaning.specs.Types.{sources_of}
 use Rattle.iv_meaning.specs.Tests.{tests}
-use Rattle.iv_meaning.specs.Passes.{made_view, bound_query, bound_of}
+use Rattle.iv_meaning.specs.Binding.{made_view, bound_query, bound_of}
 use Rattle.iv_meaning.specs.Statement as statement
 use Rattle.iv_meaning.specs.Query.{BoundQuery}
 use Rattle.iv_meaning.specs.Sound.{IsSound, IsObject, IsTable}

@@ -16,7 +16,7 @@ use Rattle.iv_meaning.specs.Database.{Row, Rows, Database, rows_of, key_of, set_
 use Rattle.iv_meaning.specs.Query.{BoundQuery}
 use Rattle.iv_meaning.specs.View.{rows_between, read}
 use Rattle.iv_meaning.specs.Statement.{create, select, bound_meaning, keep, defines}
-use Rattle.iv_meaning.specs.Passes.{bind}
+use Rattle.iv_meaning.specs.Binding.{bind}
 use Rattle.iv_meaning.specs.Reading.{Program, done, fetch, program, sources_for, replies_by, replies_of}
 use Rattle.iv_meaning.specs.Sound.{IsSound}
 

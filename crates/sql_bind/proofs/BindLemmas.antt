@@ -17,7 +17,8 @@ use Rattle.iv_meaning.specs.Schema.{Schema, as_table, items_at, primary_of}
 use Rattle.iv_meaning.specs.Names.{Visible, seen_as, scope_of, bound, name_faults}
 use Rattle.iv_meaning.specs.Shape.{Bounded, object_number, at_most, limits_of, width, key_width, row_width, repeats, is_table, is_order, places_of, group_of, items_of}
 use Rattle.iv_meaning.specs.Statement.{BoundTree}
-use Rattle.iv_meaning.specs.Binding.{shape_faults, limit_faults, index_faults, type_faults, first_of, second_of, join_index, faults, bind, bound_to, unless}
+use Rattle.iv_meaning.specs.Binding.{shape_faults, limit_faults, index_faults, type_faults, first_of, second_of, faults, bind, bound_to, unless}
+use Rattle.iv_meaning.specs.Tests.{join_index}
 use Rattle.bind_names.specs.declared.visible.Visible.{Visible as Seen}
 use Rattle.bind_names.specs.Seeing.{visible_of, scope_seen}
 use Rattle.bind_names.specs.Checks.{first, Refuses, Checks, faults_behind}

@@ -3,8 +3,9 @@ use Rattle.std.proofs.Common.{◌≡◌, ℕ, ◌+◌, true, false, List, ◌∷
 use mathlib.Core.Path.{refl, sym, ap}
 use Rattle.std.specs.List.{cons_option}
 use Rattle.std.specs.Option.{option_to_list}
-use Rattle.iv_meaning.specs.Shape.{NamedItem, is_named}
-use Rattle.iv_meaning.specs.Binding.{item_place}
+use Rattle.iv_meaning.specs.Resolving.{NamedItem}
+use Rattle.iv_meaning.specs.Shape.{is_named}
+use Rattle.iv_meaning.specs.Tests.{item_place}
 
 pub one_mapped : {X Y : Type 0} (f : X → Y) (o : Option X) (xs : List X) → map f (cons_option o xs) ≡ map f (option_to_list o) ++ map f xs
 one_mapped f None xs = refl

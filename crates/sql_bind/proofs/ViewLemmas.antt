@@ -8,7 +8,8 @@ use Rattle.iv_types.specs.declared.catalog.TableDef.{TableDef}
 use Rattle.iv_types.specs.Syntax.{Tree, JoinTree}
 use Rattle.iv_meaning.specs.Schema.{Schema, table, index, view, indexes_of}
 use Rattle.iv_meaning.specs.Shape.{joins_by, terms}
-use Rattle.iv_meaning.specs.Binding.{joined_with, join_columns, begins_with, first_index, join_index, second_of, second_kept}
+use Rattle.iv_meaning.specs.Tests.{joined_with, join_columns, begins_with, first_index, join_index}
+use Rattle.iv_meaning.specs.Binding.{second_of, second_kept}
 use Rattle.iv_meaning.specs.Names.{Visible, bound}
 use Rattle.iv_types.specs.declared.catalog.Second.{Second}
 use Rattle.iv_types.specs.declared.refusal.Refusal.TheVariants.{NeedsIndex}

@@ -10,9 +10,11 @@ use Rattle.iv_types.specs.declared.refusal.Refusal.{Refusal}
 use Rattle.iv_types.specs.declared.refusal.Refusal.TheVariants.{NeedsIndex}
 use Rattle.iv_types.specs.declared.catalog.TableDef.{TableDef}
 use Rattle.iv_meaning.specs.Schema.{Schema, Object, table, index, view}
-use Rattle.iv_meaning.specs.Binding.{begins_with, join_index, join_columns, second_of, second_kept, summed}
+use Rattle.iv_meaning.specs.Tests.{begins_with, join_index, join_columns}
+use Rattle.iv_meaning.specs.Binding.{second_of, second_kept, summed}
 use Rattle.iv_meaning.specs.Names.{Visible, bound}
-use Rattle.iv_meaning.specs.Shape.{NamedItem, terms}
+use Rattle.iv_meaning.specs.Resolving.{NamedItem}
+use Rattle.iv_meaning.specs.Shape.{terms}
 use Rattle.iv_meaning.specs.Statement.{BoundTree, create, control}
 use Rattle.bind_shape.specs.Joining.{table_at}
 

@@ -5,7 +5,8 @@ ghost use Rattle.iv_types.specs.Trees.{tree, trees, perhaps_tree, join_tree, que
 ghost use Rattle.iv_meaning.specs.Objects.{object_of};
 ghost use Rattle.iv_meaning.specs.Names.{bound};
 ghost use Rattle.iv_meaning.specs.Shape.{object_number, numbers_of};
-ghost use Rattle.iv_meaning.specs.Binding.{item_place, before_number, order_place, bound_order};
+ghost use Rattle.iv_meaning.specs.Tests.{item_place, before_number};
+ghost use Rattle.iv_meaning.specs.Binding.{order_place, bound_order};
 ghost use Rattle.iv_meaning.specs.Statement as statement;
 ghost use Rattle.iv_meaning.specs.Bound.{bound_tree, item_tree, order_tree};
 ghost use Rattle.bind_shape.specs.Items.{named_item, items_seen};

@@ -5,7 +5,8 @@ ghost use Rattle.std.specs.Prelude.{◌≡◌, ◌<◌, ◌^◌, ◌-◌, ◌+�
 ghost use Rattle.std.specs.List.{filter_map};
 ghost use Rattle.std.specs.Option.{option_and_then, option_to_list, option_copied};
 ghost use Rattle.iv_meaning.specs.Objects.{schema_of, object_of};
-ghost use Rattle.iv_meaning.specs.Binding.{begins_with, join_index, summed};
+ghost use Rattle.iv_meaning.specs.Tests.{begins_with, join_index};
+ghost use Rattle.iv_meaning.specs.Binding.{summed};
 ghost use Rattle.bind_shape.specs.Items.{named_item, items_seen};
 ghost use Rattle.bind_names.specs.Seeing.{scope_seen};
 ghost use Rattle.sql_bind.specs.Viewing.{first_some, left_of, serves, is_at};

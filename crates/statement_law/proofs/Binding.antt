@@ -24,7 +24,7 @@ use Rattle.iv_meaning.specs.Query.{BoundQuery}
 use Rattle.iv_meaning.specs.Resolving as resolving
 use Rattle.iv_meaning.specs.Resolving.{Resolved}
 use Rattle.iv_meaning.specs.Tests.{tests}
-use Rattle.iv_meaning.specs.Passes.{bind, bound_of, made_view}
+use Rattle.iv_meaning.specs.Binding.{bind, bound_of, made_view}
 use Rattle.iv_meaning.specs.Sound.{IsSound}
 use Rattle.script_law.specs.Works.{is_work}
 use Rattle.query_laws.proofs.WholeViews.{all_of_cons}

@@ -8,7 +8,7 @@ use Rattle.iv_meaning.specs.Database.{Row, Database}
 use Rattle.iv_meaning.specs.Query.{BoundQuery}
 use Rattle.iv_meaning.specs.View.{read, select_answer}
 use Rattle.iv_meaning.specs.Statement.{select, select_meaning, bound_meaning}
-use Rattle.iv_meaning.specs.Passes.{bind}
+use Rattle.iv_meaning.specs.Binding.{bind}
 use Rattle.iv_meaning.specs.Sound.{IsSound}
 use Rattle.iv_meaning.specs.Reading.{Program, done as replies_with, fetch, program, replies_by, replies_of, sources_for}
 use Rattle.query_laws.proofs.ReadingLemmas.{reading_law}

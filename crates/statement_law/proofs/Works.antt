@@ -12,7 +12,7 @@ use Rattle.iv_types.specs.Syntax as s
 use Rattle.iv_types.specs.Syntax.{StatementTree, QueryTree}
 use Rattle.iv_meaning.specs.Schema.{Schema}
 use Rattle.iv_meaning.specs.Database.{Row, Database}
-use Rattle.iv_meaning.specs.Passes.{bind}
+use Rattle.iv_meaning.specs.Binding.{bind}
 use Rattle.iv_meaning.specs.Statement.{BoundTree, insert, update, delete, select, bound_meaning, tuple_rows, on_table, insert_meaning, update_meaning, delete_meaning, matching}
 use Rattle.iv_meaning.specs.Query.{BoundQuery}
 use Rattle.iv_meaning.specs.Reading.{Program, done as replies_with, fetch, program, sources_for}

@@ -7,7 +7,7 @@ use Rattle.iv_types.specs.declared.catalog.TableDef.{TableDef}
 use Rattle.iv_types.specs.declared.refusal.Refusal.{Refusal}
 use Rattle.iv_types.specs.Syntax.{StatementTree}
 use Rattle.iv_meaning.specs.Schema.{Schema, Object, table, numbered}
-use Rattle.iv_meaning.specs.Passes.{bind}
+use Rattle.iv_meaning.specs.Binding.{bind}
 use Rattle.iv_meaning.specs.Statement.{BoundTree, insert, update, delete, select, tuple_rows}
 use Rattle.script_law.specs.Works.{Work, done, refuses, Works}
 use Rattle.statement_law.specs.Selecting.{select_work}

@@ -8,7 +8,7 @@ use Rattle.iv_types.specs.Printing.{statement_text}
 use Rattle.iv_types.specs.Syntax.{StatementTree}
 use Rattle.table_laws.specs.Place.{Place}
 use Rattle.iv_meaning.specs.Schema.{Schema, numbered}
-use Rattle.iv_meaning.specs.Passes.{bind}
+use Rattle.iv_meaning.specs.Binding.{bind}
 use Rattle.txn_machine.specs.KeptLaws.{IsDelta}
 use Rattle.iv_meaning.specs.Database.{Database}
 use Rattle.iv_meaning.specs.Escrow.{IsSession}

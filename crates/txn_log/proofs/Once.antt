@@ -4,7 +4,7 @@ use mathlib.Core.Path.{refl, sym, ap, subst, ◌∙◌}
 use Rattle.iv_types.specs.declared.refusal.Refusal.{Refusal}
 use Rattle.iv_types.specs.Grammar.{OneStatement}
 use Rattle.iv_meaning.specs.Schema.{Schema, Object, view, ViewTree, numbered}
-use Rattle.iv_meaning.specs.Passes.{bind}
+use Rattle.iv_meaning.specs.Binding.{bind}
 use Rattle.iv_meaning.specs.Statement.{BoundTree, create}
 use Rattle.table_laws.specs.Place.{Place}
 use Rattle.txn_machine.specs.Records as log

@@ -5,7 +5,7 @@ use Rattle.std.specs.Prelude.{◌≡◌, ℕ, suc, List, [], ◌∷◌, map, len
 use Rattle.iv_types.specs.Syntax.{StatementTree}
 use Rattle.iv_types.specs.Grammar.{Spells}
 use Rattle.iv_meaning.specs.Schema.{Schema, Object, view, ViewTree, numbered}
-use Rattle.iv_meaning.specs.Passes.{bind}
+use Rattle.iv_meaning.specs.Binding.{bind}
 use Rattle.iv_meaning.specs.Statement.{create}
 use Rattle.txn_machine.specs.Records as log
 use Rattle.txn_machine.specs.Records.{Record}

@@ -17,15 +17,12 @@ use Rattle.iv_types.specs.Encoding.{kinds_of}
 use Rattle.iv_types.specs.Syntax.{Tree, StatementTree}
 use Rattle.iv_meaning.specs.Schema.{Schema, Object, table, index, view, ViewTree, numbered, as_table, as_index, items_at, indexes_of, sources_of}
 use Rattle.iv_meaning.specs.Database.{Database}
-use Rattle.iv_meaning.specs.Names.{how_many}
-use Rattle.iv_meaning.specs.Types.{family, is_truth}
+use Rattle.iv_meaning.specs.Resolving.{how_many, Joined, ResolvedQuery, Resolved}
+use Rattle.iv_meaning.specs.Types.{family, is_truth, kinds_seen, item_typed, condition_typed, query_typed, well_typed}
 use Rattle.iv_meaning.specs.Shape.{has_arithmetic, terms, joins_by, joins_key, same_kind, both_kinds, is_empty, joins_tables}
-use Rattle.iv_meaning.specs.Binding.{joined_with, begins_with, first_index, join_index, second_kept}
+use Rattle.iv_meaning.specs.Tests.{joined_with, begins_with, first_index, join_index, Test, tests, is_many_to_one, second_of, lacks_index}
+use Rattle.iv_meaning.specs.Binding.{second_kept, made_view, bound_of, bind}
 use Rattle.iv_meaning.specs.Resolving as resolving
-use Rattle.iv_meaning.specs.Resolving.{Joined, ResolvedQuery, Resolved}
-use Rattle.iv_meaning.specs.Typing.{kinds_seen, item_typed, condition_typed, query_typed, well_typed}
-use Rattle.iv_meaning.specs.Tests.{Test, tests, is_many_to_one, second_of, lacks_index}
-use Rattle.iv_meaning.specs.Passes.{made_view, bound_of, bind}
 use Rattle.iv_meaning.specs.Statement as statement
 use Rattle.iv_meaning.specs.Sound.{IsSound, IsTable}
 use Rattle.query_laws.proofs.Bound.{IsThere, IsQuery, IsResolved, IsPassed, is_bound}

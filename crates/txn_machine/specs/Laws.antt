@@ -12,7 +12,7 @@ use Rattle.table_laws.specs.Place.{Place}
 use Rattle.table_laws.specs.Kept.{AreSessions, take_back, take_back_all, redo, redo_all}
 use Rattle.iv_types.specs.Syntax.{StatementTree}
 use Rattle.iv_meaning.specs.Schema.{Schema, Object, view, ViewTree, numbered, group_kinds}
-use Rattle.iv_meaning.specs.Passes.{bind}
+use Rattle.iv_meaning.specs.Binding.{bind}
 use Rattle.iv_meaning.specs.Statement.{Kept, sets, defines, create}
 use Rattle.iv_meaning.specs.View.{whole_view, read, share}
 use Rattle.iv_meaning.specs.Database.{Row, Rows, Database}

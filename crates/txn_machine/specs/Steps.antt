@@ -26,7 +26,7 @@ use Rattle.iv_meaning.specs.Schema.{Schema, Object, table, view, numbered}
 use Rattle.iv_meaning.specs.Database.{Row, Database}
 use Rattle.iv_meaning.specs.View.{read}
 use Rattle.iv_meaning.specs.Statement.{Kept, create, Refused, Accepted, bound_meaning}
-use Rattle.iv_meaning.specs.Passes.{bind}
+use Rattle.iv_meaning.specs.Binding.{bind}
 use Rattle.iv_meaning.specs.History.{state_at}
 use Rattle.iv_meaning.specs.Escrow.{IsSession, IsAllowed, inf, sup}
 use Rattle.iv_meaning.specs.Waits.{sessions_of}

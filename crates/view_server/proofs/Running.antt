@@ -10,7 +10,7 @@ use Rattle.iv_types.specs.Syntax.{StatementTree, create_table, create_index, cre
 use Rattle.iv_meaning.specs.Reply.{reply_lines}
 use Rattle.iv_meaning.specs.Database.{Database}
 use Rattle.iv_meaning.specs.Query.{BoundQuery}
-use Rattle.iv_meaning.specs.Passes.{bind}
+use Rattle.iv_meaning.specs.Binding.{bind}
 use Rattle.iv_meaning.specs.Statement.{BoundTree, Kept, Meaning, Refused}
 use Rattle.iv_meaning.specs.Statement as bound
 use Rattle.iv_meaning.specs.Transaction.{Transaction, means, bound_or_refused, refused_outside, ended_by, outside}

@@ -3,7 +3,7 @@ use Rattle.iv_types.specs.Printing.{statement_size}
 use Rattle.iv_types.specs.Trees.{perhaps_tree, statement_tree}
 use Rattle.iv_meaning.specs.Objects.{object_of, schema_of}
 use Rattle.iv_meaning.specs.Resolving as meant
-use Rattle.iv_meaning.specs.Passes.{passed}
+use Rattle.iv_meaning.specs.Binding.{passed}
 use Rattle.bind_resolve.specs.Meant.{IsMeant}
 use Rattle.bind_resolve.specs.Seen.{query_seen, resolved_seen}
 use Rattle.bind_check.specs.Checked.{every_test}

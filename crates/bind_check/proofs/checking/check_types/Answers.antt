@@ -1,6 +1,6 @@
 use Rattle.std.proofs.Common.{not, subst, ◌∙◌}
 use Rattle.iv_types.specs.declared.refusal.Refusal.TheVariants.{WrongType}
-use Rattle.iv_meaning.specs.Passes.{refuse_if}
+use Rattle.iv_meaning.specs.Binding.{refuse_if}
 use Rattle.bind_resolve.specs.Meant.{IsMeant}
 use Rattle.bind_check.proofs.SeenLemmas.{typed_query}
 use Rattle.bind_check.proofs.checking.check_types.Goals as goal

@@ -1,7 +1,7 @@
 use Rattle.std.proofs.Common.{◌≡◌, ◌++◌, map, drop}
 use Rattle.iv_meaning.specs.Schema.{object_kinds}
 use Rattle.iv_meaning.specs.Objects.{schema_of}
-use Rattle.iv_meaning.specs.Typing.{kinds_seen}
+use Rattle.iv_meaning.specs.Types.{kinds_seen}
 use Rattle.bind_resolve.specs.Seen.{joined_seen, query_seen}
 use Rattle.bind_check.proofs.kinds.kinds_seen.Given as goal
 

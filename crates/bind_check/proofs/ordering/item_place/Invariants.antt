@@ -1,5 +1,5 @@
 use Rattle.std.proofs.Common.{◌≡◌, drop, map}
-use Rattle.iv_meaning.specs.Binding.{item_place}
+use Rattle.iv_meaning.specs.Tests.{item_place}
 use Rattle.bind_resolve.specs.Seen.{item_seen}
 use Rattle.bind_check.proofs.ordering.item_place.Given as goal
 

@@ -1,6 +1,6 @@
 use Rattle.std.proofs.Common.{◌≡◌, drop}
 use Rattle.iv_types.specs.Trees.{trees}
-use Rattle.iv_meaning.specs.Typing.{tuple_typed}
+use Rattle.iv_meaning.specs.Types.{tuple_typed}
 use Rattle.bind_check.proofs.typing.tuple_typed.Given as goal
 
 abbrev pub invariant-loop-index : goal.invariant-loop-index

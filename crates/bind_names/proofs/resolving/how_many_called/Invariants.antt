@@ -1,5 +1,6 @@
 use Rattle.std.proofs.Common.{◌≡◌, ◌+◌, ◌≤◌, drop}
-use Rattle.iv_meaning.specs.Names.{how_many, is_called}
+use Rattle.iv_meaning.specs.Resolving.{how_many}
+use Rattle.iv_meaning.specs.Names.{is_called}
 use Rattle.bind_names.specs.Seeing.{scope_seen}
 use Rattle.bind_names.proofs.resolving.how_many_called.Given as goal
 

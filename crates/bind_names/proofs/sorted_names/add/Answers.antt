@@ -1,6 +1,6 @@
 use Rattle.std.proofs.Common.{◌∷◌}
 use mathlib.Core.Path.{ap, ◌∙◌}
-use Rattle.iv_meaning.specs.Names.{is_among}
+use Rattle.iv_meaning.specs.Resolving.{is_among}
 use Rattle.bind_names.specs.Seeing.{names_in}
 use Rattle.bind_names.proofs.SortedLemmas.{added}
 use Rattle.bind_names.proofs.sorted_names.add.Goals as goal

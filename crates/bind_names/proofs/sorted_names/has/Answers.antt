@@ -1,5 +1,5 @@
 use mathlib.Core.Path.{ap, ◌∙◌}
-use Rattle.iv_meaning.specs.Names.{is_among}
+use Rattle.iv_meaning.specs.Resolving.{is_among}
 use Rattle.bind_names.specs.Seeing.{names_in}
 use Rattle.bind_names.proofs.SortedLemmas.{found_by}
 use Rattle.bind_names.proofs.sorted_names.has.Goals as goal

@@ -1,6 +1,6 @@
 use Rattle.std.proofs.Common.{◌≡◌, ◌+◌, ◌≤◌, drop, map}
 use Rattle.std.specs.Str.{bytes_eq}
-use Rattle.iv_meaning.specs.Names.{how_many}
+use Rattle.iv_meaning.specs.Resolving.{how_many}
 use Rattle.bind_resolve.proofs.columns.how_many_called.Given as goal
 
 abbrev pub invariant-loop-relation : goal.invariant-loop-relation

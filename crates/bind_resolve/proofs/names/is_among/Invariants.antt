@@ -1,5 +1,5 @@
 use Rattle.std.proofs.Common.{◌≡◌, drop}
-use Rattle.iv_meaning.specs.Names.{is_among}
+use Rattle.iv_meaning.specs.Resolving.{is_among}
 use Rattle.bind_resolve.specs.Seen.{names_in}
 use Rattle.bind_resolve.proofs.names.is_among.Given as goal
 

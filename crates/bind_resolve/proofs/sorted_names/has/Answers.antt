@@ -1,5 +1,5 @@
 use mathlib.Core.Path.{ap, ◌∙◌}
-use Rattle.iv_meaning.specs.Names.{is_among}
+use Rattle.iv_meaning.specs.Resolving.{is_among}
 use Rattle.bind_resolve.specs.Seen.{names_in}
 use Rattle.bind_resolve.proofs.SortedLemmas.{found_by}
 use Rattle.bind_resolve.proofs.sorted_names.has.Goals as goal

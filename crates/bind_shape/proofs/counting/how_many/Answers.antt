@@ -1,6 +1,6 @@
 use Rattle.std.proofs.Common.{◌∙◌, ◌≤◌, ◌<◌, ◌+◌, if◌then◌else◌, ap, arith, drop, false, length, slice_get, sym}
 use Rattle.std.specs.Option.{option_map_or}
-use Rattle.iv_meaning.specs.Names.{how_many}
+use Rattle.iv_meaning.specs.Resolving.{how_many}
 use Rattle.iv_meaning.specs.Objects.{object_of, schema_of}
 use Rattle.bind_shape.proofs.LimitLemmas.{add_one_if, at_most_one, one_counted}
 use Rattle.iv_types.proofs.Walks.{ended}

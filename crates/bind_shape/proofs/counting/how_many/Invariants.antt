@@ -1,5 +1,5 @@
 use Rattle.std.proofs.Common.{◌≡◌, ◌≤◌, ◌+◌, drop}
-use Rattle.iv_meaning.specs.Names.{how_many}
+use Rattle.iv_meaning.specs.Resolving.{how_many}
 use Rattle.iv_meaning.specs.Objects.{schema_of}
 use Rattle.bind_shape.specs.Counting.{counts}
 use Rattle.bind_shape.proofs.counting.how_many.Given as goal

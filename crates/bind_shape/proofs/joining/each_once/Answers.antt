@@ -1,6 +1,6 @@
 use Rattle.std.proofs.Common.{◌∙◌, ◌&&◌, ◌+◌, ◌==◌, ap, drop, sym}
 use Rattle.std.specs.List.{list_all}
-use Rattle.iv_meaning.specs.Names.{how_many}
+use Rattle.iv_meaning.specs.Resolving.{how_many}
 use Rattle.iv_types.proofs.Walks.{ended}
 use Rattle.bind_shape.specs.Joining.{is_of_column}
 use Rattle.iv_types.proofs.Walks.{moved_at, left_read}

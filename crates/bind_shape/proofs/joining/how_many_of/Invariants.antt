@@ -1,5 +1,5 @@
 use Rattle.std.proofs.Common.{◌≡◌, ◌≤◌, ◌+◌, drop}
-use Rattle.iv_meaning.specs.Names.{how_many}
+use Rattle.iv_meaning.specs.Resolving.{how_many}
 use Rattle.bind_shape.specs.Joining.{is_of_column}
 use Rattle.bind_shape.proofs.joining.how_many_of.Given as goal
 

@@ -1,5 +1,5 @@
 use Rattle.std.proofs.Common.{◌≡◌, ◌≤◌, ◌+◌, drop}
-use Rattle.iv_meaning.specs.Names.{how_many}
+use Rattle.iv_meaning.specs.Resolving.{how_many}
 use Rattle.iv_meaning.specs.Shape.{is_named}
 use Rattle.bind_shape.specs.Items.{items_seen}
 use Rattle.bind_names.specs.Seeing.{scope_seen}

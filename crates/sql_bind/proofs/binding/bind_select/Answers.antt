@@ -11,7 +11,7 @@ use Rattle.bind_names.specs.Seeing.{scope_seen}
 use Rattle.iv_types.specs.declared.expression.Ref.{Ref}
 use Rattle.iv_types.specs.declared.statement.Item.{Item}
 use Rattle.iv_types.specs.declared.expression.ColumnAt.{ColumnAt}
-use Rattle.iv_meaning.specs.Shape.{NamedItem}
+use Rattle.iv_meaning.specs.Resolving.{NamedItem}
 use Rattle.sql_bind.proofs.binding.bind_select.Goals as goal
 
 pub returns-in_err-check_query-clause-fault : goal.returns-in_err-check_query-clause-fault

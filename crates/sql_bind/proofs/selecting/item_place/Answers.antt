@@ -1,5 +1,5 @@
 use Rattle.std.proofs.Common.{◌≡◌, ◌∙◌, ◌+◌, drop, length}
-use Rattle.iv_meaning.specs.Binding.{item_place}
+use Rattle.iv_meaning.specs.Tests.{item_place}
 use Rattle.sql_bind.proofs.SelectLemmas.{item_here, item_later}
 use Rattle.iv_types.proofs.Walks.{ended}
 use Rattle.bind_shape.specs.Items.{items_seen, named_item}

@@ -1,5 +1,5 @@
 use Rattle.std.proofs.Common.{◌≡◌, drop}
-use Rattle.iv_meaning.specs.Binding.{item_place}
+use Rattle.iv_meaning.specs.Tests.{item_place}
 use Rattle.bind_shape.specs.Items.{items_seen}
 use Rattle.bind_names.specs.Seeing.{scope_seen}
 use Rattle.sql_bind.proofs.selecting.item_place.Given as goal

@@ -15,7 +15,7 @@ use Rattle.sql_bind.specs.Viewing.{view_lacks}
 use Rattle.iv_types.specs.declared.expression.Ref.{Ref}
 use Rattle.iv_types.specs.declared.statement.Item.{Item}
 use Rattle.iv_types.specs.declared.expression.ColumnAt.{ColumnAt}
-use Rattle.iv_meaning.specs.Shape.{NamedItem}
+use Rattle.iv_meaning.specs.Resolving.{NamedItem}
 use Rattle.sql_bind.proofs.view_binding.bind_view.Goals as goal
 
 pub returns-in_err-check-clause-fault : goal.returns-in_err-check-clause-fault

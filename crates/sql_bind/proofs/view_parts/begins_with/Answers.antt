@@ -1,5 +1,5 @@
 use Rattle.std.proofs.Common.{◌∙◌, ◌&&◌, ◌+◌, ap, drop, get_or, sym}
-use Rattle.iv_meaning.specs.Binding.{begins_with}
+use Rattle.iv_meaning.specs.Tests.{begins_with}
 use Rattle.sql_bind.proofs.ViewLemmas.{one_begins}
 use Rattle.iv_types.proofs.Walks.{ended}
 use Rattle.iv_types.proofs.Walks.{moved_at, left_read}

@@ -1,5 +1,5 @@
 use Rattle.std.proofs.Common.{◌≡◌, drop}
-use Rattle.iv_meaning.specs.Binding.{begins_with}
+use Rattle.iv_meaning.specs.Tests.{begins_with}
 use Rattle.sql_bind.proofs.view_parts.begins_with.Given as goal
 
 abbrev pub invariant-loop-index : goal.invariant-loop-index

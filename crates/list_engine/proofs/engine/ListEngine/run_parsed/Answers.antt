@@ -6,7 +6,7 @@ use Rattle.iv_types.specs.declared.reply.Reply.TheVariants as reply
 use Rattle.iv_types.specs.Syntax.{StatementTree}
 use Rattle.iv_types.specs.Trees.{statement_tree}
 use Rattle.iv_meaning.specs.Schema.{Schema}
-use Rattle.iv_meaning.specs.Passes.{bind}
+use Rattle.iv_meaning.specs.Binding.{bind}
 use Rattle.iv_meaning.specs.Statement.{Refused}
 use Rattle.list_engine.specs.Whole.{means_whole, whole_or_refused}
 use Rattle.iv_meaning.specs.Bound.{bound_tree}

@@ -9,7 +9,7 @@ use Rattle.iv_types.specs.declared.refusal.EngineRefusal.TheVariants.{SchemaBusy
 use Rattle.iv_types.specs.declared.catalog.Definition.TheVariants as definition
 use Rattle.iv_types.specs.Trees.{statement_tree}
 use Rattle.iv_meaning.specs.Objects.{object_of}
-use Rattle.iv_meaning.specs.Passes.{bind}
+use Rattle.iv_meaning.specs.Binding.{bind}
 use Rattle.iv_meaning.specs.Statement.{create}
 use Rattle.iv_meaning.specs.Transaction.{bound_or_refused}
 use Rattle.iv_meaning.specs.Bound.{bound_tree}
