@@ -279,8 +279,14 @@ pub fn write_refusal(out: &mut String, refusal: &Refusal) -> anyhow::Result<()> 
             write_name(out, name)?;
         }
         Refusal::WrongType => out.push('4')?,
-        Refusal::WrongShape(rule) => write!(out, "5 {rule}")?,
-        Refusal::Limit { which, most } => write!(out, "6 {which} {most}")?,
+        Refusal::WrongShape(rule) => {
+            let number = rule.number();
+            write!(out, "5 {number}")?;
+        }
+        Refusal::Limit(limit) => {
+            let (number, most) = (limit.number(), limit.most());
+            write!(out, "6 {number} {most}")?;
+        }
         Refusal::NeedsIndex(name) => {
             out.push_str("7 ")?;
             write_name(out, name)?;

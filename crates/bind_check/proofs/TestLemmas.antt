@@ -10,6 +10,8 @@ use Rattle.iv_types.specs.declared.bound.BoundSet.{BoundSet}
 use Rattle.iv_types.specs.declared.expression.Expr.{Expr}
 use Rattle.iv_types.specs.Syntax.{Tree}
 use Rattle.iv_types.specs.Trees.{trees}
+use Rattle.iv_types.specs.declared.limit.Limit.TheVariants.{Columns}
+use Rattle.iv_types.specs.declared.limit.ShapeRule.TheVariants.{KeySet, NoItem, NoTable, SetTwice, TupleLength}
 use Rattle.iv_meaning.specs.Schema.{Schema, Object, object_columns, object_kinds, primary_of}
 use Rattle.iv_meaning.specs.Bound.{set_tree}
 use Rattle.iv_meaning.specs.Shape.{repeats}
@@ -45,12 +47,12 @@ view_is objects size name query =
 pub select_is : (objects : Schema) (size : ℕ) (query : ResolvedQuery) (order : List Order) → select_chain objects query order ≡ passed (every_test objects size (select query order))
 select_is objects size query order =
     ap (λ (m : Result (Unit {0}) Refusal). and_then (refuse_if (not (query_typed objects query), WrongType)) (λ a. m))
-    (sym (both_passed (query_rules query) (rule 12 (not (list_all (λ o. is_some (item_named query.items o.by)) order)) ∷ at_most 6 32 (length query.group) ∷ [])))
+    (sym (both_passed (query_rules query) (rule NoItem (not (list_all (λ o. is_some (item_named query.items o.by)) order)) ∷ at_most Columns (length query.group) ∷ [])))
 
 -- ---- changes, whose parts were read
 
 abbrev insert_by : Object → Bool → Bool → List Test
-insert_by o typed long = (not typed, WrongType) ∷ rule 2 (is_table o && not long) ∷ rule 5 (not (is_table o)) ∷ []
+insert_by o typed long = (not typed, WrongType) ∷ rule TupleLength (is_table o && not long) ∷ rule NoTable (not (is_table o)) ∷ []
 
 insert_are : (objects : Schema) (size : ℕ) (o : Object) (tuples : List (List Expr)) → insert_tests o (object_kinds objects o) tuples ≡ every_test objects size (insert o (map trees tuples))
 insert_are objects size o tuples =
@@ -62,7 +64,7 @@ pub insert_read : (objects : Schema) (size : ℕ) (o : Object) (kinds : List Kin
 insert_read objects size o kinds tuples all e f = ap (λ ks. insert_tests o ks tuples) e ∙ (ap (λ ts. insert_tests o (object_kinds objects o) ts) f ∙ insert_are objects size o all)
 
 abbrev update_by : Object → Bool → Bool → Bool → List Test
-update_by o typed keys twice = (not typed, WrongType) ∷ rule 3 keys ∷ rule 4 twice ∷ rule 5 (not (is_table o)) ∷ []
+update_by o typed keys twice = (not typed, WrongType) ∷ rule KeySet keys ∷ rule SetTwice twice ∷ rule NoTable (not (is_table o)) ∷ []
 
 update_are : (objects : Schema) (size : ℕ) (o : Object) (sets : List BoundSet) (condition : Option Tree)
     → update_tests o (object_kinds objects o ∷ []) sets condition ≡ every_test objects size (update o (map set_tree sets) condition)

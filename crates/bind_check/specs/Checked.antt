@@ -12,6 +12,9 @@ use Rattle.iv_types.specs.declared.refusal.Refusal.{Refusal}
 use Rattle.iv_types.specs.declared.refusal.Refusal.TheVariants.{Limit, WrongType}
 use Rattle.iv_types.specs.Syntax.{Tree}
 use Rattle.iv_types.specs.Trees.{perhaps_tree, trees}
+use Rattle.iv_types.specs.declared.limit.Limit.TheVariants.{Columns, DefinitionBytes, KeyWidth, Readers, Sums, Views}
+use Rattle.iv_types.specs.declared.limit.ShapeRule.TheVariants.{KeySet, NoItem, NoTable, SetTwice, TupleLength}
+use Rattle.iv_types.specs.Limits.{most_of}
 use Rattle.iv_meaning.specs.Schema.{Schema, Object, as_view, kind_at, object_columns, primary_of}
 use Rattle.iv_meaning.specs.Bound.{set_tree}
 use Rattle.iv_meaning.specs.Shape.{key_width, object_number, readers, repeats, sums_in, width}
@@ -40,20 +43,20 @@ value_typed (Some kind) e = is_of kind (family [] e)
 abbrev pub insert_tests : Object → List Kind → List (List Expr) → List Test
 insert_tests o kinds tuples =
     (not (list_all (λ tuple. tuple_typed kinds (trees tuple)) tuples), WrongType)
-    ∷ rule 2 (is_table o && not (list_all (λ tuple. length (trees tuple) == length (object_columns o)) tuples))
-    ∷ rule 5 (not (is_table o))
+    ∷ rule TupleLength (is_table o && not (list_all (λ tuple. length (trees tuple) == length (object_columns o)) tuples))
+    ∷ rule NoTable (not (is_table o))
     ∷ []
 
 abbrev pub update_tests : Object → List (List Kind) → List BoundSet → Option Tree → List Test
 update_tests o kinds sets condition =
     (not (list_all (λ a. set_typed kinds (set_tree a)) sets && condition_typed kinds condition), WrongType)
-    ∷ rule 3 (list_any (λ a. list_any (λ key. key == a.column) (primary_of (Some o))) sets)
-    ∷ rule 4 (repeats (λ a b. a.column == b.column) sets)
-    ∷ rule 5 (not (is_table o))
+    ∷ rule KeySet (list_any (λ a. list_any (λ key. key == a.column) (primary_of (Some o))) sets)
+    ∷ rule SetTwice (repeats (λ a b. a.column == b.column) sets)
+    ∷ rule NoTable (not (is_table o))
     ∷ []
 
 abbrev pub delete_tests : Object → List (List Kind) → Option Tree → List Test
-delete_tests o kinds condition = (not (condition_typed kinds condition), WrongType) ∷ rule 5 (not (is_table o)) ∷ []
+delete_tests o kinds condition = (not (condition_typed kinds condition), WrongType) ∷ rule NoTable (not (is_table o)) ∷ []
 
 -- ---- CREATE
 
@@ -70,12 +73,12 @@ index_tests objects size target columns = every_test objects size (index [] targ
 
 abbrev pub view_limits : Schema → ℕ → meant.ResolvedQuery → List Test
 view_limits objects size query =
-    at_most 6 32 (length query.group)
-    ∷ at_most 10 64 (length (filter_map as_view objects) + 1)
-    ∷ (list_any (λ o. nat_lt 8 (readers objects (object_number o) + 1)) (sources_of query), Limit 11 (pos 8))
-    ∷ at_most 12 1024 (width key_width (filter_map (kind_at (kinds_seen objects query)) query.group))
-    ∷ at_most 14 8 (sums_in query.items)
-    ∷ at_most 15 4096 size
+    at_most Columns (length query.group)
+    ∷ at_most Views (length (filter_map as_view objects) + 1)
+    ∷ (list_any (λ o. nat_lt (most_of Readers) (readers objects (object_number o) + 1)) (sources_of query), Limit Readers)
+    ∷ at_most KeyWidth (width key_width (filter_map (kind_at (kinds_seen objects query)) query.group))
+    ∷ at_most Sums (sums_in query.items)
+    ∷ at_most DefinitionBytes size
     ∷ []
 
 -- a view, by its types and four lists of tests
@@ -90,4 +93,4 @@ abbrev pub select_chain : Schema → meant.ResolvedQuery → List Order → Resu
 select_chain objects query order =
     and_then (refuse_if (not (query_typed objects query), WrongType)) (λ typed.
     and_then (passed (query_rules query)) (λ shaped.
-    passed (rule 12 (not (list_all (λ o. is_some (item_named query.items o.by)) order)) ∷ at_most 6 32 (length query.group) ∷ [])))
+    passed (rule NoItem (not (list_all (λ o. is_some (item_named query.items o.by)) order)) ∷ at_most Columns (length query.group) ∷ [])))

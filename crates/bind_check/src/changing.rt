@@ -12,7 +12,7 @@ use crate::objects::{is_table, primary_of, width_of};
 use crate::refusing::{refuse, rule};
 use crate::shape::{have_length, sets_key, sets_twice};
 use crate::typing::{condition_typed, sets_typed, tuples_typed};
-use iv_types::{BoundSet, Definition, Expr, ExprList, Kind, KindList, Refusal};
+use iv_types::{BoundSet, Definition, Expr, ExprList, Kind, KindList, Refusal, ShapeRule};
 
 /// Those of an INSERT into an object whose columns have these kinds.
 ///
@@ -24,10 +24,10 @@ pub fn check_insert(target: &Definition, kinds: &[Kind], tuples: &[ExprList]) ->
 {
     refuse(!tuples_typed(kinds, tuples), Refusal::WrongType)?;
     rule(
-        2,
+        ShapeRule::TupleLength,
         is_table(target) && !have_length(width_of(target), tuples),
     )?;
-    rule(5, !is_table(target))
+    rule(ShapeRule::NoTable, !is_table(target))
 }
 
 /// Those of an UPDATE of an object, where these are the kinds of its columns.
@@ -45,9 +45,9 @@ pub fn check_update(
 {
     let typed = sets_typed(kinds, sets) && condition_typed(kinds, condition);
     refuse(!typed, Refusal::WrongType)?;
-    rule(3, sets_key(primary_of(target), sets))?;
-    rule(4, sets_twice(sets))?;
-    rule(5, !is_table(target))
+    rule(ShapeRule::KeySet, sets_key(primary_of(target), sets))?;
+    rule(ShapeRule::SetTwice, sets_twice(sets))?;
+    rule(ShapeRule::NoTable, !is_table(target))
 }
 
 /// Those of a DELETE from an object, where these are the kinds of its columns.
@@ -63,5 +63,5 @@ pub fn check_delete(
     ensures { IsMeant (λ u. u) result (passed (delete_tests (object_of target.now) kinds.now (perhaps_tree condition.now))) }
 {
     refuse(!condition_typed(kinds, condition), Refusal::WrongType)?;
-    rule(5, !is_table(target))
+    rule(ShapeRule::NoTable, !is_table(target))
 }

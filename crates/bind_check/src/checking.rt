@@ -20,7 +20,7 @@ use crate::queries::{check_query, check_view_query};
 use crate::refusing::{limit, refuse, rule};
 use crate::typing::query_typed;
 use bind_resolve::{Resolved, ResolvedQuery};
-use iv_types::{Catalog, Order, Refusal, Statement};
+use iv_types::{Catalog, Limit, Order, Refusal, ShapeRule, Statement};
 use object_kinds::kinds_of_object;
 use std::alloc::Global;
 
@@ -59,8 +59,8 @@ fn check_select(
 {
     check_types(alloc, catalog, query)?;
     check_query(alloc, query)?;
-    rule(12, !are_named(&query.items, order))?;
-    limit(6, 32, query.group.as_slice().len() as u128)
+    rule(ShapeRule::NoItem, !are_named(&query.items, order))?;
+    limit(Limit::Columns, query.group.as_slice().len() as u128)
 }
 
 /// The tests of a statement as it was resolved, of which the first that fails refuses it.

@@ -3,6 +3,7 @@
 
 ghost use Rattle.std.specs.Prelude.{◌≡◌, ◌⊎◌, ◌+◌, ◌∷◌, [], map};
 ghost use Rattle.iv_types.specs.declared.refusal.Refusal.TheVariants as refusal;
+ghost use Rattle.iv_types.specs.declared.limit.Limit.TheVariants as limits;
 ghost use Rattle.iv_types.specs.Printing.{statement_size};
 ghost use Rattle.iv_types.specs.Trees.{statement_tree};
 ghost use Rattle.iv_meaning.specs.Objects.{object_of, schema_of};
@@ -20,22 +21,27 @@ use crate::shape::repeats_column;
 use crate::view_joins::lacks_index;
 use crate::widths::{group_width, index_width, new_key_width, new_row_width};
 use bind_resolve::{ResolvedQuery, copied};
-use iv_types::{Bytes, Catalog, ColumnDef, Definition, NoMemory, Refusal, Statement, TableDef};
+use iv_types::{
+    Bytes, Catalog, ColumnDef, Definition, Limit, NoMemory, Refusal, ShapeRule, Statement, TableDef,
+};
 use sql_pieces::statement_bytes;
 use std::alloc::Global;
 
 // The limit of objects of one kind, with one more.
-fn limit_objects(which: u32, count: usize) -> Result<(), Refusal>
-    ensures { IsMeant (λ u. u) result (refuse_if (at_most which 64 (count + 1))) }
+fn limit_objects(objects: Limit, count: usize) -> Result<(), Refusal>
+    ensures { IsMeant (λ u. u) result (refuse_if (at_most objects (count + 1))) }
 {
-    limit(which, 64, count as u128 + 1)
+    limit(objects, count as u128 + 1)
 }
 
 // The limit of a CREATE statement's text.
 fn limit_text(statement: &Statement) -> Result<(), Refusal>
-    ensures { IsMeant (λ u. u) result (refuse_if (at_most 15 4096 (statement_size (statement_tree statement.now)))) }
+    ensures { IsMeant (λ u. u) result (refuse_if (at_most limits.DefinitionBytes (statement_size (statement_tree statement.now)))) }
 {
-    limit(15, 4096, u128::from(statement_bytes(statement)))
+    limit(
+        Limit::DefinitionBytes,
+        u128::from(statement_bytes(statement)),
+    )
 }
 
 /// Those of a CREATE TABLE of these columns, whose primary key has these places.
@@ -52,11 +58,11 @@ pub fn check_table(
 ) -> Result<(), Refusal>
     ensures { IsMeant (λ u. u) result (passed (table_tests (schema_of catalog.now) (statement_size (statement_tree statement.now)) columns.now primary.now)) }
 {
-    rule(1, repeats_column(primary))?;
-    limit(6, 32, columns.len() as u128)?;
-    limit_objects(8, tables_in(catalog))?;
-    limit(12, 1024, new_key_width(alloc, columns, primary)?)?;
-    limit(13, 2048, new_row_width(alloc, columns)?)?;
+    rule(ShapeRule::ColumnTwice, repeats_column(primary))?;
+    limit(Limit::Columns, columns.len() as u128)?;
+    limit_objects(Limit::Tables, tables_in(catalog))?;
+    limit(Limit::KeyWidth, new_key_width(alloc, columns, primary)?)?;
+    limit(Limit::RowWidth, new_row_width(alloc, columns)?)?;
     limit_text(statement)
 }
 
@@ -74,11 +80,14 @@ pub fn check_index(
 ) -> Result<(), Refusal>
     ensures { IsMeant (λ u. u) result (passed (index_tests (schema_of catalog.now) (statement_size (statement_tree statement.now)) (object_of target.now) columns.now)) }
 {
-    rule(1, repeats_column(columns))?;
-    rule(5, !is_table(target))?;
-    limit(6, 32, columns.len() as u128)?;
-    limit_objects(9, indexes_in(catalog))?;
-    limit(12, 1024, index_width(alloc, catalog, target, columns)?)?;
+    rule(ShapeRule::ColumnTwice, repeats_column(columns))?;
+    rule(ShapeRule::NoTable, !is_table(target))?;
+    limit(Limit::Columns, columns.len() as u128)?;
+    limit_objects(Limit::Indexes, indexes_in(catalog))?;
+    limit(
+        Limit::KeyWidth,
+        index_width(alloc, catalog, target, columns)?,
+    )?;
     limit_text(statement)
 }
 
@@ -95,14 +104,14 @@ pub fn check_view_limits(
 ) -> Result<(), Refusal>
     ensures { IsMeant (λ u. u) result (passed (view_limits (schema_of catalog.now) (statement_size (statement_tree statement.now)) (query_seen query.now))) }
 {
-    limit(6, 32, query.group.as_slice().len() as u128)?;
-    limit_objects(10, views_in(catalog))?;
+    limit(Limit::Columns, query.group.as_slice().len() as u128)?;
+    limit_objects(Limit::Views, views_in(catalog))?;
     refuse(
         have_many_readers(catalog, query),
-        Refusal::Limit { which: 11, most: 8 },
+        Refusal::Limit(Limit::Readers),
     )?;
-    limit(12, 1024, group_width(alloc, catalog, query)?)?;
-    limit(14, 8, sums_in(query) as u128)?;
+    limit(Limit::KeyWidth, group_width(alloc, catalog, query)?)?;
+    limit(Limit::Sums, sums_in(query) as u128)?;
     limit_text(statement)
 }
 

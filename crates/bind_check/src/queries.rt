@@ -17,7 +17,7 @@ use crate::refusing::rule;
 use crate::shape::{condition_has_arithmetic, is_aggregate, is_of_group, repeats_place};
 use crate::view_lists::is_view_list;
 use bind_resolve::{Joined, NamedItem, ResolvedQuery};
-use iv_types::{Catalog, ColumnAt, NoMemory, Refusal};
+use iv_types::{Catalog, ColumnAt, NoMemory, Refusal, ShapeRule};
 use std::alloc::Global;
 
 // Whether one of the further relations is an index.
@@ -161,11 +161,11 @@ fn groups_joined(alloc: Global, query: &ResolvedQuery<'_>) -> Result<bool, NoMem
 pub fn check_query(alloc: Global, query: &ResolvedQuery<'_>) -> Result<(), Refusal>
     ensures { IsMeant (λ u. u) result (passed (query_rules (query_seen query.now))) }
 {
-    rule(1, groups_twice(query))?;
-    rule(5, has_index(query))?;
-    rule(6, counts_alone(query))?;
-    rule(7, lists_others(query))?;
-    rule(8, groups_joined(alloc, query)?)
+    rule(ShapeRule::ColumnTwice, groups_twice(query))?;
+    rule(ShapeRule::NoTable, has_index(query))?;
+    rule(ShapeRule::NoGroup, counts_alone(query))?;
+    rule(ShapeRule::OtherItem, lists_others(query))?;
+    rule(ShapeRule::NotManyToOne, groups_joined(alloc, query)?)
 }
 
 // Whether a query is not grouped, or its items are no list of a view's columns.
@@ -184,7 +184,10 @@ fn is_no_view(query: &ResolvedQuery<'_>) -> bool
 pub fn check_view_query(query: &ResolvedQuery<'_>) -> Result<(), Refusal>
     ensures { IsMeant (λ u. u) result (passed (view_rules (query_seen query.now))) }
 {
-    rule(9, is_no_view(query))?;
-    rule(10, condition_has_arithmetic(&query.condition))?;
-    rule(11, has_view(query))
+    rule(ShapeRule::NoViewList, is_no_view(query))?;
+    rule(
+        ShapeRule::Arithmetic,
+        condition_has_arithmetic(&query.condition),
+    )?;
+    rule(ShapeRule::ViewOfView, has_view(query))
 }

@@ -1,11 +1,11 @@
 //! Tests one after another.
-ghost use Rattle.std.specs.Prelude.{◌≡◌, nat_lt, pos};
+ghost use Rattle.std.specs.Prelude.{◌≡◌, nat_lt};
 ghost use Rattle.iv_types.specs.declared.refusal.Refusal.TheVariants as refusal;
 ghost use Rattle.iv_meaning.specs.Tests.{at_most};
 ghost use Rattle.iv_meaning.specs.Binding.{refuse_if};
 ghost use Rattle.bind_resolve.specs.Meant.{IsMeant};
 
-use iv_types::Refusal;
+use iv_types::{Limit, Refusal, ShapeRule};
 
 /// A refusal where a test fails.
 ///
@@ -22,24 +22,20 @@ pub fn refuse(fails: bool, refusal: Refusal) -> Result<(), Refusal>
 ///
 /// # Errors
 ///
-/// `WrongShape` of its number.
-pub fn rule(number: u32, fails: bool) -> Result<(), Refusal>
-    ensures { IsMeant (λ u. u) result (refuse_if (fails, refusal.WrongShape number)) }
+/// `WrongShape` of it.
+pub fn rule(broken: ShapeRule, fails: bool) -> Result<(), Refusal>
+    ensures { IsMeant (λ u. u) result (refuse_if (fails, refusal.WrongShape broken)) }
 {
-    refuse(fails, Refusal::WrongShape(number))
+    refuse(fails, Refusal::WrongShape(broken))
 }
 
 /// The refusal of a limit that a count passes.
 ///
 /// # Errors
 ///
-/// `Limit` of its number with the most that is allowed.
-pub fn limit(which: u32, most: u32, count: u128) -> Result<(), Refusal>
-    ensures { IsMeant (λ u. u) result (refuse_if (at_most which most count)) }
+/// `Limit` of it.
+pub fn limit(limit: Limit, count: u128) -> Result<(), Refusal>
+    ensures { IsMeant (λ u. u) result (refuse_if (at_most limit count)) }
 {
-    let refusal = Refusal::Limit {
-        which,
-        most: i128::from(most),
-    };
-    refuse(count > u128::from(most), refusal)
+    refuse(count > limit.most(), Refusal::Limit(limit))
 }

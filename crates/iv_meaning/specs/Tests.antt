@@ -5,13 +5,19 @@ use Rattle.std.specs.List.{flat_map, filter_map, list_any, list_all}
 use Rattle.std.specs.Option.{option_map, option_map_or}
 use Rattle.iv_types.specs.declared.value.Kind.{Kind}
 use Rattle.iv_types.specs.declared.refusal.Refusal.{Refusal}
-use Rattle.iv_types.specs.declared.refusal.Refusal.TheVariants.{WrongShape, Limit, NeedsIndex}
+use Rattle.iv_types.specs.declared.refusal.Refusal.TheVariants as refusal
+use Rattle.iv_types.specs.declared.refusal.Refusal.TheVariants.{WrongShape, NeedsIndex}
+use Rattle.iv_types.specs.declared.limit.Limit.{Limit}
+use Rattle.iv_types.specs.declared.limit.ShapeRule.{ShapeRule}
 use Rattle.iv_types.specs.declared.statement.Order.{Order}
 use Rattle.iv_types.specs.declared.statement.OrderKey.{OrderKey}
 use Rattle.iv_types.specs.declared.statement.OrderKey.TheVariants.{Place, Name}
 use Rattle.iv_types.specs.declared.catalog.TableDef.{TableDef}
 use Rattle.iv_types.specs.declared.catalog.IndexDef.{IndexDef}
 use Rattle.iv_types.specs.Syntax.{Tree}
+use Rattle.iv_types.specs.declared.limit.Limit.TheVariants.{Columns, DefinitionBytes, Indexes, KeyWidth, Readers, RowWidth, Sums, Tables, Views}
+use Rattle.iv_types.specs.declared.limit.ShapeRule.TheVariants.{Arithmetic, ColumnTwice, KeySet, NoGroup, NoItem, NoTable, NoViewList, NotManyToOne, OtherItem, SetTwice, TupleLength, ViewOfView}
+use Rattle.iv_types.specs.Limits.{most_of}
 use Rattle.iv_meaning.specs.Schema.{Schema, Object, as_table, as_index, as_view, primary_of, items_at, kind_at, object_columns, object_kinds, indexes_of}
 use Rattle.iv_meaning.specs.Query.{BoundOrder}
 use Rattle.iv_meaning.specs.Shape.{joins_by, same_place, repeats, is_aggregate, is_grouped, joins_tables, is_view_list, has_arithmetic, is_named, is_empty, terms, key_width, row_width, width, readers, object_number, sums_in}
@@ -22,11 +28,11 @@ use Rattle.iv_meaning.specs.Types.{sources_of, kinds_seen}
 abbrev pub Test : Type 0
 Test = Bool × Refusal
 
-abbrev pub rule : ℕ → Bool → Test
-rule number fails = (fails, WrongShape number)
+abbrev pub rule : ShapeRule → Bool → Test
+rule broken fails = (fails, WrongShape broken)
 
-abbrev pub at_most : ℕ → ℕ → ℕ → Test
-at_most which most n = (nat_lt most n, Limit which (pos most))
+abbrev pub at_most : Limit → ℕ → Test
+at_most limit n = (nat_lt (most_of limit) n, refusal.Limit limit)
 
 -- ---- shape
 
@@ -45,18 +51,18 @@ same_number a b = a == b
 abbrev pub query_rules : ResolvedQuery → List Test
 query_rules query =
     let grouped : Bool = not (is_empty query.group) in
-    rule 1 (repeats same_place query.group)
-    ∷ rule 5 (list_any (λ o. is_some (as_index o)) (sources_of query))
-    ∷ rule 6 (not grouped && list_any (λ i. is_aggregate i.item) query.items)
-    ∷ rule 7 (grouped && not (list_all (λ i. is_aggregate i.item || is_grouped query.group i.item) query.items))
-    ∷ rule 8 (grouped && not (is_many_to_one query.first query.joins))
+    rule ColumnTwice (repeats same_place query.group)
+    ∷ rule NoTable (list_any (λ o. is_some (as_index o)) (sources_of query))
+    ∷ rule NoGroup (not grouped && list_any (λ i. is_aggregate i.item) query.items)
+    ∷ rule OtherItem (grouped && not (list_all (λ i. is_aggregate i.item || is_grouped query.group i.item) query.items))
+    ∷ rule NotManyToOne (grouped && not (is_many_to_one query.first query.joins))
     ∷ []
 
 abbrev pub view_rules : ResolvedQuery → List Test
 view_rules query =
-    rule 9 (is_empty query.group || not (is_view_list query.group query.items))
-    ∷ rule 10 (option_map_or has_arithmetic query.condition false)
-    ∷ rule 11 (list_any (λ o. is_some (as_view o)) (sources_of query))
+    rule NoViewList (is_empty query.group || not (is_view_list query.group query.items))
+    ∷ rule Arithmetic (option_map_or has_arithmetic query.condition false)
+    ∷ rule ViewOfView (list_any (λ o. is_some (as_view o)) (sources_of query))
     ∷ []
 
 -- the place of the one item of a name
@@ -116,40 +122,40 @@ index_test objects query = elim (as_table query.first) [ None ↦ [] | Some firs
 abbrev pub tests : Schema → ℕ → Resolved → List Test
 tests objects size (table name columns primary) =
     let kinds : List Kind = map (λ c. c.kind) columns in
-    rule 1 (repeats same_number primary)
-    ∷ at_most 6 32 (length columns)
-    ∷ at_most 8 64 (length (filter_map as_table objects) + 1)
-    ∷ at_most 12 1024 (width key_width (items_at kinds primary))
-    ∷ at_most 13 2048 (width row_width kinds)
-    ∷ at_most 15 4096 size
+    rule ColumnTwice (repeats same_number primary)
+    ∷ at_most Columns (length columns)
+    ∷ at_most Tables (length (filter_map as_table objects) + 1)
+    ∷ at_most KeyWidth (width key_width (items_at kinds primary))
+    ∷ at_most RowWidth (width row_width kinds)
+    ∷ at_most DefinitionBytes size
     ∷ []
 tests objects size (index name target columns) =
-    rule 1 (repeats same_number columns)
-    ∷ rule 5 (not (is_table target))
-    ∷ at_most 6 32 (length columns)
-    ∷ at_most 9 64 (length (filter_map as_index objects) + 1)
-    ∷ at_most 12 1024 (width key_width (items_at (object_kinds objects target) (columns ++ primary_of (Some target))))
-    ∷ at_most 15 4096 size
+    rule ColumnTwice (repeats same_number columns)
+    ∷ rule NoTable (not (is_table target))
+    ∷ at_most Columns (length columns)
+    ∷ at_most Indexes (length (filter_map as_index objects) + 1)
+    ∷ at_most KeyWidth (width key_width (items_at (object_kinds objects target) (columns ++ primary_of (Some target))))
+    ∷ at_most DefinitionBytes size
     ∷ []
 tests objects size (view name query) =
     query_rules query ++ (view_rules query ++ (
-    at_most 6 32 (length query.group)
-    ∷ at_most 10 64 (length (filter_map as_view objects) + 1)
-    ∷ (list_any (λ o. nat_lt 8 (readers objects (object_number o) + 1)) (sources_of query), Limit 11 (pos 8))
-    ∷ at_most 12 1024 (width key_width (filter_map (kind_at (kinds_seen objects query)) query.group))
-    ∷ at_most 14 8 (sums_in query.items)
-    ∷ at_most 15 4096 size
+    at_most Columns (length query.group)
+    ∷ at_most Views (length (filter_map as_view objects) + 1)
+    ∷ (list_any (λ o. nat_lt (most_of Readers) (readers objects (object_number o) + 1)) (sources_of query), refusal.Limit Readers)
+    ∷ at_most KeyWidth (width key_width (filter_map (kind_at (kinds_seen objects query)) query.group))
+    ∷ at_most Sums (sums_in query.items)
+    ∷ at_most DefinitionBytes size
     ∷ index_test objects query))
 tests objects size (insert target tuples) =
-    rule 2 (is_table target && not (list_all (λ tuple. length tuple == length (object_columns target)) tuples))
-    ∷ rule 5 (not (is_table target))
+    rule TupleLength (is_table target && not (list_all (λ tuple. length tuple == length (object_columns target)) tuples))
+    ∷ rule NoTable (not (is_table target))
     ∷ []
 tests objects size (update target sets condition) =
-    rule 3 (list_any (λ a. list_any (λ key. key == a.column) (primary_of (Some target))) sets)
-    ∷ rule 4 (repeats (λ a b. a.column == b.column) sets)
-    ∷ rule 5 (not (is_table target))
+    rule KeySet (list_any (λ a. list_any (λ key. key == a.column) (primary_of (Some target))) sets)
+    ∷ rule SetTwice (repeats (λ a b. a.column == b.column) sets)
+    ∷ rule NoTable (not (is_table target))
     ∷ []
-tests objects size (delete target condition) = rule 5 (not (is_table target)) ∷ []
+tests objects size (delete target condition) = rule NoTable (not (is_table target)) ∷ []
 tests objects size (select query order) =
-    query_rules query ++ (rule 12 (not (list_all (λ o. is_some (item_named query.items o.by)) order)) ∷ at_most 6 32 (length query.group) ∷ [])
+    query_rules query ++ (rule NoItem (not (list_all (λ o. is_some (item_named query.items o.by)) order)) ∷ at_most Columns (length query.group) ∷ [])
 tests objects size control = []

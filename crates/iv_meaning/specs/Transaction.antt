@@ -3,6 +3,8 @@ use Rattle.std.specs.Prelude.{ℕ, pos, ◌+◌, nat_le, List, [], ◌∷◌, �
 use Rattle.std.specs.Str.{bytes_eq}
 use Rattle.iv_types.specs.declared.refusal.Refusal.{Refusal}
 use Rattle.iv_types.specs.declared.refusal.Refusal.TheVariants.{NoTransaction, InTransaction, ReadOnly, UnknownSavepoint, Limit}
+use Rattle.iv_types.specs.declared.limit.TheConstants.{MOST_SAVEPOINTS}
+use Rattle.iv_types.specs.declared.limit.Limit.TheVariants.{Savepoints}
 use Rattle.iv_types.specs.declared.reply.Reply.{Reply}
 use Rattle.iv_types.specs.declared.reply.Reply.TheVariants as reply
 use Rattle.iv_types.specs.declared.statement.Mode.{Mode}
@@ -57,7 +59,7 @@ told (Accepted listed count kept) t = record {
 -- ---- savepoints
 
 abbrev pub most_savepoints : ℕ
-most_savepoints = 64
+most_savepoints = MOST_SAVEPOINTS
 
 abbrev pub done : Running → Response
 done t = record { replies = reply.Done 0 ∷ []; after = t }
@@ -97,7 +99,7 @@ refused_inside mode saved (select query order) = None
 refused_inside mode saved (insert table tuples) = refused_change mode
 refused_inside mode saved (update table ss condition) = refused_change mode
 refused_inside mode saved (delete table condition) = refused_change mode
-refused_inside mode saved (savepoint name) = if nat_le most_savepoints (length saved) then Some (Limit 16 (pos most_savepoints)) else None
+refused_inside mode saved (savepoint name) = if nat_le most_savepoints (length saved) then Some (Limit Savepoints) else None
 refused_inside mode saved (rollback (Some name)) = refused_return name (from_named name saved)
 refused_inside mode saved (rollback None) = None
 refused_inside mode saved commit = None

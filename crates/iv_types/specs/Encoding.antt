@@ -9,6 +9,7 @@ use Rattle.std.specs.declared.cmp.Ordering.{Ordering}
 use Rattle.std.specs.declared.cmp.Ordering.TheVariants.{Less, Greater}
 use Rattle.std.specs.Ordering.{int_cmp, nat_cmp, is_gt, is_lt}
 use Rattle.std.specs.Cmp.Lexicographic.{slice_cmp}
+use Rattle.iv_types.specs.declared.limit.TheConstants.{LONGEST_TEXT}
 use Rattle.iv_types.specs.declared.catalog.TableDef.{TableDef}
 use Rattle.iv_types.specs.declared.value.Kind.{Kind}
 use Rattle.iv_types.specs.declared.value.Kind.TheVariants.{Int, Huge, Text}
@@ -24,7 +25,7 @@ kinds_of table = map (λ column. column.kind) table.columns
 
 -- the most bytes of a text
 abbrev pub longest_text : ℕ
-longest_text = 200
+longest_text = LONGEST_TEXT
 
 -- from -(2^127 - 1) to 2^127 - 1
 abbrev pub IsHuge : ℤ → Type 0

@@ -1,8 +1,9 @@
 -- The one text of a statement: keywords in capitals, names in lower case, one space between tokens except none after
 -- `(` and before `)`, `,` and around `.`, and none between the minus and the digits of a negative literal.
-use Rattle.std.specs.Prelude.{ℕ, pos, negsuc, suc, ◌==◌, ◌||◌, nat_le, min, Bool, true, false, List, [], ◌∷◌, ◌++◌, length, Option, Some, None, if◌then◌else◌, codes, decimal}
+use Rattle.std.specs.Prelude.{ℕ, pos, negsuc, suc, ◌+◌, ◌==◌, ◌||◌, nat_le, min, Bool, true, false, List, [], ◌∷◌, ◌++◌, length, Option, Some, None, if◌then◌else◌, codes, decimal}
 use Rattle.std.specs.List.{flat_map}
 use Rattle.text_grammar.specs.Languages.{fold_left}
+use Rattle.iv_types.specs.declared.limit.TheConstants.{LONGEST_DEFINITION}
 use Rattle.iv_types.specs.declared.terminal.Terminal.{Terminal}
 use Rattle.iv_types.specs.declared.terminal.Terminal.TheVariants as t
 use Rattle.iv_types.specs.declared.expression.Op.{Op}
@@ -255,7 +256,7 @@ statement_text statement = (write nothing_written (statement_pieces statement)).
 
 -- the most bytes that are counted of a statement's text
 abbrev pub most_counted : ℕ
-most_counted = 4097
+most_counted = LONGEST_DEFINITION + 1
 
 -- the size of the statement's text, or the most that is counted
 abbrev pub statement_size : StatementTree → ℕ

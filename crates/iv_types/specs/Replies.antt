@@ -1,5 +1,5 @@
 -- The texts of replies.
-use Rattle.std.specs.Prelude.{ℕ, zero, suc, ◌==◌, ◌%◌, ◌/◌, List, [], ◌∷◌, ◌++◌, take, Option, Some, None, if◌then◌else◌, codes, decimal}
+use Rattle.std.specs.Prelude.{ℕ, pos, zero, suc, ◌==◌, ◌%◌, ◌/◌, List, [], ◌∷◌, ◌++◌, take, Option, Some, None, if◌then◌else◌, codes, decimal}
 use Rattle.std.specs.List.{flat_map}
 use Rattle.std.specs.Fmt.{signed_decimal}
 use Rattle.iv_types.specs.declared.value.Value.{Value}
@@ -9,6 +9,7 @@ use Rattle.iv_types.specs.declared.refusal.Refusal.{Refusal}
 use Rattle.iv_types.specs.declared.refusal.Refusal.TheVariants as refusal
 use Rattle.iv_types.specs.declared.reply.Reply.{Reply}
 use Rattle.iv_types.specs.declared.reply.Reply.TheVariants as reply
+use Rattle.iv_types.specs.Limits.{most_of, limit_number, rule_number}
 use Rattle.iv_types.specs.Printing.{quoted_text}
 
 -- numbers are decimal, texts are quoted
@@ -40,8 +41,8 @@ refusal_text (refusal.Syntax place) = codes "1 Syntax" ++ numbers_text (place �
 refusal_text (refusal.UnknownName name) = codes "2 UnknownName" ++ spaced name
 refusal_text (refusal.NameTaken name) = codes "3 NameTaken" ++ spaced name
 refusal_text refusal.WrongType = codes "4 WrongType"
-refusal_text (refusal.WrongShape rule) = codes "5 WrongShape" ++ numbers_text (rule ∷ [])
-refusal_text (refusal.Limit which most) = codes "6 Limit" ++ (spaced (decimal which) ++ spaced (signed_decimal most))
+refusal_text (refusal.WrongShape rule) = codes "5 WrongShape" ++ numbers_text (rule_number rule ∷ [])
+refusal_text (refusal.Limit limit) = codes "6 Limit" ++ (spaced (decimal (limit_number limit)) ++ spaced (signed_decimal (pos (most_of limit))))
 refusal_text (refusal.NeedsIndex table) = codes "7 NeedsIndex" ++ spaced table
 refusal_text refusal.DuplicateKey = codes "10 DuplicateKey"
 refusal_text refusal.NumberRange = codes "11 NumberRange"

@@ -3,7 +3,7 @@ ghost use Rattle.std.specs.Prelude.{◌≡◌};
 ghost use Rattle.iv_types.specs.declared.refusal.Refusal.TheVariants as refusal;
 
 use crate::fault::NoMemory as OutOfMemory;
-use crate::{Bytes, Cycle, Row};
+use crate::{Bytes, Cycle, Limit, Row, ShapeRule};
 use std::alloc::{AllocError, AllocFailed};
 use thiserror::Error;
 
@@ -23,15 +23,12 @@ pub enum Refusal {
     /// Code 4: an expression's type is wrong.
     #[error("an expression has the wrong type")]
     WrongType,
-    /// Code 5: the shape rule of this number fails.
+    /// Code 5: this shape rule fails.
     #[error("the statement has the wrong shape")]
-    WrongShape(u32),
-    /// Code 6: a counted size passes the limit of this number.
+    WrongShape(ShapeRule),
+    /// Code 6: a counted size passes this limit.
     #[error("a size passes its limit")]
-    Limit {
-        which: u32,
-        most: i128,
-    },
+    Limit(Limit),
     /// Code 7: this table has no index that begins with the columns by which a view joins it.
     #[error("a join view needs an index")]
     NeedsIndex(Bytes),

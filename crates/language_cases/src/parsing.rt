@@ -16,14 +16,14 @@ use std::mem::forget;
 enum Outcome {
     Whole,
     Syntax(u64),
-    Limit(u32, i128),
+    Limit(u32, u128),
     Other,
 }
 
 fn refused(refusal: Refusal) -> Outcome {
     let outcome = match &refusal {
         Refusal::Syntax(place) => Outcome::Syntax(*place),
-        Refusal::Limit { which, most } => Outcome::Limit(*which, *most),
+        Refusal::Limit(limit) => Outcome::Limit(limit.number(), limit.most()),
         _ => Outcome::Other,
     };
     forget(refusal);

@@ -6,7 +6,7 @@
 //! `EscrowRange VIEW COLUMN INF SUP VALUES`.
 use anyhow::bail;
 use case_text::{read_row, write_escaped};
-use iv_types::{Bytes, Cycle, Refusal, Reply, Sessions};
+use iv_types::{Bytes, Cycle, Limit, Refusal, Reply, Sessions, ShapeRule};
 use sql_print::reply_text;
 use std::alloc::Global;
 use std::mem::forget;
@@ -53,11 +53,67 @@ fn small(number: u64) -> anyhow::Result<u32> {
     }
 }
 
+const RULES: [ShapeRule; 12] = [
+    ShapeRule::ColumnTwice,
+    ShapeRule::TupleLength,
+    ShapeRule::KeySet,
+    ShapeRule::SetTwice,
+    ShapeRule::NoTable,
+    ShapeRule::NoGroup,
+    ShapeRule::OtherItem,
+    ShapeRule::NotManyToOne,
+    ShapeRule::NoViewList,
+    ShapeRule::Arithmetic,
+    ShapeRule::ViewOfView,
+    ShapeRule::NoItem,
+];
+
+const LIMITS: [Limit; 18] = [
+    Limit::NameBytes,
+    Limit::NumberValue,
+    Limit::TextBytes,
+    Limit::Nesting,
+    Limit::Rows,
+    Limit::Columns,
+    Limit::Relations,
+    Limit::Tables,
+    Limit::Indexes,
+    Limit::Views,
+    Limit::Readers,
+    Limit::KeyWidth,
+    Limit::RowWidth,
+    Limit::Sums,
+    Limit::DefinitionBytes,
+    Limit::Savepoints,
+    Limit::Items,
+    Limit::Operations,
+];
+
+// The shape rule of a number, counted from 1.
+fn rule_of(number: u64) -> anyhow::Result<ShapeRule> {
+    for rule in RULES {
+        if u64::from(rule.number()) == number {
+            return Ok(rule);
+        }
+    }
+    bail!("no shape rule has the number")
+}
+
+// The limit of a number, counted from 1, which allows so much.
+fn limit_of(number: u64, most: u64) -> anyhow::Result<Limit> {
+    for limit in LIMITS {
+        if u64::from(limit.number()) == number && limit.most() == u128::from(most) {
+            return Ok(limit);
+        }
+    }
+    bail!("no limit has the number and allows so much")
+}
+
 // A refusal with one number.
 fn refusal_of_one(word: &str, number: u64) -> anyhow::Result<Refusal> {
     match word {
         "Syntax" => Ok(Refusal::Syntax(number)),
-        "WrongShape" => Ok(Refusal::WrongShape(small(number)?)),
+        "WrongShape" => Ok(Refusal::WrongShape(rule_of(number)?)),
         "SchemaBusy" => Ok(Refusal::SchemaBusy(small(number)?)),
         "Stopped" => Ok(Refusal::Stopped(number)),
         _ => bail!("no refusal with a number"),
@@ -67,10 +123,7 @@ fn refusal_of_one(word: &str, number: u64) -> anyhow::Result<Refusal> {
 // A refusal with two numbers.
 fn refusal_of_two(word: &str, first: u64, second: u64) -> anyhow::Result<Refusal> {
     match word {
-        "Limit" => Ok(Refusal::Limit {
-            which: small(first)?,
-            most: i128::from(second),
-        }),
+        "Limit" => Ok(Refusal::Limit(limit_of(first, second)?)),
         "DataFull" => Ok(Refusal::DataFull {
             used: first,
             need: second,

@@ -12,9 +12,9 @@ ghost use Rattle.iv_types.specs.BadRow.{KeyBreaks, IsBadKey};
 ghost use Rattle.row_codec.specs.Columns.{Blames, Gives, IsBroken, IsStop};
 
 use crate::RowFault;
-use crate::text::{LONGEST_TEXT, is_utf8};
+use crate::text::is_utf8;
 use byteorder::{BigEndian, ByteOrder};
-use iv_types::{Bytes, Kind, NoMemory, Row, Value};
+use iv_types::{Bytes, Kind, LONGEST_TEXT, NoMemory, Row, Value};
 use std::alloc::Global;
 
 // Half of what 8 bytes can count.

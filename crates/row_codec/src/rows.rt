@@ -8,9 +8,9 @@ ghost use Rattle.iv_types.specs.BadRow.{RowBreaks, IsBadRow};
 ghost use Rattle.row_codec.specs.Columns.{Blames, Gives, IsBroken};
 
 use crate::RowFault;
-use crate::text::{LONGEST_TEXT, is_utf8};
+use crate::text::is_utf8;
 use byteorder::{BigEndian, ByteOrder};
-use iv_types::{Bytes, Kind, NoMemory, Row, TableDef, Value};
+use iv_types::{Bytes, Kind, LONGEST_TEXT, NoMemory, Row, TableDef, Value};
 use std::alloc::Global;
 
 fn put_int(out: &mut Vec<u8>, number: i64) -> Result<(), NoMemory>

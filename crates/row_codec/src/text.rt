@@ -2,9 +2,6 @@
 ghost use Rattle.std.specs.Prelude.{IsTrue, ◌↔◌};
 ghost use Rattle.std.specs.Str.{IsUtf8};
 
-/// The most bytes of a text in a column.
-pub const LONGEST_TEXT: usize = 200;
-
 /// Whether the bytes are UTF-8.
 pub fn is_utf8(bytes: &[u8]) -> bool
     ensures { IsTrue result ↔ IsUtf8 bytes.now }

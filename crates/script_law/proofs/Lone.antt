@@ -7,6 +7,7 @@ use Rattle.std.proofs.Common.{arith, append-nil}
 use Rattle.std.proofs.lemmas.List.{length-append, append_assoc}
 use Rattle.iv_types.specs.declared.refusal.Refusal.{Refusal}
 use Rattle.iv_types.specs.declared.refusal.Refusal.TheVariants.{UnknownSavepoint, Limit}
+use Rattle.iv_types.specs.declared.limit.Limit.TheVariants.{Savepoints}
 use Rattle.iv_types.specs.declared.statement.Mode.{Mode}
 use Rattle.iv_types.specs.declared.statement.Mode.TheVariants.{Serial}
 use Rattle.iv_types.specs.Syntax.{StatementTree, create_table, create_index, create_view, insert, update, delete, select, begin, commit, rollback, savepoint}
@@ -115,7 +116,7 @@ from_both name (s ∷ ss) (p ∷ ps) e = by (from_both name ss ps (cc)) (bytes_e
 -- a session refuses by its marks what a lone transaction refuses by its savepoints
 pub refused_same : (mode : Mode) (saved : List Saved) (marks : List (List ℕ × ℕ)) (statement : StatementTree) → names_of saved ≡ marked_names marks
     → refused_marked mode marks statement ≡ refused_inside mode saved statement
-refused_same mode saved marks (savepoint name) e = ap (λ n. cond (nat_le most_savepoints n) (Some (Limit 16 (pos most_savepoints))) None) (sym (same_length saved marks e))
+refused_same mode saved marks (savepoint name) e = ap (λ n. cond (nat_le most_savepoints n) (Some (Limit Savepoints)) None) (sym (same_length saved marks e))
 refused_same mode saved marks (rollback (Some name)) e = by (from_named name saved) (from_marked name marks) (from_both name saved marks e).names
   where
     by : (ss : List Saved) (ps : List (List ℕ × ℕ)) → names_of ss ≡ marked_names ps → ◌≡◌ {A = Option Refusal} (elim ps [ [] ↦ Some (UnknownSavepoint name) | p ∷ more ↦ None ]) (refused_return name ss)

@@ -10,6 +10,7 @@ use Rattle.iv_types.specs.declared.lock.LockMode.{LockMode}
 use Rattle.iv_types.specs.declared.lock.GroupDelta.{GroupDelta}
 use Rattle.iv_types.specs.declared.refusal.Refusal.{Refusal}
 use Rattle.iv_types.specs.declared.refusal.Refusal.TheVariants.{UnknownSavepoint, Limit, NoMemory}
+use Rattle.iv_types.specs.declared.limit.Limit.TheVariants.{Savepoints}
 use Rattle.iv_types.specs.declared.refusal.EngineRefusal.{EngineRefusal}
 use Rattle.iv_types.specs.declared.refusal.EngineRefusal.TheVariants as engine
 use Rattle.iv_types.specs.declared.reply.Reply.TheVariants as reply
@@ -106,7 +107,7 @@ from_marked name (p ∷ ps) = if bytes_eq name p.0 then p ∷ ps else from_marke
 
 -- codes 12 to 15 and limit 16, by what the session knows
 abbrev pub refused_marked : Mode → List (List ℕ × ℕ) → StatementTree → Option Refusal
-refused_marked mode saved (savepoint name) = if nat_le most_savepoints (length saved) then Some (Limit 16 (pos most_savepoints)) else None
+refused_marked mode saved (savepoint name) = if nat_le most_savepoints (length saved) then Some (Limit Savepoints) else None
 refused_marked mode saved (rollback (Some name)) = elim (from_marked name saved) [ [] ↦ Some (UnknownSavepoint name) | p ∷ ps ↦ None ]
 refused_marked mode saved statement = refused_inside mode [] statement
 

@@ -4,10 +4,10 @@
 use Rattle.std.specs.Prelude.{[], ◌∷◌, codes, Ok, Err, Some, None, pos}
 use Rattle.iv_types.specs.declared.statement.Mode.TheVariants.{Serial, Snapshot}
 use Rattle.iv_types.specs.declared.refusal.Refusal.TheVariants as refusal
+use Rattle.iv_types.specs.declared.limit.Limit.TheVariants.{NumberValue}
 use Rattle.iv_types.specs.Syntax.{number, word, update, delete, begin, commit, rollback, savepoint}
 use Rattle.iv_meaning.specs.Said.{too_long, runs, loads, steps}
 use Rattle.iv_meaning.specs.SerialExample.{shows}
-use Rattle.txn_machine.specs.Example.{most}
 use Rattle.script_runs.specs.Scripts.{Script, IsPrinted, sale_tuple, inserts, sold_to, selects}
 
 -- an insert of which a later row is refused leaves no trace
@@ -44,7 +44,7 @@ InsertBySteps = IsPrinted insert_by_steps
 abbrev pub statements_are_refused : Script
 statements_are_refused = record {
   lines = runs 1 (Err (refusal.Syntax 0)) ∷ runs 1 (Ok (selects (codes "nothing") None)) ∷ runs 1 (Ok (inserts ((number (pos 1) ∷ word (codes "x") ∷ number (pos 2) ∷ []) ∷ [])))
-      ∷ runs 1 (Ok (update (codes "sale") (record { name = codes "id"; value = number (pos 2) } ∷ []) None)) ∷ runs 1 (Err (refusal.Limit 2 (pos most)))
+      ∷ runs 1 (Ok (update (codes "sale") (record { name = codes "id"; value = number (pos 2) } ∷ []) None)) ∷ runs 1 (Err (refusal.Limit NumberValue))
       ∷ runs 1 (Ok (sold_to 1 9223372036854775808 0)) ∷ runs 1 (Ok (begin Serial)) ∷ runs 1 (Ok (begin Serial)) ∷ runs 1 (Ok (rollback (Some (codes "s"))))
       ∷ runs 3 (Ok (begin Snapshot)) ∷ runs 3 (Ok (delete (codes "sale") None)) ∷ [];
   out = codes "1 ERR 1 Syntax 0\n1 ERR 2 UnknownName nothing\n1 ERR 4 WrongType\n1 ERR 5 WrongShape 3\n1 ERR 6 Limit 2 170141183460469231731687303715884105727\n1 ERR 11 NumberRange\n1 OK 0\n1 ERR 13 InTransaction\n1 ERR 15 UnknownSavepoint s\n3 SNAPSHOT 2\n3 ERR 14 ReadOnly\n";

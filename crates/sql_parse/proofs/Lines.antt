@@ -1,5 +1,5 @@
 -- Texts: what the parser answers for one, and that there is one answer.
-use Rattle.std.proofs.Common.{◌≡◌, ℕ, zero, suc, ◌-◌, ◌<◌, ◌≤◌, true, false, List, [], ◌∷◌, length, map, Some, None, Result, Ok, Err, refl, sym, ap, subst, ◌∙◌, arith, inl, inr, pos}
+use Rattle.std.proofs.Common.{◌≡◌, ℕ, zero, suc, ◌-◌, ◌<◌, ◌≤◌, true, false, List, [], ◌∷◌, length, map, Some, None, Result, Ok, Err, refl, sym, ap, subst, ◌∙◌, arith, inl, inr}
 use Rattle.std.specs.Prelude.{◌==◌, slice_get, get_or}
 use Rattle.std.proofs.lemmas.List.{length-map}
 use Rattle.text_grammar.specs.declared.fault.Cause.{Cause}
@@ -11,7 +11,8 @@ use Rattle.text_grammar.proofs.Once.{one_fault, no_fault}
 use Rattle.iv_types.specs.declared.refusal.Refusal.{Refusal}
 use Rattle.iv_types.specs.declared.refusal.Refusal.TheVariants as refusal
 use Rattle.iv_types.specs.Tokens.{Symbol, Placed, tokens, symbols, place_of_last}
-use Rattle.iv_types.specs.Limits.{Limits, Agree, the_limits, most_of}
+use Rattle.iv_types.specs.declared.limit.Limit.{Limit}
+use Rattle.iv_types.specs.Limits.{Limits, Agree, the_limits, limit_of}
 use Rattle.iv_types.specs.Syntax.{StatementTree}
 use Rattle.iv_types.specs.Grammar.{ALine, Spells}
 use Rattle.iv_types.specs.Refusing.{GoesWrong, Refuses}
@@ -47,7 +48,7 @@ none_by text ts f s e h d = let both : Result.Err f ≡ Ok s = sym h ∙ read_by
 
 refused_for : (text : List ℕ) (c : Cause) (left : ℕ) → GoesWrong text c left → Refuses text (refusal_by c left (tokens text) (length text))
 refused_for text cause.Syntax left w = (left, w, refl)
-refused_for text (cause.Limit which) left w = (left, w, refl)
+refused_for text (cause.Limit which) left w = (left, which, w, refl)
 
 pub refused_by : (text : List ℕ) (ts : List Token) (f : Fault) → map (placed text) ts ≡ tokens text → whole_line the_limits (symbols_at text ts) ≡ Err f → Refuses text (refusal_of f (tokens text) (length text))
 unfolding whole_line
@@ -131,17 +132,16 @@ one_wrong text c d n m a b = one_fault ALine Agree the_limits weaken (symbols (t
 
 pub not_stated : (text : List ℕ) (r : Refusal) (s : StatementTree) → Refuses text r → Spells text s → ⊥
 not_stated text (refusal.Syntax place) s h d = no_fault ALine Agree the_limits (symbols (tokens text)) (fault cause.Syntax h.0) s h.1 d
-not_stated text (refusal.Limit which most) s h d = no_fault ALine Agree the_limits (symbols (tokens text)) (fault (cause.Limit which) h.0) s h.1 d
+not_stated text (refusal.Limit limit) s h d = no_fault ALine Agree the_limits (symbols (tokens text)) (fault (cause.Limit h.1) h.0) s h.2 d
 not_stated text _ s h d = absurd h
 
 pub refused_once : (text : List ℕ) (r q : Refusal) → Refuses text r → Refuses text q → r ≡ q
 refused_once text (refusal.Syntax a) (refusal.Syntax b) h k = ap (λ (n : ℕ). Refusal.Syntax n) (h.2 ∙ ap (λ (n : ℕ). place_of_last n (tokens text) (length text)) (one_wrong text cause.Syntax cause.Syntax h.0 k.0 h.1 k.1).1 ∙ sym k.2)
-refused_once text (refusal.Syntax a) (refusal.Limit v m) h k = absurd (let bad = (one_wrong text cause.Syntax (cause.Limit v) h.0 k.0 h.1 k.1).0 in cc)
+refused_once text (refusal.Syntax a) (refusal.Limit m) h k = absurd (let bad = (one_wrong text cause.Syntax (cause.Limit k.1) h.0 k.0 h.1 k.2).0 in cc)
 refused_once text (refusal.Syntax a) _ h k = absurd k
-refused_once text (refusal.Limit w n) (refusal.Syntax b) h k = absurd (let bad = (one_wrong text (cause.Limit w) cause.Syntax h.0 k.0 h.1 k.1).0 in cc)
-refused_once text (refusal.Limit w n) (refusal.Limit v m) h k =
-    let same : w ≡ v = (let e = (one_wrong text (cause.Limit w) (cause.Limit v) h.0 k.0 h.1 k.1).0 in cc) in
-    let most : n ≡ m = h.2 ∙ ap (λ (i : ℕ). pos (most_of i)) same ∙ sym k.2 in
-    cc
-refused_once text (refusal.Limit w n) _ h k = absurd k
+refused_once text (refusal.Limit n) (refusal.Syntax b) h k = absurd (let bad = (one_wrong text (cause.Limit h.1) cause.Syntax h.0 k.0 h.2 k.1).0 in cc)
+refused_once text (refusal.Limit n) (refusal.Limit m) h k =
+    let same : h.1 ≡ k.1 = (let e = (one_wrong text (cause.Limit h.1) (cause.Limit k.1) h.0 k.0 h.2 k.2).0 in cc) in
+    ap (λ (l : Limit). Refusal.Limit l) (h.3 ∙ ap limit_of same ∙ sym k.3)
+refused_once text (refusal.Limit n) _ h k = absurd k
 refused_once text _ q h k = absurd h

@@ -1,8 +1,7 @@
 //! Texts that are statements.
-ghost use Rattle.std.specs.Prelude.{◌≡◌, ◌⊎◌, ℕ, List, pos, map, IfOk, IfErr};
+ghost use Rattle.std.specs.Prelude.{◌≡◌, ◌⊎◌, ℕ, List, map, IfOk, IfErr};
 ghost use Rattle.iv_types.specs.declared.refusal.Refusal.TheVariants as refusal;
 ghost use Rattle.iv_types.specs.Tokens.{place_of_last};
-ghost use Rattle.iv_types.specs.Limits.{most_of};
 ghost use Rattle.iv_types.specs.Syntax.{StatementTree};
 ghost use Rattle.iv_types.specs.Trees.{statement_tree};
 ghost use Rattle.iv_types.specs.Grammar.{Spells};
@@ -10,7 +9,7 @@ ghost use Rattle.iv_types.specs.Refusing.{Refuses};
 ghost use Rattle.sql_tokens.specs.View.{placed};
 ghost use Rattle.sql_parse.specs.Parsing.{Answers, refusal_of};
 
-use iv_types::{Refusal, Statement};
+use iv_types::{Limit, Refusal, Statement};
 use sql_readers::read_statement;
 use sql_tokens::{Token, split};
 use std::alloc::Global;
@@ -29,32 +28,13 @@ fn place_of(tokens: &[Token], left: usize, end: usize) -> u64
     }
 }
 
-// The most that the limit of this number allows.
-fn most_of(which: u32) -> i128
-    ensures { result ≡ pos (most_of which) }
-{
-    match which {
-        1 => 64,
-        2 => i128::MAX,
-        3 => 200,
-        4 => 64,
-        5 => 1000,
-        7 => 4,
-        17 => 64,
-        _ => 1024,
-    }
-}
-
 // What a text is refused for.
 fn refusal_of(fault: Fault, tokens: &[Token], end: usize) -> Refusal
     ensures { (text : List ℕ) → result ≡ refusal_of fault (map (placed text) tokens.now) end }
 {
     match fault.cause {
         Cause::Syntax => Refusal::Syntax(place_of(tokens, fault.left, end)),
-        Cause::Limit(which) => Refusal::Limit {
-            which,
-            most: most_of(which),
-        },
+        Cause::Limit(which) => Refusal::Limit(Limit::of_grammar(which)),
     }
 }
 

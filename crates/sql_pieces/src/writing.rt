@@ -7,9 +7,9 @@ ghost use Rattle.iv_types.specs.Printing as printing;
 ghost use Rattle.sql_pieces.specs.Sinks.{Wrote, number_piece, is_tight, is_close, gap_size};
 
 use iv_types::{
-    Bytes, ColumnDef, ColumnList, Expr, ExprList, Item, Join, Kind, Mode, NameList, NoMemory, Op,
-    Order, OrderKey, OrderList, Query, Ref, RefList, Relation, Set, SetList, Statement, Terminal,
-    TupleList,
+    Bytes, ColumnDef, ColumnList, Expr, ExprList, Item, Join, Kind, LONGEST_DEFINITION, Mode,
+    NameList, NoMemory, Op, Order, OrderKey, OrderList, Query, Ref, RefList, Relation, Set,
+    SetList, Statement, Terminal, TupleList,
 };
 
 /// What takes the pieces of a text, in order, and puts the spaces between them.
@@ -580,8 +580,8 @@ pub fn leaves_tight(terminal: Terminal) -> bool
     matches!(terminal, Terminal::Open | Terminal::Point)
 }
 
-// The most bytes that are counted of a statement's text.
-const MOST_COUNTED: u64 = 4_097;
+// The most bytes that are counted of a statement's text, one past those of a definition.
+const MOST_COUNTED: u64 = LONGEST_DEFINITION as u64 + 1;
 
 // The sum, or the most that is counted.
 fn add(count: u64, more: u64) -> u64

@@ -8,7 +8,7 @@ use crate::bytes::{
     push_bytes, push_number, push_numbers, push_quoted, push_signed, push_spaced,
     push_spaced_number, push_spaced_signed,
 };
-use iv_types::{Bytes, Cycle, NoMemory, Refusal, Reply, Row, Sessions, Value};
+use iv_types::{Bytes, Cycle, Limit, NoMemory, Refusal, Reply, Row, Sessions, Value};
 use std::alloc::Global;
 
 // The most sessions.
@@ -77,12 +77,12 @@ fn push_with_name(text: &mut Vec<u8>, word: &str, name: &Bytes) -> Result<(), No
     push_spaced(text, name.as_slice())
 }
 
-fn push_limit(text: &mut Vec<u8>, which: u32, most: i128) -> Result<(), NoMemory>
-    ensures { OnOk result (text.new.items ≡ text.old.items ++ refusal_text (Refusal.Limit which most)) }
+fn push_limit(text: &mut Vec<u8>, limit: Limit) -> Result<(), NoMemory>
+    ensures { OnOk result (text.new.items ≡ text.old.items ++ refusal_text (Refusal.Limit limit)) }
 {
     push_bytes(text, b"6 Limit")?;
-    push_spaced_number(text, which as u64)?;
-    push_spaced_signed(text, most)
+    push_spaced_number(text, limit.number() as u64)?;
+    push_spaced_signed(text, limit.most() as i128)
 }
 
 fn push_bounds(text: &mut Vec<u8>, column: &Bytes, inf: i128, sup: i128) -> Result<(), NoMemory>
@@ -124,8 +124,10 @@ fn push_refusal(text: &mut Vec<u8>, refusal: &Refusal) -> Result<(), NoMemory>
         Refusal::UnknownName(name) => push_with_name(text, "2 UnknownName", name),
         Refusal::NameTaken(name) => push_with_name(text, "3 NameTaken", name),
         Refusal::WrongType => push_bytes(text, b"4 WrongType"),
-        Refusal::WrongShape(rule) => push_with_numbers(text, "5 WrongShape", &[*rule as u64]),
-        Refusal::Limit { which, most } => push_limit(text, *which, *most),
+        Refusal::WrongShape(rule) => {
+            push_with_numbers(text, "5 WrongShape", &[rule.number() as u64])
+        }
+        Refusal::Limit(limit) => push_limit(text, *limit),
         Refusal::NeedsIndex(table) => push_with_name(text, "7 NeedsIndex", table),
         Refusal::DuplicateKey => push_bytes(text, b"10 DuplicateKey"),
         Refusal::NumberRange => push_bytes(text, b"11 NumberRange"),

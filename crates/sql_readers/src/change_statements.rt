@@ -8,12 +8,9 @@ ghost use Rattle.sql_readers.specs.Statements.{comma_list, tuples, assignment, i
 use crate::cursor::Cursor;
 use crate::part::{listed, listed_to};
 use crate::selecting::condition_of;
-use iv_types::{ExprList, Mode, Set, SetList, Statement, Terminal, TupleList};
+use iv_types::{ExprList, MOST_ROWS, Mode, Set, SetList, Statement, Terminal, TupleList};
 use std::alloc::Global;
 use text_grammar::ParseError;
-
-// The most rows of one INSERT.
-const MOST_ROWS: usize = 1000;
 
 #[tactic(auto, using(crate::proofs::Forward::tuple_stays), unfolding(crate::specs::Statements::tuples))]
 fn tuples_of(alloc: Global, cursor: &mut Cursor) -> Result<TupleList, ParseError>

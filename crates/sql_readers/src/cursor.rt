@@ -11,16 +11,11 @@ ghost use Rattle.sql_readers.specs.Passing.{Passed};
 ghost use Rattle.sql_readers.specs.Ladder.{is_name, is_number, is_text, name_reader, number_reader, text_reader};
 
 use crate::expressions::Level;
-use iv_types::{Bytes, NoMemory, Op, Terminal};
+use iv_types::{Bytes, LONGEST_NAME, LONGEST_TEXT, NoMemory, Op, Terminal};
 use sql_tokens::{Token, TokenKind};
 use std::alloc::Global;
 use std::marker::Model;
 use text_grammar::{Cause, Fault, ParseError};
-
-// The most bytes of a name and of a text.
-const LONGEST_NAME: usize = 64;
-
-const LONGEST_TEXT: usize = 200;
 
 /// A text and those of its tokens that are still to be read. Contracts see the symbols of these tokens.
 #[derive(Drop)]

@@ -12,14 +12,9 @@ ghost use Rattle.sql_readers.specs.Levels.{chain_at, operands};
 ghost use Rattle.sql_readers.specs.Passing.{first_of};
 
 use crate::cursor::Cursor;
-use iv_types::{Expr, Op, Ref, Terminal};
+use iv_types::{Expr, MOST_NESTING, MOST_OPERATIONS, Op, Ref, Terminal};
 use std::alloc::Global;
 use text_grammar::{Cause, ParseError};
-
-// How deep an expression nests, and how many operations it has, at most.
-const MOST_NESTING: u32 = 64;
-
-const MOST_OPERATIONS: u32 = 1024;
 
 /// The rules of the grammar that are operands with operators between them.
 #[derive(Clone, Copy, Debug, PartialEq, Eq)]

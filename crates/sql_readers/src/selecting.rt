@@ -11,16 +11,11 @@ use crate::expressions::expression_of;
 use crate::part::{Part, listed, listed_to, one_too_many};
 use crate::parts::alias_of;
 use iv_types::{
-    Expr, Item, ItemList, Join, JoinList, Order, OrderList, Query, Ref, RefList, Relation,
-    Sequence, Statement, Terminal,
+    Expr, Item, ItemList, Join, JoinList, MOST_ITEMS, MOST_RELATIONS, Order, OrderList, Query, Ref,
+    RefList, Relation, Sequence, Statement, Terminal,
 };
 use std::alloc::Global;
 use text_grammar::ParseError;
-
-// The most items of a SELECT, and the most relations in FROM.
-const MOST_ITEMS: usize = 64;
-
-const MOST_RELATIONS: usize = 4;
 
 impl Part for Relation {
     ghost use Rattle.iv_types.specs.declared.statement.Relation.{Relation};
