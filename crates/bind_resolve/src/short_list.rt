@@ -38,6 +38,14 @@ impl<T> ShortList<T> {
         &self.items
     }
 
+    /// The vector of the items.
+    pub fn into_vec(self) -> Vec<T>
+        ensures { result.items ≡ self }
+    {
+        let ShortList { items } = self;
+        items
+    }
+
     /// How many there are.
     pub fn len(&self) -> u32
         ensures { result ≡ length self.now }

@@ -4,9 +4,9 @@ ghost use Rattle.iv_meaning.specs.Database.{key_of};
 ghost use Rattle.list_store.specs.Keys.{key_by};
 
 use iv_types::{Bytes, KindList, NoMemory, Row, TableDef};
+use object_kinds::kinds_at;
 use row_codec::{encode_key, key_fits};
 use row_eval::values_at;
-use sql_bind::kinds_at;
 use sql_plan::kinds_of;
 use std::alloc::Global;
 

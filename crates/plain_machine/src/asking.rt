@@ -14,9 +14,9 @@ use iv_types::{
     Bytes, Catalog, Change, Definition, IndexDef, LockMode, NoMemory, Places, Row, TableDef, Want,
     WantList,
 };
+use object_kinds::kinds_at;
 use row_codec::{encode_key, key_fits, point};
 use row_eval::values_at;
-use sql_bind::kinds_at;
 use sql_plan::kinds_of;
 use std::alloc::Global;
 use view_delta::needs;

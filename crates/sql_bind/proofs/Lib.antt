@@ -1,4 +1,2 @@
-pub mod BindLemmas
-pub mod CopyLemmas
-pub mod SelectLemmas
-pub mod ViewLemmas
+pub mod Checked
+pub mod Parts

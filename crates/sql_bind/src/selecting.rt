@@ -1,188 +1,155 @@
 //! What a SELECT is bound to.
-ghost use Rattle.std.specs.Prelude.{◌≡◌, ◌<◌, ◌^◌, ◌++◌, ◌∷◌, [], map, length, IfOk, OnOk};
-ghost use Rattle.std.specs.Option.{option_to_list};
-ghost use Rattle.iv_types.specs.Trees.{tree, trees, perhaps_tree, join_tree, query_tree};
-ghost use Rattle.iv_meaning.specs.Objects.{object_of};
-ghost use Rattle.iv_meaning.specs.Names.{bound};
-ghost use Rattle.iv_meaning.specs.Shape.{object_number, numbers_of};
-ghost use Rattle.iv_meaning.specs.Tests.{item_place, before_number};
-ghost use Rattle.iv_meaning.specs.Binding.{order_place, bound_order};
-ghost use Rattle.iv_meaning.specs.Statement as statement;
+ghost use Rattle.std.specs.Prelude.{◌≡◌, ◌++◌, map, IfOk};
+ghost use Rattle.std.specs.List.{filter_map};
+ghost use Rattle.std.specs.Option.{option_map, option_to_list};
+ghost use Rattle.iv_types.specs.Trees.{trees, perhaps_tree};
 ghost use Rattle.iv_meaning.specs.Bound.{bound_tree, item_tree, order_tree};
-ghost use Rattle.bind_shape.specs.Items.{named_item, items_seen};
-ghost use Rattle.bind_names.specs.Seeing.{visible_of, scope_seen};
+ghost use Rattle.iv_meaning.specs.Binding.{bound_query};
+ghost use Rattle.iv_meaning.specs.Shape.{object_number};
+ghost use Rattle.iv_meaning.specs.Statement as bound;
+ghost use Rattle.iv_meaning.specs.Tests as tests;
+ghost use Rattle.iv_meaning.specs.Types.{sources_of};
+ghost use Rattle.bind_resolve.specs.Seen.{item_seen, joined_seen, query_seen};
 
-use crate::copies::{bound, bound_joins};
-use bind_names::visible::Visible;
-use bind_shape::item::{NamedItem, SeenItem};
-use bind_shape::shape::is_named;
+use bind_check::{item_named, number_of};
+use bind_resolve::{Joined, NamedItem, ResolvedQuery, ShortList};
 use iv_types::{
-    Bound, BoundItem, BoundItemList, BoundOrder, BoundOrderList, BoundSelect, Bytes, ColumnAtList,
-    Expr, ExprList, NoMemory, Order, OrderKey, Places, Query,
+    Bound, BoundItem, BoundItemList, BoundOrder, BoundOrderList, BoundSelect, Expr, ExprList,
+    NoMemory, Order, Places, Sequence,
 };
 use std::alloc::Global;
 
-// Adds the number of a relation's object, if there is one.
-fn push_number(numbers: &mut Places, relation: &Visible<'_>) -> Result<(), NoMemory>
-    ensures { OnOk result (numbers.new ≡ numbers.old ++ map object_number (option_to_list (visible_of relation.now).object)) }
-{
-    match relation.object {
-        Some(definition) => numbers.push(definition.number()),
-        None => Ok(()),
-    }
-}
-
 // The numbers of the objects of FROM.
-fn numbers_of(alloc: Global, scope: &[Visible<'_>]) -> Result<Places, NoMemory>
-    ensures { IfOk result (λ numbers. numbers ≡ numbers_of (scope_seen scope.now)) }
+fn relations_of(alloc: Global, query: &ResolvedQuery<'_>) -> Result<Places, NoMemory>
+    ensures { IfOk result (λ numbers. numbers ≡ map object_number (sources_of (query_seen query.now))) }
 {
     let mut numbers = Places::new(alloc);
-    for relation in scope {
-        push_number(&mut numbers, relation)?;
+    numbers.push(number_of(query.first))?;
+    for join in query.joins.as_slice() {
+        numbers.push(number_of(join.object))?;
     }
     Ok(numbers)
 }
 
-// The conditions of ON, and then that of WHERE.
-fn conditions(alloc: Global, scope: &[Visible<'_>], query: &Query) -> Result<ExprList, NoMemory>
-    requires { length scope.now < 2 ^ 32 }
-    ensures { IfOk result (λ found. trees found ≡ map (λ join. bound (scope_seen scope.now) join.on) (query_tree query.now).joins ++ map (bound (scope_seen scope.now)) (option_to_list (query_tree query.now).condition)) }
+// The item by which a term of an ORDER BY sorts, and its direction.
+fn ordered(items: &ShortList<NamedItem<'_>>, order: &Order) -> Option<BoundOrder>
+    ensures { option_map order_tree result ≡ tests.ordered (map item_seen items.now) order.now }
 {
-    let mut found = bound_joins(alloc, scope, query.joins.as_slice())?;
-    match &query.condition {
-        Some(condition) => found.push(bound(alloc, scope, condition)?)?,
-        None => {}
+    match item_named(items, &order.by) {
+        Some(item) => Some(BoundOrder {
+            item,
+            descending: order.descending,
+        }),
+        None => None,
     }
-    Ok(found)
 }
 
-fn bound_item(
+// Those of an ORDER BY.
+fn order_of(
     alloc: Global,
-    scope: &[Visible<'_>],
-    item: &NamedItem<'_>,
-) -> Result<BoundItem, NoMemory>
-    requires { length scope.now < 2 ^ 32 }
-    ensures { IfOk result (λ found. item_tree found ≡ (named_item (scope_seen scope.now) item.now).item) }
-{
-    match item.item {
-        SeenItem::Count => Ok(BoundItem::Count),
-        SeenItem::Sum(place) => Ok(BoundItem::Sum(place)),
-        SeenItem::Column(place) => Ok(BoundItem::Plain(Expr::At(place))),
-        SeenItem::Plain(expression) => Ok(BoundItem::Plain(bound(alloc, scope, expression)?)),
-    }
-}
-
-fn bound_items(
-    alloc: Global,
-    scope: &[Visible<'_>],
-    items: &[NamedItem<'_>],
-) -> Result<BoundItemList, NoMemory>
-    requires { length scope.now < 2 ^ 32 }
-    ensures { IfOk result (λ found. map item_tree found ≡ map (λ i. i.item) (items_seen (scope_seen scope.now) items.now)) }
-{
-    let mut found = BoundItemList::new(alloc);
-    for item in items {
-        found.push(bound_item(alloc, scope, item)?)?;
-    }
-    Ok(found)
-}
-
-// The place of the first item of a name.
-fn item_place(name: &Bytes, scope: &[Visible<'_>], items: &[NamedItem<'_>]) -> usize
-    ensures { result ≡ item_place name.now 0 (items_seen (scope_seen scope.now) items.now) }
-{
-    for index in 0..items.len() {
-        if is_named(name, scope, &items[index]) {
-            return index;
-        }
-    }
-    items.len()
-}
-
-// A number counted from 1, counted from 0.
-fn before_number(number: i128) -> Result<u32, NoMemory>
-    ensures { IfOk result (λ place. place ≡ before_number number) }
-{
-    if number <= 1 {
-        Ok(0)
-    } else if number > i128::from(u32::MAX) {
-        Err(NoMemory)
-    } else {
-        Ok((number - 1) as u32)
-    }
-}
-
-// A place that fits.
-fn fitting(place: usize) -> Result<u32, NoMemory>
-    ensures { IfOk result (λ found. found ≡ place) }
-{
-    if place > u32::MAX as usize {
-        Err(NoMemory)
-    } else {
-        Ok(place as u32)
-    }
-}
-
-// The item by which an ORDER BY sorts.
-fn order_place(
-    scope: &[Visible<'_>],
-    items: &[NamedItem<'_>],
-    key: &OrderKey,
-) -> Result<u32, NoMemory>
-    ensures { IfOk result (λ place. place ≡ order_place (items_seen (scope_seen scope.now) items.now) key.now) }
-{
-    match key {
-        OrderKey::Place(number) => before_number(*number),
-        OrderKey::Name(name) => fitting(item_place(name, scope, items)),
-    }
-}
-
-fn bound_order(
-    alloc: Global,
-    scope: &[Visible<'_>],
-    items: &[NamedItem<'_>],
+    items: &ShortList<NamedItem<'_>>,
     order: &[Order],
 ) -> Result<BoundOrderList, NoMemory>
-    ensures { IfOk result (λ found. map order_tree found ≡ map (bound_order (items_seen (scope_seen scope.now) items.now)) order.now) }
+    ensures { IfOk result (λ found. map order_tree found ≡ filter_map (tests.ordered (map item_seen items.now)) order.now) }
 {
     let mut found = BoundOrderList::new(alloc);
     for term in order {
-        let item = order_place(scope, items, &term.by)?;
-        found.push(BoundOrder {
-            item,
-            descending: term.descending,
-        })?;
+        if let Some(by) = ordered(items, term) {
+            found.push(by)?;
+        }
     }
     Ok(found)
 }
 
-/// What a SELECT with these group columns and items is bound to.
+fn on_of(join: Joined<'_>) -> Expr
+    ensures { result ≡ join.entry.on }
+{
+    let Joined { object: _, on } = join;
+    on
+}
+
+// The conditions of ON, and then that of WHERE.
+#[tactic(auto, using(crate::proofs::Parts::ons_alone, crate::proofs::Parts::ons_and))]
+fn conditions(
+    alloc: Global,
+    joins: Sequence<Joined<'_>>,
+    condition: Option<Expr>,
+) -> Result<ExprList, NoMemory>
+    ensures { IfOk result (λ found. trees found ≡ map (λ j. j.on) (map joined_seen joins.entry) ++ option_to_list (perhaps_tree condition)) }
+{
+    let joins = joins.into_vec().into_iter();
+    let mut found = ExprList::from_vec(joins.map(on_of).collect(alloc)?);
+    match condition {
+        Some(condition) => {
+            found.push(condition)?;
+            Ok(found)
+        }
+        None => Ok(found),
+    }
+}
+
+fn item_of(item: NamedItem<'_>) -> BoundItem
+    ensures { result ≡ item.entry.item }
+{
+    let NamedItem { item, name: _ } = item;
+    item
+}
+
+// The items without their names.
+#[tactic(auto, using(crate::proofs::Parts::items_are))]
+fn items_of(alloc: Global, items: ShortList<NamedItem<'_>>) -> Result<BoundItemList, NoMemory>
+    ensures { IfOk result (λ found. map item_tree found ≡ map (λ i. i.item) (map item_seen items.entry)) }
+{
+    let items = items.into_vec().into_iter();
+    Ok(BoundItemList::from_vec(items.map(item_of).collect(alloc)?))
+}
+
+// What a SELECT of these relations and this order is bound to.
+fn select_of(
+    alloc: Global,
+    query: ResolvedQuery<'_>,
+    relations: Places,
+    order: BoundOrderList,
+) -> Result<Bound, NoMemory>
+    ensures { IfOk result (λ b. bound_tree b ≡ bound.select (record {
+      relations = relations;
+      conditions = map (λ j. j.on) (query_seen query.entry).joins ++ option_to_list (query_seen query.entry).condition;
+      items = map (λ i. i.item) (query_seen query.entry).items;
+      group = query.entry.group;
+      order = map order_tree order;
+    })) }
+{
+    let ResolvedQuery {
+        items,
+        first: _,
+        joins,
+        condition,
+        group,
+    } = query;
+    let conditions = conditions(alloc, joins, condition)?;
+    let items = items_of(alloc, items)?;
+    Ok(Bound::Select(BoundSelect {
+        relations,
+        conditions,
+        items,
+        group,
+        order,
+    }))
+}
+
+/// What a SELECT is bound to.
 ///
 /// # Errors
 ///
 /// Where there is no memory for it.
-pub fn bound_select(
+pub fn selection(
     alloc: Global,
-    scope: &[Visible<'_>],
-    query: &Query,
+    query: ResolvedQuery<'_>,
     order: &[Order],
-    group: ColumnAtList,
-    items: &[NamedItem<'_>],
 ) -> Result<Bound, NoMemory>
-    requires { length scope.now < 2 ^ 32 }
-    ensures { IfOk result (λ found. bound_tree found ≡ statement.select (record {
-      relations = numbers_of (scope_seen scope.now);
-      conditions = map (λ join. bound (scope_seen scope.now) join.on) (query_tree query.now).joins ++ map (bound (scope_seen scope.now)) (option_to_list (query_tree query.now).condition);
-      items = map (λ i. i.item) (items_seen (scope_seen scope.now) items.now);
-      group = group;
-      order = map (bound_order (items_seen (scope_seen scope.now) items.now)) order.now;
-    })) }
+    ensures { IfOk result (λ b. bound_tree b ≡ bound.select (bound_query (query_seen query.entry) order.now)) }
 {
-    Ok(Bound::Select(BoundSelect {
-        relations: numbers_of(alloc, scope)?,
-        conditions: conditions(alloc, scope, query)?,
-        items: bound_items(alloc, scope, items)?,
-        group,
-        order: bound_order(alloc, scope, items, order)?,
-    }))
+    let relations = relations_of(alloc, &query)?;
+    let order = order_of(alloc, &query.items, order)?;
+    select_of(alloc, query, relations, order)
 }

@@ -1,6 +1,0 @@
-pub mod Checking
-pub mod FoundLemmas
-pub mod NameLemmas
-pub mod Objects
-pub mod SortedLemmas
-pub mod TypeLemmas

@@ -1,5 +1,0 @@
-pub mod Checks
-pub mod Families
-pub mod Found
-pub mod Seeing
-pub mod Typing

@@ -1,5 +1,0 @@
-pub mod ItemLemmas
-pub mod JoinLemmas
-pub mod LimitLemmas
-pub mod PlaceLemmas
-pub mod RuleLemmas

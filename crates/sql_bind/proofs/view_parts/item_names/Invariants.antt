@@ -1,8 +1,0 @@
-use Rattle.std.proofs.Common.{◌≡◌, ◌++◌, drop}
-use Rattle.std.specs.List.{filter_map}
-use Rattle.bind_shape.specs.Items.{items_seen}
-use Rattle.bind_names.specs.Seeing.{scope_seen}
-use Rattle.sql_bind.proofs.view_parts.item_names.Given as goal
-
-abbrev pub invariant-loop-item : goal.invariant-loop-item
-invariant-loop-item l = l.names ++ filter_map (λ i. i.name) (items_seen (scope_seen l.scope) (drop l.item-index l.items)) ≡ filter_map (λ i. i.name) (items_seen (scope_seen l.scope) l.items)
