@@ -1,7 +1,6 @@
 -- What a database defines, without where it lies in memory.
-use Rattle.std.specs.Prelude.{ℕ, zero, suc, ◌==◌, List, [], ◌∷◌, ◌++◌, map, filter, slice_get, Option, Some, None, if◌then◌else◌}
+use Rattle.std.specs.Prelude.{ℕ, ◌==◌, List, [], ◌∷◌, ◌++◌, map, filter, slice_get, Option, Some, None}
 use Rattle.std.specs.List.{filter_map}
-use Rattle.std.specs.Str.{bytes_eq}
 use Rattle.iv_types.specs.declared.value.Kind.{Kind}
 use Rattle.iv_types.specs.declared.value.Kind.TheVariants.{Huge}
 use Rattle.iv_types.specs.declared.expression.ColumnAt.{ColumnAt}
@@ -9,6 +8,7 @@ use Rattle.iv_types.specs.declared.catalog.Second.{Second}
 use Rattle.iv_types.specs.declared.catalog.TableDef.{TableDef}
 use Rattle.iv_types.specs.declared.catalog.IndexDef.{IndexDef}
 use Rattle.iv_types.specs.Encoding.{kinds_of}
+use Rattle.iv_types.specs.Naming.{of_number, of_name}
 use Rattle.iv_types.specs.Syntax.{Tree}
 
 pub record ViewTree : Type 0 where
@@ -36,15 +36,13 @@ name_of (table t) = t.name
 name_of (index i) = i.name
 name_of (view v) = v.name
 
--- the object of a number: they count from 1
+-- the object of a number
 abbrev pub numbered : Schema → ℕ → Option Object
-numbered objects zero = None
-numbered objects (suc n) = slice_get objects n
+numbered objects n = of_number objects n
 
 -- the object that has a name
 abbrev pub named : Schema → List ℕ → Option Object
-named [] name = None
-named (o ∷ objects) name = if bytes_eq name (name_of o) then Some o else named objects name
+named objects name = of_name name_of objects name
 
 abbrev pub as_table : Object → Option TableDef
 as_table (table t) = Some t

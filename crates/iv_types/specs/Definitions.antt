@@ -1,10 +1,10 @@
 -- No clause of `run` rests on this module: it serves contracts between crates.
 --
 -- The definitions of a database: its tables, indexes and views in the order in which they were made.
-use Rattle.std.specs.Prelude.{◌≡◌, ℕ, zero, suc, List, [], ◌∷◌, slice_get, Option, Some, None, Vec, if◌then◌else◌}
-use Rattle.std.specs.Str.{bytes_eq}
+use Rattle.std.specs.Prelude.{◌≡◌, ℕ, suc, List, [], ◌∷◌, Option, Vec}
 use Rattle.iv_types.specs.declared.catalog.Definition.{Definition}
 use Rattle.iv_types.specs.declared.catalog.Definition.TheVariants.{Table, Index, View}
+use Rattle.iv_types.specs.Naming.{of_number, of_name}
 
 abbrev pub Definitions : Type 0
 Definitions = List Definition
@@ -19,15 +19,13 @@ name_of (Table table) = table.name
 name_of (Index index) = index.name
 name_of (View view) = view.name
 
--- the definition of an object number: they count from 1
+-- the definition of an object number
 abbrev pub numbered : Definitions → ℕ → Option Definition
-numbered ds zero = None
-numbered ds (suc n) = slice_get ds n
+numbered ds n = of_number ds n
 
 -- the definition that has a name
 abbrev pub named : Definitions → List ℕ → Option Definition
-named [] name = None
-named (d ∷ ds) name = if bytes_eq name (name_of d) then Some d else named ds name
+named ds name = of_name name_of ds name
 
 -- the definitions after the first n: each is kept under its own name, and its number is that of its place
 abbrev pub AreKept : {A : Type 0} → ℕ → List (Vec ℕ A × Definition) → Type 0

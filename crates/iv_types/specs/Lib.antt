@@ -13,5 +13,6 @@ pub mod SessionSets
 pub mod Encoding
 pub mod BadRow
 pub mod Intervals
+pub mod Naming
 pub mod Definitions
 pub mod Maps
