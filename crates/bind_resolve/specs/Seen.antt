@@ -7,7 +7,6 @@ use denote.Ref.{Bor}
 use Rattle.iv_types.specs.Trees.{tree, trees, perhaps_tree}
 use Rattle.iv_meaning.specs.Objects.{object_of}
 use Rattle.iv_meaning.specs.Resolving.{is_among}
-use Rattle.iv_meaning.specs.Shape as shape
 use Rattle.iv_meaning.specs.Bound.{item_tree, set_tree}
 use Rattle.iv_meaning.specs.Resolving as meant
 use Rattle.bind_resolve.specs.declared.resolved.Column.{Column}
@@ -31,7 +30,7 @@ column_seen c = record { relation = c.relation.now; name = c.name.now; place = c
 abbrev pub scope_seen : Scope → meant.Scope
 scope_seen scope = record { relations = names_in scope.relations; columns = map column_seen scope.columns }
 
-abbrev pub item_seen : NamedItem → shape.NamedItem
+abbrev pub item_seen : NamedItem → meant.NamedItem
 item_seen i = record { item = item_tree i.item; name = option_copied i.name }
 
 abbrev pub joined_seen : Joined → meant.Joined
