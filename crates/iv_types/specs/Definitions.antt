@@ -24,6 +24,10 @@ abbrev pub numbered : Definitions → ℕ → Option Definition
 numbered ds zero = None
 numbered ds (suc n) = slice_get ds n
 
+-- the number of each definition is that of its place
+abbrev pub AreNumbered : Definitions → Type 0
+AreNumbered ds = (n : ℕ) (d : Definition) → numbered ds n ≡ Some d → number_of d ≡ n
+
 -- the definition that has a name
 abbrev pub named : Definitions → List ℕ → Option Definition
 named [] name = None
