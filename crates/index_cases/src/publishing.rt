@@ -2,6 +2,7 @@
 use crate::quiet::Quiet;
 use anyhow::bail;
 use disk_io::{CallList, Disk, MemoryDisk};
+use iv_types::SortedMaps;
 use ordered_index::PageMaps;
 use page_store::HeaderFacts;
 use slot_page::{count, index, is_leaf};

@@ -8,7 +8,7 @@ use Rattle.indexmap.proofs.CallerLemmas.{insert_entry-new}
 use Rattle.std.specs.Str.{bytes_eq}
 use Rattle.std.specs.Map.{lookup, values_of}
 use Rattle.iv_types.specs.declared.catalog.Definition.{Definition}
-use Rattle.iv_types.specs.Definitions.{number_of, name_of, numbered, named, AreKept}
+use Rattle.iv_types.specs.Definitions.{number_of, name_of, numbered, named, AreKept, AreNumbered}
 
 -- the second half of what stands at a place
 second_of : {X Y : Type 0} (e : X × Y) (x : X) (y : Y) → Some e ≡ Some (x, y) → e.1 ≡ y
@@ -20,6 +20,16 @@ module _ {A : Type 0} where
   kept_number n i [] k d kept at = absurd cc
   kept_number n zero (e ∷ es) k d kept at = ap number_of (sym (second_of e k d at)) ∙ kept.1 ∙ omega arith
   kept_number n (suc i) (e ∷ es) k d kept at = kept_number (suc n) i es k d kept.2 at ∙ omega arith
+
+  -- so has that at a place among the definitions alone
+  pub valued_number : (n i : ℕ) (es : List (Vec ℕ A × Definition)) (d : Definition) → AreKept n es → slice_get (values_of es) i ≡ Some d → number_of d ≡ suc (n + i)
+  valued_number n i [] d kept at = absurd cc
+  valued_number n zero (e ∷ es) d kept at = let same : e.1 ≡ d = cc in ap number_of (sym same) ∙ kept.1 ∙ omega arith
+  valued_number n (suc i) (e ∷ es) d kept at = valued_number (suc n) i es d kept.2 at ∙ omega arith
+
+  pub are_numbered : (es : List (Vec ℕ A × Definition)) → AreKept 0 es → AreNumbered (values_of es)
+  are_numbered es kept zero d at = absurd cc
+  are_numbered es kept (suc i) d at = valued_number 0 i es d kept at ∙ omega arith
 
   -- what the entry at a place says of the definition of a number
   pub from_entry : (n : ℕ) (es : List (Vec ℕ A × Definition)) (r : Option (Vec ℕ A × Definition)) → 0 < n → r ≡ slice_get es (n - 1) → numbered (values_of es) n ≡ option_map (λ e. e.1) r

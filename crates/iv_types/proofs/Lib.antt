@@ -5,3 +5,4 @@ pub mod Members
 pub mod ByteNumbers
 pub mod Fitting
 pub mod Spellings
+pub mod MapSizes

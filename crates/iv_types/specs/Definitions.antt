@@ -23,6 +23,10 @@ name_of (View view) = view.name
 abbrev pub numbered : Definitions → ℕ → Option Definition
 numbered ds n = of_number ds n
 
+-- the number of each definition is that of its place
+abbrev pub AreNumbered : Definitions → Type 0
+AreNumbered ds = (n : ℕ) (d : Definition) → numbered ds n ≡ Some d → number_of d ≡ n
+
 -- the definition that has a name
 abbrev pub named : Definitions → List ℕ → Option Definition
 named ds name = of_name name_of ds name

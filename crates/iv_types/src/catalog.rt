@@ -1,7 +1,7 @@
 //! What a database defines: tables, indexes and views.
 ghost use Rattle.std.specs.Prelude.{◌≡◌, ◌+◌, ◌++◌, [], ◌∷◌, length, None, IfSome, IfOk, OnOk, OnErr};
 ghost use Rattle.std.specs.Option.{option_copied};
-ghost use Rattle.iv_types.specs.Definitions.{number_of, name_of, numbered, named};
+ghost use Rattle.iv_types.specs.Definitions.{AreNumbered, number_of, name_of, numbered, named};
 
 use crate::{Bytes, ColumnAtList, ColumnList, Expr, NameList, NoMemory, Places};
 use indexmap::IndexMap;
@@ -139,6 +139,13 @@ impl Catalog {
         ensures { result.now ≡ self.now }
     {
         self.named.values().as_slice()
+    }
+
+    /// That each definition has the number of its place. It does nothing.
+    pub fn number_law(&self)
+        ensures { AreNumbered self.now }
+    {
+        let _count = self.named.len();
     }
 
     /// The definition of an object number, if there is one.

@@ -1,5 +1,5 @@
 //! Sorted maps, one for each index.
-ghost use Rattle.std.specs.Prelude.{◌≡◌, ◌≢◌, ◌+◌, ◌≤◌, ℕ, Option, None, IsSome, OnOk};
+ghost use Rattle.std.specs.Prelude.{◌≡◌, ◌≢◌, ◌+◌, ◌-◌, ◌^◌, ◌≤◌, ℕ, min, Option, None, IsSome, OnOk};
 ghost use Rattle.std.specs.Option.{option_copied, option_map};
 ghost use Rattle.std.specs.FinMap as map;
 ghost use Rattle.iv_types.specs.Maps.{Map, CanHold, IsWithin, entry_at, entry_after, used, with_map};
@@ -44,6 +44,10 @@ pub trait SortedMaps: Drop + Send + Sync {
     /// The first entry after the key, as its key and its value.
     fn first_after(&self, index: u32, key: &[u8]) -> Option<(&[u8], &[u8])>
         ensures { option_map (λ e. (e.0.now, e.1.now)) result ≡ entry_after (maps self.now index) key.now };
+
+    /// What all entries of all indexes count, kept by each change. A sum that does not fit stands still at the end of a `u64`.
+    fn used(&self) -> u64
+        ensures { result ≡ min (used (maps self.now)) (2 ^ 64 - 1) };
 
     /// Adds an entry under a key that is not there, into room that was made. It takes the room of one entry at most.
     fn insert(&mut self, index: u32, key: Bytes, value: Bytes)

@@ -1,14 +1,15 @@
 -- The maps of the indexes, and what they count, through a change of one entry.
-use Rattle.std.proofs.Common.{ℕ, suc, zero, ◌≡◌, ◌≢◌, ◌+◌, ◌-◌, ◌^◌, ◌<◌, ◌≤◌, inl, inr, Bool, true, false, cond, ◌&&◌, T, Option, Some, None, List, [], ◌∷◌, ◌++◌, length, sum_by, refl, sym, ap, ◌∙◌, subst, arith, length-append}
+use Rattle.std.proofs.Common.{ℕ, suc, zero, ◌≡◌, ◌≢◌, ◌+◌, ◌-◌, ◌^◌, ◌<◌, ◌≤◌, inl, inr, Bool, true, false, cond, ◌&&◌, T, Some, None, List, [], ◌∷◌, ◌++◌, length, sum_by, refl, sym, ap, ◌∙◌, subst, arith, length-append}
 use Rattle.std.specs.declared.cmp.Ordering.{Ordering}
 use Rattle.std.specs.declared.cmp.Ordering.TheVariants.{Less, Equal, Greater}
 use Rattle.std.specs.Ordering.{nat_cmp, is_eq, eq_by_cmp, ordering_then}
 use Rattle.std.specs.Cmp.{eq_by_cmp_equiv}
 use Rattle.std.specs.FinMap.{FinMap, entries, from_sorted, empty, get, insert, remove, same_map, get-from_sorted, entries-from_sorted, get-insert, get-remove, get-entries, entries-insert, nat_cmp-IsAntisymmetric}
-use Rattle.std.specs.FinMap.Entries.{find, put, below_all, is_sorted}
+use Rattle.std.specs.FinMap.Entries.{find, below_all, is_sorted}
 use Rattle.std.proofs.lemmas.Cmp.{nat_list_cmp_total}
-use Rattle.std.proofs.lemmas.Bool.{cases_eq, cases_order, eq-eqb, ne_eqb}
+use Rattle.std.proofs.lemmas.Bool.{cases_eq, cases_order}
 use Rattle.iv_types.specs.Maps.{Map, Entry, entry_size, map_size, size_below, used, with_map, last_index}
+use Rattle.iv_types.proofs.MapSizes.{size-none, size-more, size_same, used_same, with_here, with_other, sums_cons, used_insert, insert_removed}
 use Rattle.slot_page.specs.Order.{key_cmp}
 use Rattle.ordered_index.specs.Flat.{Place, Item, place_cmp, AllAbove, AllBelow, Rising, AllTop, value_at, IsPut, of_index, counted}
 use Rattle.ordered_index.specs.Tree.{Tree, IsTree, map_of, spare_of, data_limit}
@@ -188,59 +189,6 @@ few_entries i (x ∷ xs) = elim (cases_eq i x.0.0) [
 
 -- ---- sums over the indexes
 
-size-none : (maps : ℕ → Map) → size_below maps 0 ≡ 0
-unfolding size_below
-size-none maps = refl
-
-size-more : (maps : ℕ → Map) (n : ℕ) → size_below maps (suc n) ≡ size_below maps n + map_size (maps n)
-unfolding size_below
-size-more maps n = refl
-
--- maps that are equal below n count the same
-size_same : (a b : ℕ → Map) (n : ℕ) → ((i : ℕ) → i < n → a i ≡ b i) → size_below a n ≡ size_below b n
-size_same a b zero f = size-none a ∙ sym (size-none b)
-size_same a b (suc n) f = omega (arith, size-more a n, size-more b n, size_same a b n (λ i lt. f i (omega arith)), ap map_size (f n (omega arith)))
-
-pub used_same : (a b : ℕ → Map) → ((i : ℕ) → a i ≡ b i) → used a ≡ used b
-used_same a b f = size_same a b (suc last_index) (λ i lt. f i)
-
-pub with_here : (maps : ℕ → Map) (i : ℕ) (m : Map) → with_map maps i m i ≡ m
-with_here maps i m = ap (λ b. cond b m (maps i)) (eq-eqb i i refl)
-
-pub with_other : (maps : ℕ → Map) (i j : ℕ) (m : Map) → j ≢ i → with_map maps i m j ≡ maps j
-with_other maps i j m ne = ap (λ b. cond b m (maps j)) (ne_eqb j i ne)
-
-size_with : (maps : ℕ → Map) (i : ℕ) (m : Map) (n : ℕ) → i < n → size_below (with_map maps i m) n + map_size (maps i) ≡ size_below maps n + map_size m
-size_with maps i m zero lt = absurd (omega arith)
-size_with maps i m (suc n) lt = elim (cases_eq i n) [
-  | inl e ↦
-      let before : size_below (with_map maps i m) n ≡ size_below maps n = size_same (with_map maps i m) maps n (λ j h. let ne : j ≢ i = omega arith in with_other maps i j m ne) in
-      let here : map_size (with_map maps i m n) ≡ map_size m = ap map_size (ap (with_map maps i m) (sym e) ∙ with_here maps i m) in
-      omega (arith, size-more (with_map maps i m) n, size-more maps n, ap (λ j. map_size (maps j)) e)
-  | inr ne ↦
-      let ne' : n ≢ i = λ x. ne (sym x) in
-      let there : map_size (with_map maps i m n) ≡ map_size (maps n) = ap map_size (with_other maps i n m ne') in
-      omega (arith, size-more (with_map maps i m) n, size-more maps n, size_with maps i m n (omega arith))
-]
-
-sums_cons : (e : Entry) (es : List Entry) → sum_by entry_size (e ∷ es) ≡ entry_size e + sum_by entry_size es
-sums_cons e es = Rattle.std.proofs.lemmas.List.Sums.sum_by-cons entry_size e es
-
-sum-put : (k v : List ℕ) (es : List Entry) → find key_cmp k es ≡ None → sum_by entry_size (put key_cmp k v es) ≡ sum_by entry_size es + (length k + length v + 8)
-sum-put k v [] none = omega (arith, sums_cons (k, v) [])
-sum-put k v (e ∷ es) none = elim (key_cmp k e.0) as (λ r. key_cmp k e.0 ≡ r → sum_by entry_size (Rattle.std.specs.FinMap.Entries.by_order r ((k, v) ∷ e ∷ es) ((e.0, v) ∷ es) (e ∷ put key_cmp k v es)) ≡ sum_by entry_size (e ∷ es) + (length k + length v + 8)) [
-  | Less ↦ λ is. let g : sum_by entry_size ((k, v) ∷ e ∷ es) ≡ sum_by entry_size (e ∷ es) + (length k + length v + 8) = omega (arith, sums_cons (k, v) (e ∷ es)) in g
-  | Equal ↦ λ is. let some : Some e.1 ≡ None = sym (ap (λ r. cond (is_eq r) (Some e.1) (find key_cmp k es)) is) ∙ none in absurd (cc some)
-  | Greater ↦ λ is. let rest : find key_cmp k es ≡ None = sym (ap (λ r. cond (is_eq r) (Some e.1) (find key_cmp k es)) is) ∙ none in let g : sum_by entry_size (e ∷ put key_cmp k v es) ≡ sum_by entry_size (e ∷ es) + (length k + length v + 8) = omega (arith, sums_cons e (put key_cmp k v es), sums_cons e es, sum-put k v es rest) in g
-] refl
-
-pub size_insert : (m : Map) (k v : List ℕ) → get m k ≡ None → map_size (insert m k v) ≡ map_size m + (length k + length v + 8)
-size_insert m k v none = ap (sum_by entry_size) (entries-insert nat_list_cmp_total m k v) ∙ sum-put k v (entries m) (sym (get-entries m k) ∙ none)
-
--- what all entries count with one more
-pub used_insert : (maps : ℕ → Map) (i : ℕ) (k v : List ℕ) → i ≤ last_index → get (maps i) k ≡ None → used (with_map maps i (insert (maps i) k v)) ≡ used maps + (length k + length v + 8)
-used_insert maps i k v le none = omega (arith, size_with maps i (insert (maps i) k v) (suc last_index) (omega arith), size_insert (maps i) k v none)
-
 -- the items of all indexes are those of each
 maps_of : List Item → ℕ → Map
 maps_of xs i = from_sorted (of_index i xs)
@@ -313,21 +261,6 @@ grown t u i k v is will p h =
           ∙ ap (λ (es : List Entry). 2 ^ 32 - 1 + (data_limit t.pages - length es)) (list_other i j k v t.all u.all h ne) ∙ sym (spare_is t j is.rising);
     }
 
-over_none : (b : Bool) (v : List ℕ) (x : Option (List ℕ)) → cond b (Some v) (cond b None x) ≡ cond b (Some v) x
-over_none true v x = refl
-over_none false v x = refl
-
--- an entry put where one was taken
-pub insert_removed : (m : Map) (k v : List ℕ) → insert (remove m k) k v ≡ insert m k v
-insert_removed m k v = same_map nat_list_cmp_total same_key _ _ (λ q.
-    get-insert nat_list_cmp_total (remove m k) k v q
-    ∙ ap (λ z. cond (eq_by_cmp key_cmp q k) (Some v) z) (get-remove nat_list_cmp_total m k q)
-    ∙ over_none (eq_by_cmp key_cmp q k) v (get m q)
-    ∙ sym (get-insert nat_list_cmp_total m k v q))
-
-pub get_removed : (m : Map) (k : List ℕ) → get (remove m k) k ≡ None
-get_removed m k = get-remove nat_list_cmp_total m k k ∙ ap (λ b. cond b None (get m k)) ((eq_by_cmp_equiv nat_list_cmp_total).refl k)
-
 -- what all count with another value in place of one that was taken
 pub used_replaced : (t u : Tree) (i : ℕ) (k v w : List ℕ) → Grown t u i k w → used (with_map (map_of t) i (insert (map_of t i) k v)) ≡ used (with_map (map_of u) i (insert (map_of u i) k v))
 used_replaced t u i k v w g = used_same _ _ (λ j. elim (cases_eq j i) [
@@ -336,26 +269,3 @@ used_replaced t u i k v w g = used_same _ _ (λ j. elim (cases_eq j i) [
       ap (with_map (map_of t) i (insert (map_of t i) k v)) e ∙ with_here (map_of t) i (insert (map_of t i) k v) ∙ same ∙ sym (ap (with_map (map_of u) i (insert (map_of u i) k v)) e ∙ with_here (map_of u) i (insert (map_of u i) k v))
   | inr ne ↦ with_other (map_of t) i j (insert (map_of t i) k v) ne ∙ sym (g.others j ne) ∙ sym (with_other (map_of u) i j (insert (map_of u i) k v) ne)
 ])
-
--- ---- an entry in place of one that is there
-
-equal_of : (a b : List ℕ) → eq_by_cmp key_cmp a b ≡ true → a ≡ b
-equal_of a b e = same_key a b (is_tied (key_cmp a b) e)
-
-restored_at : (m : Map) (k w q : List ℕ) (b : Bool) → get m k ≡ Some w → eq_by_cmp key_cmp q k ≡ b → cond b (Some w) (cond b None (get m q)) ≡ get m q
-restored_at m k w q true some e = sym (ap (get m) (equal_of q k e) ∙ some)
-restored_at m k w q false some e = refl
-
--- an entry put back where it was taken
-restored : (m : Map) (k w : List ℕ) → get m k ≡ Some w → insert (remove m k) k w ≡ m
-restored m k w some = same_map nat_list_cmp_total same_key _ _ (λ q.
-    get-insert nat_list_cmp_total (remove m k) k w q
-    ∙ ap (λ z. cond (eq_by_cmp key_cmp q k) (Some w) z) (get-remove nat_list_cmp_total m k q)
-    ∙ restored_at m k w q (eq_by_cmp key_cmp q k) some refl)
-
-size_replaced : (m : Map) (k v w : List ℕ) → get m k ≡ Some w → map_size (insert m k v) + length w ≡ map_size m + length v
-size_replaced m k v w some =
-    omega (arith, ap map_size (restored m k w some), size_insert (remove m k) k w (get_removed m k), ap map_size (insert_removed m k v), size_insert (remove m k) k v (get_removed m k))
-
-pub used_present : (maps : ℕ → Map) (i : ℕ) (k v w : List ℕ) → i ≤ last_index → get (maps i) k ≡ Some w → used (with_map maps i (insert (maps i) k v)) + length w ≡ used maps + length v
-used_present maps i k v w le some = omega (arith, size_with maps i (insert (maps i) k v) (suc last_index) (omega arith), size_replaced (maps i) k v w some)

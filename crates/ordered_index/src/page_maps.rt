@@ -1,5 +1,5 @@
 //! Sorted maps over pages.
-ghost use Rattle.std.specs.Prelude.{◌≡◌, ◌≢◌, ℕ, ◌+◌, ◌-◌, ◌*◌, ◌<◌, ◌≤◌, Bool, OnOk, IsOk, List, [], length, replicate, set, false, IfOk, Some, None, IsSome, IsTrue, ◌↔◌};
+ghost use Rattle.std.specs.Prelude.{◌≡◌, ◌≢◌, ℕ, ◌+◌, ◌-◌, ◌*◌, ◌^◌, ◌<◌, ◌≤◌, min, Bool, OnOk, IsOk, List, [], length, replicate, set, false, IfOk, Some, None, IsSome, IsTrue, ◌↔◌};
 ghost use Rattle.std.specs.FinMap as map;
 ghost use Rattle.iv_types.specs.Maps.{CanHold, IsWithin, last_index, used, with_map};
 ghost use Rattle.disk_io.specs.Disk.{Only, LeavesOnly, CountsFault};
@@ -74,13 +74,6 @@ impl PageMaps {
             used: 0,
             buffer,
         })
-    }
-
-    /// What all entries count, each the bytes of its key and of its value, and 8.
-    pub fn used(&self) -> u64
-        ensures { result ≡ used (map_of self.now) }
-    {
-        self.used
     }
 
     /// How many bytes more all entries may count.
@@ -210,6 +203,14 @@ impl SortedMaps for PageMaps {
 
     fn first_after(&self, index: u32, key: &[u8]) -> Option<(&[u8], &[u8])> {
         first_from(&self.leaves, index, key, true)
+    }
+
+    /// What all entries count, each the bytes of its key and of its value, and 8.
+    fn used(&self) -> u64
+        ensures exact { result ≡ used (map_of self.now) }
+        ensures most { result ≡ min (used (map_of self.now)) (2 ^ 64 - 1) }
+    {
+        self.used
     }
 
     /// Adds an entry under a key that is not there. What is stored stays.

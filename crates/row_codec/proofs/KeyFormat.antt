@@ -51,7 +51,7 @@ one_text (c ∷ a) (d ∷ b) s t hs ht e =
     let q = one_text a b s t hs ht p.1 in
     (ap (λ (x : ℕ). x ∷ a) p.0 ∙ ap (λ (l : List ℕ). d ∷ l) q.0, q.1)
 
-end_is_stop : (more : List ℕ) → IsStop (0 ∷ 0 ∷ more)
+pub end_is_stop : (more : List ℕ) → IsStop (0 ∷ 0 ∷ more)
 end_is_stop more = (refl, λ e. omega (arith, e))
 
 lone_is_stop : (b : ℕ) (more : List ℕ) → b ≢ 255 → IsStop (0 ∷ b ∷ more)

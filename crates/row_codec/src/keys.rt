@@ -126,7 +126,7 @@ fn huge_of(bytes: &[u8], place: u64) -> Result<(Value, &[u8]), RowFault>
 }
 
 // The byte of a text at the front, and the bytes after it, or nothing where the text goes no further.
-fn byte_of(bytes: &[u8]) -> Option<(u8, &[u8])>
+pub fn byte_of(bytes: &[u8]) -> Option<(u8, &[u8])>
     ensures some { IfSome result (λ x. bytes.now ≡ key_byte x.0 ++ x.1.now) }
     ensures none { IfNone result (IsStop bytes.now) }
 {

@@ -10,6 +10,7 @@ mod intervals;
 mod keys;
 mod laws;
 mod rows;
+mod skipping;
 mod text;
 
 pub use fault::RowFault;
@@ -18,3 +19,4 @@ pub use intervals::{common, point, prefix_interval};
 pub use keys::{decode_key, encode_key};
 pub use laws::{key_law, key_order_law, row_law};
 pub use rows::{decode_row, encode_row};
+pub use skipping::after_column;

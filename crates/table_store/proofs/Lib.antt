@@ -1,8 +1,9 @@
 pub mod Places
 pub mod Edits
+pub mod KeptLists
 pub mod Maps
+pub mod Counting
 pub mod Walks
-pub mod Sizes
 pub mod Rows
 pub mod Fresh
 pub mod Staging

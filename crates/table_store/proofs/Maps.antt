@@ -69,6 +69,12 @@ module _ (es : List Entry) (sorted : T (is_sorted by_bytes es)) (k : List ℕ) (
   pub within : IsPlaceOf k es i → IsSome (get (made es) k) → i < length es
   within p some = has_key_within k es i (has_key p some)
 
+  pub key_here : IsPlaceOf k es i → IsSome (get (made es) k) → (d : Entry) → (slice_index_or es i d).0 ≡ k
+  key_here p some d = key_is k es i d (has_key p some)
+
+  pub get_present : IsPlaceOf k es i → IsSome (get (made es) k) → (d : Entry) → get (made es) k ≡ Some (slice_index_or es i d).1
+  get_present p some d = edits.get_here nat_list_cmp_total bytes_same es sorted k i p (has_key p some) d
+
   pub get_other : IsPlaceOf k es i → (d : Entry) → (i < length es → (slice_index_or es i d).0 ≢ k) → get (made es) k ≡ None
   get_other p d other = not_some _ (λ some. other (within p some) (key_is k es i d (has_key p some)))
 

@@ -1,16 +1,17 @@
 //! A map as a list of entries in the order of their keys.
-ghost use Rattle.std.specs.Prelude.{◌≡◌, ◌+◌, ◌-◌, ◌≤◌, T, None, IsSome, OnOk, slice_get};
+ghost use Rattle.std.specs.Prelude.{◌≡◌, ◌+◌, ◌-◌, ◌≤◌, T, Some, None, IsSome, OnOk, slice_get};
 ghost use Rattle.std.specs.Option.{option_copied, option_map};
 ghost use Rattle.std.specs.FinMap as map;
 ghost use Rattle.std.specs.FinMap.{is_sorted};
 ghost use Rattle.std.specs.Ordering.{nat_cmp, is_lt, is_le};
 ghost use Rattle.std.specs.Cmp.Lexicographic.{slice_cmp};
-ghost use Rattle.iv_types.specs.Maps.{entry_at, entry_after};
-ghost use Rattle.table_store.specs.Lists.{IsPlace};
+ghost use Rattle.iv_types.specs.Maps.{entry_at, entry_after, entry_size, map_size};
+ghost use Rattle.table_store.specs.Lists.{IsPlace, largest_entry, most_of_list};
 
 use iv_types::{Bytes, NoMemory};
 use std::alloc::Global;
 use std::marker::Model;
+use std::mem;
 
 // How many entries stand before the key.
 fn place_at(entries: &[(Bytes, Bytes)], key: &[u8]) -> usize
@@ -45,11 +46,9 @@ pub struct EntryList {
 }
 
 impl Model for EntryList {
-    ghost use Rattle.std.specs.Prelude.{◌-◌, T};
-    ghost use Rattle.std.specs.FinMap.{from_sorted, is_sorted};
-    ghost use Rattle.std.specs.Ordering.{nat_cmp};
-    ghost use Rattle.std.specs.Cmp.Lexicographic.{slice_cmp};
-    ghost use Rattle.table_store.specs.Lists.{Listed, coded_listed};
+    ghost use Rattle.std.specs.Prelude.{◌-◌};
+    ghost use Rattle.std.specs.FinMap.{from_sorted};
+    ghost use Rattle.table_store.specs.Lists.{Listed, coded_listed, IsKept};
     ghost use Rattle.std.specs.Vec.{vec_len, vec_capacity};
 
     ghost Value = { Listed };
@@ -58,7 +57,7 @@ impl Model for EntryList {
 
     ghost view = { λ l. record { map = from_sorted l.entries.items; spare = vec_capacity l.entries - vec_len l.entries } };
 
-    ghost invariant = { λ l. T (is_sorted (slice_cmp nat_cmp) l.entries.items) };
+    ghost invariant = { λ l. IsKept l.entries.items };
 }
 
 impl EntryList {
@@ -111,11 +110,14 @@ impl EntryList {
 
     /// Adds an entry under a key that is not there, into room that was made.
     pub fn insert(&mut self, key: Bytes, value: Bytes)
+        requires size { entry_size (key, value) ≤ largest_entry }
         requires room { 1 ≤ self.old.spare }
         requires absent { map.get self.old.map key ≡ None }
         ensures entry { self.new.map ≡ map.insert self.old.map key value }
+        ensures most { map_size self.new.map ≤ most_of_list }
         ensures spare { self.old.spare ≤ self.new.spare + 1 }
     {
+        let _count = self.entries.len();
         let at = place_at(&self.entries, key.as_slice());
         match self.entries.insert(at, (key, value)) {
             Ok(()) => {}
@@ -123,23 +125,31 @@ impl EntryList {
         }
     }
 
-    /// Sets the value under a key that is there.
-    pub fn replace(&mut self, key: &[u8], value: Bytes)
-        requires { IsSome (map.get self.old.map key.now) }
+    /// Sets the value under a key that is there, and gives back the value that was there.
+    pub fn replace(&mut self, key: &[u8], value: Bytes) -> Bytes
+        requires size { entry_size (key.now, value) ≤ largest_entry }
+        requires there { IsSome (map.get self.old.map key.now) }
+        ensures was { map.get self.old.map key.now ≡ Some result }
         ensures entry { self.new.map ≡ map.insert self.old.map key.now value }
+        ensures most { map_size self.new.map ≤ most_of_list }
         ensures spare { self.old.spare ≤ self.new.spare }
     {
+        let _count = self.entries.len();
         let at = place_at(&self.entries, key);
-        self.entries[at].1 = value;
+        mem::replace(&mut self.entries[at].1, value)
     }
 
-    /// Takes away the entry under a key that is there.
-    pub fn remove(&mut self, key: &[u8])
+    /// Takes away the entry under a key that is there, and gives back its value.
+    pub fn remove(&mut self, key: &[u8]) -> Bytes
         requires { IsSome (map.get self.old.map key.now) }
+        ensures was { map.get self.old.map key.now ≡ Some result }
         ensures entry { self.new.map ≡ map.remove self.old.map key.now }
+        ensures most { map_size self.new.map ≤ most_of_list }
         ensures spare { self.old.spare + 1 ≤ self.new.spare }
     {
+        let _count = self.entries.len();
         let at = place_at(&self.entries, key);
-        self.entries.remove(at);
+        let (_, value) = self.entries.remove(at);
+        value
     }
 }

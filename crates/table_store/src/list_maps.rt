@@ -1,6 +1,7 @@
 //! Sorted maps in memory.
-ghost use Rattle.std.specs.Prelude.{◌≡◌, ℕ, length, None, IfOk};
+ghost use Rattle.std.specs.Prelude.{◌≡◌, ℕ, None, IfOk};
 ghost use Rattle.std.specs.FinMap as map;
+ghost use Rattle.iv_types.specs.Maps.{entry_size};
 ghost use Rattle.table_store.specs.Lists.{map_at, spare_at};
 
 use crate::entry_list::EntryList;
@@ -11,17 +12,26 @@ use std::marker::Model;
 // The indexes 0 to 192.
 const INDEXES: usize = 193;
 
+// What an entry counts.
+fn entry_size(key: &[u8], value: &[u8]) -> u128
+    ensures { result ≡ entry_size (key.now, value.now) }
+{
+    key.len() as u128 + value.len() as u128 + 8
+}
+
 /// Sorted maps in memory, each a sorted list. There is no limit on what their entries count.
 #[derive(Drop)]
 pub struct ListMaps {
     // One for each index.
     lists: Vec<EntryList>,
+    // What all entries count.
+    used: u128,
 }
 
 impl Model for ListMaps {
-    ghost use Rattle.std.specs.Prelude.{◌≡◌, List, length};
+    ghost use Rattle.std.specs.Prelude.{List};
     ghost use Rattle.std.specs.Coded.{coded_list};
-    ghost use Rattle.table_store.specs.Lists.{Listed, coded_listed};
+    ghost use Rattle.table_store.specs.Lists.{Listed, coded_listed, AreCounted};
 
     ghost Value = { List Listed };
 
@@ -29,7 +39,7 @@ impl Model for ListMaps {
 
     ghost view = { λ m. m.lists.items };
 
-    ghost invariant = { λ m. length m.lists.items ≡ 193 };
+    ghost invariant = { λ m. AreCounted m.lists.items m.used };
 }
 
 impl ListMaps {
@@ -45,7 +55,7 @@ impl ListMaps {
         for _ in 0..INDEXES {
             lists.push(EntryList::new(alloc))?;
         }
-        Ok(ListMaps { lists })
+        Ok(ListMaps { lists, used: 0 })
     }
 }
 
@@ -84,15 +94,24 @@ impl SortedMaps for ListMaps {
         }
     }
 
+    fn used(&self) -> u64 {
+        self.used.min(u128::from(u64::MAX)) as u64
+    }
+
     fn insert(&mut self, index: u32, key: Bytes, value: Bytes) {
+        let size = entry_size(key.as_slice(), value.as_slice());
         self.lists[index as usize].insert(key, value);
+        self.used += size;
     }
 
     fn replace(&mut self, index: u32, key: &[u8], value: Bytes) {
-        self.lists[index as usize].replace(key, value);
+        let size = entry_size(key, value.as_slice());
+        let was = self.lists[index as usize].replace(key, value);
+        self.used = self.used + size - entry_size(key, was.as_slice());
     }
 
     fn remove(&mut self, index: u32, key: &[u8]) {
-        self.lists[index as usize].remove(key);
+        let was = self.lists[index as usize].remove(key);
+        self.used -= entry_size(key, was.as_slice());
     }
 }

@@ -1,9 +1,9 @@
 //! Tables over sorted maps.
-ghost use Rattle.std.specs.Prelude.{◌≡◌, ℕ, ◌+◌, ◌-◌, ◌^◌, ◌≤◌, min, Some, IfOk, IfSome, OnOk, OnErr};
+ghost use Rattle.std.specs.Prelude.{◌≡◌, ℕ, ◌-◌, ◌^◌, ◌≤◌, min, Some, IfOk, IfSome, OnOk, OnErr};
 ghost use Rattle.std.specs.FinMap as map;
 ghost use Rattle.std.specs.Borrow.{Lends, sem};
 ghost use Rattle.iv_types.specs.Encoding.{kinds_of};
-ghost use Rattle.iv_types.specs.Maps.{map_size, used};
+ghost use Rattle.iv_types.specs.Maps.{used};
 ghost use Rattle.iv_meaning.specs.Objects.{schema_of};
 ghost use Rattle.iv_meaning.specs.Database.{Database};
 ghost use Rattle.iv_meaning.specs.View as view;
@@ -18,9 +18,6 @@ use row_codec::row_law;
 use std::alloc::Global;
 use std::cmp::Ordering;
 use std::marker::Model;
-
-// The indexes 0 to 192.
-const INDEXES: u32 = 193;
 
 // Whether the key is before the high end, where there is one.
 fn is_before(key: &[u8], high: &Option<Bytes>) -> bool
@@ -52,22 +49,6 @@ fn rows_between<M: SortedMaps>(
         next = maps.first_after(table.number, key);
     }
     Ok(rows)
-}
-
-// What the entries of an index count, and so much more. The sum stands still at the end of a `u64`.
-fn add_size<M: SortedMaps>(maps: &M, index: u32, more: u64) -> u64
-    ensures { result ≡ min (more + map_size (M.maps maps.now index)) (2 ^ 64 - 1) }
-{
-    let mut size = more;
-    let mut next = maps.first_at(index, &[]);
-    while let Some((key, value)) = next {
-        size = size
-            .saturating_add(key.len() as u64)
-            .saturating_add(value.len() as u64)
-            .saturating_add(8);
-        next = maps.first_after(index, key);
-    }
-    size
 }
 
 // Puts a value or none under a key.
@@ -183,16 +164,12 @@ impl<M: SortedMaps> Tables<M> {
         }
     }
 
-    /// What all entries of the maps count, each the bytes of its key and of its value, and 8. It walks over them all. The
-    /// sum stands still at the end of a `u64`.
+    /// What all entries of the maps count, each the bytes of its key and of its value, and 8. A sum that does not fit stands
+    /// still at the end of a `u64`.
     pub fn used(&self) -> u64
         ensures { result ≡ min (used (M.maps self.now)) (2 ^ 64 - 1) }
     {
-        let mut size = 0;
-        for index in 0..INDEXES {
-            size = add_size(&self.maps, index, size);
-        }
-        size
+        self.maps.used()
     }
 
     /// The maps.

@@ -1,7 +1,7 @@
 use Rattle.std.proofs.Common.{◌≡◌, None, length, ap, arith, rules}
 use Rattle.std.specs.FinMap.{get}
 use Rattle.ordered_index.specs.Tree.{map_of}
-use Rattle.ordered_index.proofs.Maps.{used_insert}
+use Rattle.iv_types.proofs.MapSizes.{used_insert}
 use Rattle.maps_bench.proofs.pages.put.Goals as goal
 
 pub insert-requires-clause-within : goal.insert-requires-clause-within

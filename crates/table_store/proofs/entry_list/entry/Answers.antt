@@ -1,4 +1,4 @@
-use Rattle.std.proofs.Common.{sym, ap, ◌∙◌}
+use Rattle.std.proofs.Common.{sym}
 use Rattle.table_store.proofs.Maps.{read_here, none_here}
 use Rattle.table_store.proofs.entry_list.entry.Goals as goal
 

@@ -1,7 +1,7 @@
-use Rattle.std.proofs.Common.{rules, ◌≡◌, ◌<◌, ℕ, Bool, true, false, List, [], ◌∷◌, ◌++◌, Some, None, length, sym, ap, subst, ◌∙◌, arith, append_assoc, append-nil}
-use Rattle.std.specs.FinMap.{get, entries}
+use Rattle.std.proofs.Common.{rules, ◌≡◌, ◌<◌, true, false, List, [], ◌∷◌, ◌++◌, length, sym, ap, subst, ◌∙◌, arith, append_assoc, append-nil}
+use Rattle.std.specs.FinMap.{entries}
 use Rattle.iv_types.specs.declared.value.Value.{Value}
-use Rattle.iv_types.specs.Maps.{Entry, entry_at, entry_after}
+use Rattle.iv_types.specs.Maps.{Entry, entry_at}
 use Rattle.table_store.specs.Stored.{Decode, between, before}
 use Rattle.table_store.proofs.Walks.{place, todo, low_part, rest_from, past, at_held, after_held, walk_begins, walk_goes_on, ended, goes_on}
 use Rattle.table_store.proofs.tables.rows_between.Goals as goal

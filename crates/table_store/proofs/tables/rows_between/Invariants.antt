@@ -1,4 +1,4 @@
-use Rattle.std.proofs.Common.{◌≡◌, ℕ, List, ◌++◌, length, Some}
+use Rattle.std.proofs.Common.{◌≡◌, List, ◌++◌, length, Some}
 use Rattle.std.specs.FinMap.{get, entries}
 use Rattle.iv_types.specs.declared.value.Value.{Value}
 use Rattle.iv_types.specs.Maps.{Entry}

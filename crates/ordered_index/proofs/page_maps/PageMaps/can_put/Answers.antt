@@ -4,7 +4,8 @@ use Rattle.iv_types.specs.Maps.{used}
 use Rattle.ordered_index.specs.Flat.{items}
 use Rattle.ordered_index.specs.Tree.{Tree, map_of, data_limit}
 use Rattle.ordered_index.specs.Calls.{CanPut}
-use Rattle.ordered_index.proofs.Maps.{get_of, used_insert, used_present}
+use Rattle.iv_types.proofs.MapSizes.{used_insert, used_present}
+use Rattle.ordered_index.proofs.Maps.{get_of}
 use Rattle.ordered_index.proofs.page_maps.PageMaps.can_put.Goals as goal
 
 -- what is told of a value in place of another

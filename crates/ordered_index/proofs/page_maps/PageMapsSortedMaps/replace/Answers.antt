@@ -3,7 +3,8 @@ use Rattle.std.proofs.lemmas.Bool.{cases_eq}
 use Rattle.std.specs.FinMap as map
 use Rattle.iv_types.specs.Maps.{Map, used, with_map}
 use Rattle.ordered_index.specs.Tree.{Tree, map_of, spare_of, data_limit}
-use Rattle.ordered_index.proofs.Maps.{Grown, grown, get_removed, insert_removed, used_replaced}
+use Rattle.iv_types.proofs.MapSizes.{get_removed, insert_removed}
+use Rattle.ordered_index.proofs.Maps.{Grown, grown, used_replaced}
 use Rattle.ordered_index.proofs.page_maps.PageMapsSortedMaps.replace.Goals as goal
 
 pub put-requires-clause-absent : goal.put-requires-clause-absent

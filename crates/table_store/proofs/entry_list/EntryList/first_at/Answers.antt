@@ -11,4 +11,4 @@ returns c =
     let at = c.place_at.result in
     let place = subst (λ (l : List Entry). IsPlace (λ k. is_lt (by_bytes k key)) l at) c.deref-2.ensures.value c.place_at.ensures in
     c.entry.ensures ∙ (ap (λ (l : List Entry). slice_get l at) c.deref.ensures.value
-    ∙ (sym (entry_at_place es c.self.invariant key at place) ∙ ap (λ (l : Listed). entry_at l.map key) c.self.view_is))
+    ∙ (sym (entry_at_place es c.self.invariant.sorted key at place) ∙ ap (λ (l : Listed). entry_at l.map key) c.self.view_is))
