@@ -3,21 +3,21 @@ use Rattle.std.specs.Prelude.{◌≡◌, ℕ, ◌&&◌, T, List, [], None}
 use Rattle.std.specs.Str.{bytes_eq}
 use mathlib.Core.Path.{subst}
 use Rattle.iv_meaning.specs.Schema.{Schema}
+use Rattle.iv_meaning.specs.Database.{Database}
 use Rattle.iv_meaning.specs.Said.{Said}
 use Rattle.txn_machine.specs.State.{State}
 use Rattle.txn_machine.specs.Alone.{Story, begun_story}
 use Rattle.txn_machine.proofs.PlainStates.{bare, Plain, state_of, start_with, shop_schema, start}
 use Rattle.txn_machine.proofs.Played.{begins_at, start_is}
-use Rattle.txn_machine.proofs.ShopOpening.{shop_opened}
+use Rattle.txn_machine.specs.Laws.{IsOpened}
 use Rattle.txn_machine.specs.Log.{unlimited}
-use Rattle.iv_meaning.specs.SerialExample.{shop_database}
 use Rattle.std.specs.FinMap.{empty}
 use Rattle.txn_machine.proofs.Testing.{bytes_same, left_one, right_one}
 use Rattle.script_law.specs.RunLines.{new_table, all_sessions, RunsLines, RunsScript}
 use Rattle.script_law.specs.Machine.{DoesOf, seen_of}
 use Rattle.statement_law.specs.Telling.{tell}
 use Rattle.statement_law.proofs.Works.{statements_law}
-use Rattle.script_runs.specs.Scripts.{Script, RunsTo, IsPrintedOn, IsPrinted, IsTranscript, opened_shop}
+use Rattle.script_runs.specs.Scripts.{Script, RunsTo, IsPrintedOn, IsPrinted, IsTranscriptOn, opened_shop}
 use Rattle.script_runs.proofs.Plays.{programs, Went, whole_lines, leave_all, plays}
 use Rattle.script_runs.proofs.Steps.{Told, story}
 use Rattle.script_runs.proofs.Lines.{lines_so}
@@ -51,8 +51,8 @@ pub printed : (s : Script) → T (plays start s.lines s.out) → IsPrinted s
 printed s h = printed_on 2 shop_schema s h
 
 -- and that is serial
-pub serial : (s : Script) → T (plays start s.lines s.out) → IsTranscript s
-serial s h = let run = printed s h in (statements_law shop_database empty unlimited shop_opened s.lines s.out run.0 run.1).0
+pub serial : (db : Database) → IsOpened db empty → (s : Script) → IsPrintedOn db s → IsTranscriptOn db s
+serial db opened s run = (statements_law db empty unlimited opened s.lines s.out run.0 run.1).0
 
 -- lines that are played lead to what is left of them
 pub behind : (s : Script) → (let w : Went = whole_lines s.lines new_table start in T (w.passes && bytes_eq w.out s.out)) → (told : Told)

@@ -15,6 +15,10 @@ use Rattle.script_runs.specs.Creating.{creations_are_refused as creations_script
 use Rattle.script_runs.specs.Joining.{stores_move as stores_script, StoresMove}
 use Rattle.script_runs.proofs.Spelled.{second_sale_spelled, index_spelled, sale_spelled, store_spelled, sale_shop_spelled, by_region_spelled}
 use Rattle.script_runs.proofs.Scripts.{printed_on, printed, serial}
+use Rattle.iv_meaning.specs.Database.{created}
+use Rattle.iv_meaning.specs.SerialExample.{shop_database}
+use Rattle.txn_machine.proofs.Beginning.{empty_law}
+use Rattle.txn_machine.proofs.ShopOpening.{shop_opened}
 
 pub both_commit : BothCommit
 unfolding digits
@@ -85,8 +89,7 @@ unfolding digits
 statements_are_refused = printed statements_are_refused_script tt
 
 pub freed_room_is_serial : FreedRoomIsSerial
-unfolding digits
-freed_room_is_serial = serial room_is_freed_script tt
+freed_room_is_serial = serial shop_database shop_opened room_is_freed_script room_is_freed
 
 pub day_runs : DayRuns
 unfolding digits
@@ -99,4 +102,4 @@ creations_are_refused = record { is_printed = printed creations_script tt; taken
 -- on a database that defines nothing
 pub stores_move : StoresMove
 unfolding digits same bare_pieces is_utf8 chars encode
-stores_move = record { is_printed = printed_on 0 [] stores_script tt; sales = sale_spelled; stores = store_spelled; index = sale_shop_spelled; regions = by_region_spelled }
+stores_move = let run = printed_on 0 [] stores_script tt in record { is_printed = run; is_serial = serial created (empty_law 0) stores_script run; sales = sale_spelled; stores = store_spelled; index = sale_shop_spelled; regions = by_region_spelled }

@@ -9,7 +9,7 @@ use Rattle.iv_types.specs.declared.expression.Ref.{Ref}
 use Rattle.iv_types.specs.Syntax.{JoinTree, QueryTree, StatementTree, create_table, create_index, create_view, insert, update, begin, commit, number, word, named, pair, plain, count, sum}
 use Rattle.iv_meaning.specs.Database.{created}
 use Rattle.iv_meaning.specs.Said.{runs}
-use Rattle.script_runs.specs.Scripts.{Typed, IsSpelled, Script, IsPrintedOn, sale_tuple, inserts, sold_to, compared, selects}
+use Rattle.script_runs.specs.Scripts.{Typed, IsSpelled, Script, IsPrintedOn, IsTranscriptOn, sale_tuple, inserts, sold_to, compared, selects}
 
 -- ---- its definitions
 
@@ -86,6 +86,7 @@ stores_move = record {
 -- on a database that defines nothing
 pub record StoresMove : Type 0 where
   pub is_printed : IsPrintedOn created stores_move
+  pub is_serial : IsTranscriptOn created stores_move
   pub sales : IsSpelled sale_table
   pub stores : IsSpelled store_table
   pub index : IsSpelled sale_shop

@@ -52,8 +52,11 @@ abbrev pub IsMiss : Script → Type 0
 IsMiss s = (after : Story) → RunsTo shop_database s.lines s.out after → ⊥
 
 -- what is printed is serial
+abbrev pub IsTranscriptOn : Database → Script → Type 0
+IsTranscriptOn db s = IsSerialFrom (opened_with db) s.lines s.out
+
 abbrev pub IsTranscript : Script → Type 0
-IsTranscript s = IsSerialFrom (opened_with shop_database) s.lines s.out
+IsTranscript s = IsTranscriptOn shop_database s
 
 -- some lines print this, and behind them no run of a line prints that
 pub record IsMissBehind (before : Script) (said : Said) (piece : List ℕ) : Type 0 where
