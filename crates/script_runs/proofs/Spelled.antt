@@ -18,8 +18,8 @@ use Rattle.iv_types.specs.Syntax.{Tree, JoinTree}
 use Rattle.iv_types.specs.Expressions.{Chain, Nested, nested, name_in, operations, AName, AReference, AnExpression, Signed, Unary, Product, Sum, Comparison, Negation, Conjunction, Disjunction}
 use Rattle.iv_types.specs.Grammar.{Enclosed, singleton, snoc, kind_of, AStatement, ACreation, ATable, TableBody, AColumn, Names, AnIndex, AnAlias, AView, AQuery, Items, AnItem, From, ASource, AJoin, ACondition, AGrouping}
 use Rattle.script_runs.specs.Scripts.{IsSpelled}
-use Rattle.script_runs.specs.Creating.{second_sale, by_index}
-use Rattle.script_runs.specs.Joining.{sale_table, store_table, sale_shop, plainly, store_join, region_query, by_region}
+use Rattle.script_runs.specs.Creating.{sale_table, plainly, sums_by, shop_view, second_sale, by_index}
+use Rattle.script_runs.specs.Joining.{store_table, sale_shop, store_join, by_region}
 use Rattle.script_runs.proofs.Pieces.{Piece, one, left, right, none, some, made, behind, both, before, only, no_more, more, written}
 
 -- ---- names
@@ -124,28 +124,41 @@ abbrev source : (n : List ℕ) → name_in the_limits.name_bytes (name n) ≡ So
 unfolding ASource
 source n e = made (n, None) (both (word n e) none)
 
-abbrev region : Ref
-region = plainly (codes "region")
+module _ (column : List ℕ) (e : name_in the_limits.name_bytes (name column) ≡ Some column) where
+  abbrev column_item : Piece (AnItem the_limits) (s.plain (s.named (plainly column)) None)
+  unfolding AnItem
+  column_item = right (right (right (made (s.named (plainly column), None) (both (a_column (plainly column) (reference column e)) none))))
 
-abbrev amount : Ref
-amount = plainly (codes "amount")
+  abbrev count_item : Piece (AnItem the_limits) (s.count (Some (codes "n")))
+  unfolding AnItem
+  count_item = right (left (behind t.Count (behind t.Open (behind t.Star (behind t.Close (made (Some (codes "n")) (alias (codes "n") refl)))))))
 
-abbrev region_item : Piece (AnItem the_limits) (s.plain (s.named region) None)
-unfolding AnItem
-region_item = right (right (right (made (s.named region, None) (both (a_column region (reference (codes "region") refl)) none))))
+  abbrev sum_item : Piece (AnItem the_limits) (s.sum (plainly (codes "amount")) (Some (codes "total")))
+  unfolding AnItem
+  sum_item = right (right (left (behind t.Sum (made (plainly (codes "amount"), Some (codes "total")) (both (behind t.Open (before t.Close (reference (codes "amount") refl))) (alias (codes "total") refl))))))
 
-abbrev count_item : Piece (AnItem the_limits) (s.count (Some (codes "n")))
-unfolding AnItem
-count_item = right (left (behind t.Count (behind t.Open (behind t.Star (behind t.Close (made (Some (codes "n")) (alias (codes "n") refl)))))))
+  abbrev the_items : Piece (Items the_limits) (sums_by column []).items
+  unfolding Items
+  the_items = made (s.plain (s.named (plainly column)) None, Some (s.count (Some (codes "n"))) ∷ Some (s.sum (plainly (codes "amount")) (Some (codes "total"))) ∷ [])
+      (both column_item (more (behind t.Comma (right (only refl (made (s.count (Some (codes "n"))) count_item)))) (more (behind t.Comma (right (only refl (made (s.sum (plainly (codes "amount")) (Some (codes "total"))) sum_item)))) no_more)))
 
-abbrev sum_item : Piece (AnItem the_limits) (s.sum amount (Some (codes "total")))
-unfolding AnItem
-sum_item = right (right (left (behind t.Sum (made (amount, Some (codes "total")) (both (behind t.Open (before t.Close (reference (codes "amount") refl))) (alias (codes "total") refl))))))
+  abbrev grouping : Piece (AGrouping the_limits) (plainly column ∷ [])
+  unfolding AGrouping
+  grouping = made (Some (plainly column ∷ [])) (some (behind t.Group (behind t.By (made (plainly column, []) (both (reference column e) no_more)))))
 
-abbrev region_items : Piece (Items the_limits) (s.plain (s.named region) None ∷ s.count (Some (codes "n")) ∷ s.sum amount (Some (codes "total")) ∷ [])
-unfolding Items
-region_items = made (s.plain (s.named region) None, Some (s.count (Some (codes "n"))) ∷ Some (s.sum amount (Some (codes "total"))) ∷ [])
-    (both region_item (more (behind t.Comma (right (only refl (made (s.count (Some (codes "n"))) count_item)))) (more (behind t.Comma (right (only refl (made (s.sum amount (Some (codes "total"))) sum_item)))) no_more)))
+  abbrev a_view : (n : List ℕ) → name_in the_limits.name_bytes (name n) ≡ Some n → (joins : List JoinTree) → Piece (From the_limits) (record { name = codes "sale"; alias = None }, joins)
+      → Piece (AStatement the_limits) (s.create_view n (sums_by column joins))
+  unfolding AStatement ACreation AView AQuery ACondition
+  a_view n en joins x = left (behind t.Create (right (right (behind t.Indexed (behind t.View (made (n, sums_by column joins) (both (word n en) (behind t.As (behind t.Select (
+      made ((sums_by column joins).items, ((record { name = codes "sale"; alias = None }, joins), (None, plainly column ∷ []))) (both the_items (behind t.From (both x (both none grouping))))))))))))))
+
+abbrev sales : Piece (From the_limits) (record { name = codes "sale"; alias = None }, [])
+unfolding From
+sales = made (record { name = codes "sale"; alias = None }, []) (both (source (codes "sale") refl) no_more)
+
+pub shop_view_spelled : IsSpelled shop_view
+unfolding tokens_from a_view sales source grouping the_items column_item count_item sum_item a_column expression a_sum reference
+shop_view_spelled = written shop_view.text shop_view.statement (a_view (codes "shop") refl (codes "by_shop") refl [] sales) refl
 
 abbrev joined : Piece (From the_limits) (record { name = codes "sale"; alias = None }, store_join ∷ [])
 unfolding From AJoin
@@ -154,18 +167,6 @@ joined = made (record { name = codes "sale"; alias = None }, Some store_join ∷
     (behind t.On (equals (record { qualifier = None; name = codes "shop" }) (record { qualifier = Some (codes "store"); name = codes "id" }) (reference (codes "shop") refl) (of_table (codes "store") (codes "id") refl refl))))))
     no_more))
 
-abbrev grouping : Piece (AGrouping the_limits) (region ∷ [])
-unfolding AGrouping
-grouping = made (Some (region ∷ [])) (some (behind t.Group (behind t.By (made (region, []) (both (reference (codes "region") refl) no_more)))))
-
-abbrev query : Piece (AQuery the_limits) region_query
-unfolding AQuery ACondition
-query = behind t.Select (made (region_query.items, ((region_query.first, region_query.joins), (None, region ∷ []))) (both region_items (behind t.From (both joined (both none grouping)))))
-
-abbrev by_region_piece : Piece (AStatement the_limits) by_region.statement
-unfolding AStatement ACreation AView
-by_region_piece = left (behind t.Create (right (right (behind t.Indexed (behind t.View (made (codes "by_region", region_query) (both (word (codes "by_region") refl) (behind t.As query))))))))
-
 pub by_region_spelled : IsSpelled by_region
-unfolding tokens_from by_region_piece query grouping joined source equals region_items region_item count_item sum_item a_column expression a_sum reference of_table
-by_region_spelled = written by_region.text by_region.statement by_region_piece refl
+unfolding tokens_from a_view joined source grouping the_items column_item count_item sum_item equals a_column expression a_sum reference of_table
+by_region_spelled = written by_region.text by_region.statement (a_view (codes "region") refl (codes "by_region") refl (store_join ∷ []) joined) refl

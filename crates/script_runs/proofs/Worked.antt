@@ -11,9 +11,9 @@ use Rattle.script_runs.specs.Waiting.{reader_waits as reader_waits_script, Reade
 use Rattle.script_runs.specs.Snapshots.{snapshot_is_kept as snapshot_is_kept_script, SnapshotIsKept, snapshot_by_steps as snapshot_by_steps_script, SnapshotBySteps}
 use Rattle.script_runs.specs.Inside.{refused_insert as refused_insert_script, RefusedInsert, savepoint_returns as savepoint_returns_script, SavepointReturns, insert_by_steps as insert_by_steps_script, InsertBySteps, statements_are_refused as statements_are_refused_script, StatementsAreRefused}
 use Rattle.script_runs.specs.Day.{day, DayRuns}
-use Rattle.script_runs.specs.Creating.{creations_are_refused as creations_script, CreationsAreRefused}
+use Rattle.script_runs.specs.Creating.{sales_are_shown as shown_script, SalesAreShown, creations_are_refused as creations_script, CreationsAreRefused}
 use Rattle.script_runs.specs.Joining.{stores_move as stores_script, StoresMove}
-use Rattle.script_runs.proofs.Spelled.{second_sale_spelled, index_spelled, sale_spelled, store_spelled, sale_shop_spelled, by_region_spelled}
+use Rattle.script_runs.proofs.Spelled.{second_sale_spelled, index_spelled, sale_spelled, store_spelled, sale_shop_spelled, shop_view_spelled, by_region_spelled}
 use Rattle.script_runs.proofs.Scripts.{printed_on, printed, serial}
 use Rattle.iv_meaning.specs.Database.{created}
 use Rattle.iv_meaning.specs.SerialExample.{shop_database}
@@ -94,6 +94,11 @@ freed_room_is_serial = serial shop_database shop_opened room_is_freed_script roo
 pub day_runs : DayRuns
 unfolding digits
 day_runs = printed day tt
+
+-- on a database that defines nothing
+pub sales_are_shown : SalesAreShown
+unfolding digits same bare_pieces is_utf8 chars encode
+sales_are_shown = let run = printed_on 0 [] shown_script tt in record { is_printed = run; is_serial = serial created (empty_law 0) shown_script run; sales = sale_spelled; shops = shop_view_spelled }
 
 pub creations_are_refused : CreationsAreRefused
 unfolding digits same

@@ -13,9 +13,9 @@ use Rattle.iv_types.specs.declared.statement.Relation.{Relation}
 use Rattle.iv_types.specs.Syntax.{Tree, JoinTree, ItemTree, QueryTree, StatementTree, named, pair, all, count, sum, plain, create_table, create_index, create_view}
 use Rattle.txn_machine.specs.May.{IsWritten}
 use Rattle.script_runs.specs.Scripts.{Typed, IsSpelled}
-use Rattle.script_runs.specs.Creating.{second_sale, by_index}
-use Rattle.script_runs.specs.Joining.{sale_table, store_table, sale_shop, by_region}
-use Rattle.script_runs.proofs.Spelled.{second_sale_spelled, index_spelled, sale_spelled, store_spelled, sale_shop_spelled, by_region_spelled}
+use Rattle.script_runs.specs.Creating.{sale_table, shop_view, second_sale, by_index}
+use Rattle.script_runs.specs.Joining.{store_table, sale_shop, by_region}
+use Rattle.script_runs.proofs.Spelled.{second_sale_spelled, index_spelled, sale_spelled, store_spelled, sale_shop_spelled, shop_view_spelled, by_region_spelled}
 
 -- ---- what is known to be equal
 
@@ -119,5 +119,5 @@ among (k ∷ ks) statement = or_else statement k (same_creation k.typed.statemen
 
 abbrev pub book : (statement : StatementTree) → Option (IsWritten statement)
 book = among (
-    record { typed = second_sale; is = second_sale_spelled } ∷ record { typed = by_index; is = index_spelled } ∷ record { typed = sale_table; is = sale_spelled }
+    record { typed = shop_view; is = shop_view_spelled } ∷ record { typed = second_sale; is = second_sale_spelled } ∷ record { typed = by_index; is = index_spelled } ∷ record { typed = sale_table; is = sale_spelled }
     ∷ record { typed = store_table; is = store_spelled } ∷ record { typed = sale_shop; is = sale_shop_spelled } ∷ record { typed = by_region; is = by_region_spelled } ∷ [])

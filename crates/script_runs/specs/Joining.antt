@@ -2,23 +2,16 @@
 --
 -- A view of two tables: it needs an index of the first by the column that joins them, and goes on with changes of both.
 use Rattle.std.specs.Prelude.{List, [], ◌∷◌, codes, pos, Ok, Some, None, ℕ}
-use Rattle.iv_types.specs.declared.value.Kind.TheVariants.{Int, Huge, Text}
+use Rattle.iv_types.specs.declared.value.Kind.TheVariants.{Int, Text}
 use Rattle.iv_types.specs.declared.expression.Op.TheVariants.{Equal}
 use Rattle.iv_types.specs.declared.statement.Mode.TheVariants.{Serial}
-use Rattle.iv_types.specs.declared.expression.Ref.{Ref}
-use Rattle.iv_types.specs.Syntax.{JoinTree, QueryTree, StatementTree, create_table, create_index, create_view, insert, update, begin, commit, number, word, named, pair, plain, count, sum}
+use Rattle.iv_types.specs.Syntax.{JoinTree, QueryTree, StatementTree, create_table, create_index, create_view, insert, update, begin, commit, number, word, named, pair}
 use Rattle.iv_meaning.specs.Database.{created}
 use Rattle.iv_meaning.specs.Said.{runs}
+use Rattle.script_runs.specs.Creating.{sale_table, plainly, sums_by}
 use Rattle.script_runs.specs.Scripts.{Typed, IsSpelled, Script, IsPrintedOn, IsTranscriptOn, sale_tuple, inserts, sold_to, compared, selects}
 
 -- ---- its definitions
-
-abbrev pub sale_table : Typed
-sale_table = record {
-  text = codes "CREATE TABLE sale (id INT, shop INT, amount HUGE, PRIMARY KEY (id))";
-  statement = create_table (codes "sale")
-      (record { name = codes "id"; kind = Int } ∷ record { name = codes "shop"; kind = Int } ∷ record { name = codes "amount"; kind = Huge } ∷ []) (codes "id" ∷ []);
-}
 
 abbrev pub store_table : Typed
 store_table = record {
@@ -29,9 +22,6 @@ store_table = record {
 abbrev pub sale_shop : Typed
 sale_shop = record { text = codes "CREATE INDEX sale_shop ON sale (shop)"; statement = create_index (codes "sale_shop") (codes "sale") (codes "shop" ∷ []) }
 
-abbrev pub plainly : List ℕ → Ref
-plainly name = record { qualifier = None; name = name }
-
 -- JOIN store ON shop = store.id
 abbrev pub store_join : JoinTree
 store_join = record {
@@ -40,13 +30,7 @@ store_join = record {
 }
 
 abbrev pub region_query : QueryTree
-region_query = record {
-  items = plain (named (plainly (codes "region"))) None ∷ count (Some (codes "n")) ∷ sum (plainly (codes "amount")) (Some (codes "total")) ∷ [];
-  first = record { name = codes "sale"; alias = None };
-  joins = store_join ∷ [];
-  condition = None;
-  group = plainly (codes "region") ∷ [];
-}
+region_query = sums_by (codes "region") (store_join ∷ [])
 
 abbrev pub by_region : Typed
 by_region = record {

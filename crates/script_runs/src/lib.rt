@@ -8,7 +8,7 @@ ghost use Rattle.script_runs.specs.Waiting.{BothAreTried, InsertWaits, ReaderWai
 ghost use Rattle.script_runs.specs.Snapshots.{SnapshotBySteps, SnapshotIsKept};
 ghost use Rattle.script_runs.specs.Inside.{InsertBySteps, RefusedInsert, SavepointReturns, StatementsAreRefused};
 ghost use Rattle.script_runs.specs.Day.{DayRuns};
-ghost use Rattle.script_runs.specs.Creating.{CreationsAreRefused};
+ghost use Rattle.script_runs.specs.Creating.{CreationsAreRefused, SalesAreShown};
 ghost use Rattle.script_runs.specs.Joining.{StoresMove};
 ghost use Rattle.script_runs.specs.Misses.{CleanedOfNone, CleanedTwice, DeadlockOfBegin, NotTriedAgain, RefusedByNone, StepOfNone, ToldUncommitted, TriedInFallingOrder, TwoStepsAtOnce, WaitsForNobody, WrongSessionTold};
 
@@ -160,6 +160,11 @@ pub fn not_tried_again()
 /// A shop's day of four sessions, with a snapshot, a checkpoint and a clean.
 pub fn day_runs()
     ensures { DayRuns }
+{}
+
+/// The shop's table and its view are made on a database that defines nothing, the view of sales that are there.
+pub fn sales_are_shown()
+    ensures { SalesAreShown }
 {}
 
 /// CREATE statements are refused for the name of a table, and while a session has a transaction; they are written as a user types them.
