@@ -31,7 +31,7 @@ use Rattle.txn_machine.specs.Records.{group_bytes}
 use Rattle.txn_machine.specs.Log.{Within, Above, reserved}
 use Rattle.txn_machine.specs.State.{State}
 use Rattle.txn_machine.proofs.Holding.{by_contains, contains_here, contains_next, contains_none}
-use Rattle.txn_machine.proofs.Playing.{some_of}
+use Rattle.txn_machine.proofs.PlainStates.{some_of}
 use Rattle.txn_machine.proofs.Testing.{is_true, holds, left_one, right_one, some_in, some_is}
 use Rattle.machine_answers.proofs.Saying.{HasAnswer}
 use Rattle.machine_answers.proofs.Choosing.{so_or_not, same_or_not, there_or_not, within_or_above, each_session_or_not}

@@ -21,7 +21,7 @@ use Rattle.txn_machine.specs.Waiting.{WaitsOn, Leads}
 use Rattle.txn_machine.specs.Store.{locks_of, Loses}
 use Rattle.txn_machine.specs.State.{State}
 use Rattle.txn_machine.specs.Steps.{asked, IsFree, MayWait}
-use Rattle.txn_machine.proofs.Playing.{in_way}
+use Rattle.txn_machine.proofs.PlainStates.{in_way}
 use Rattle.txn_machine.proofs.Testing.{in_way_is, in_way_so}
 use Rattle.machine_answers.proofs.Saying.{HasAnswer}
 use Rattle.machine_answers.proofs.Choosing.{so_or_not, true_or_not, same_or_not, session_or_not, at_most_or_more, Least, least_or_none}

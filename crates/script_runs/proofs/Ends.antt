@@ -9,7 +9,7 @@ use Rattle.txn_machine.specs.Answers as answer
 use Rattle.txn_machine.specs.Answers.{Answer}
 use Rattle.txn_machine.specs.Keeping.{Open}
 use Rattle.txn_machine.specs.Store.{schema_of}
-use Rattle.txn_machine.proofs.Playing.{Plain, state_of}
+use Rattle.txn_machine.proofs.PlainStates.{Plain, state_of}
 use Rattle.txn_machine.proofs.Testing.{left_one, right_one}
 use Rattle.script_law.specs.Seen.{Txn}
 use Rattle.script_law.specs.Programs.{Standing}

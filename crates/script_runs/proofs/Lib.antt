@@ -1,3 +1,6 @@
+pub mod Pieces
+pub mod Spelled
+pub mod Written
 pub mod Choosing
 pub mod Plays
 pub mod Steps

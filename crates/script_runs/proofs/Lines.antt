@@ -11,7 +11,7 @@ use Rattle.iv_meaning.specs.Said.{Said, nothing, too_long, bad, runs, loads, unr
 use Rattle.txn_machine.specs.Acts as act
 use Rattle.txn_machine.specs.Answers as answer
 use Rattle.txn_machine.specs.Answers.{Answer}
-use Rattle.txn_machine.proofs.Playing.{Plain}
+use Rattle.txn_machine.proofs.PlainStates.{Plain}
 use Rattle.txn_machine.proofs.Testing.{left_one, right_one}
 use Rattle.script_law.specs.Programs.{Standing, Todo}
 use Rattle.script_law.specs.RunLines.{Line, idle, waiting, stepping, held, Table, set_seat, seat_run, seat_stepped, all_removed, Tells, Rel, RefusedOr, Given, RunsIt, LoadsIt, Stepped, Cleans, cleaned_all, cleaned_one, CleansLine, pruned, saved, Own, Tries, Pass, Passes, RunsLine, RunsLines, all_sessions}

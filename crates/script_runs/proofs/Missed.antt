@@ -20,7 +20,7 @@ use Rattle.txn_machine.specs.Store.{Effect}
 use Rattle.txn_machine.specs.State.{stop_after}
 use Rattle.txn_machine.specs.Steps.{Says}
 use Rattle.txn_machine.specs.Alone.{Story}
-use Rattle.txn_machine.proofs.Playing.{state_of, start}
+use Rattle.txn_machine.proofs.PlainStates.{state_of, start}
 use Rattle.script_law.specs.Seen.{event}
 use Rattle.script_law.specs.Programs.{Standing, Todo, says, asks, outside_with}
 use Rattle.script_law.specs.RunLines.{new_table, all_sessions, Outcome, printed, next_of, outcome_of, RunsOn}

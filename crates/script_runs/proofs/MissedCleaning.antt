@@ -17,7 +17,7 @@ use Rattle.txn_machine.specs.Store.{run}
 use Rattle.txn_machine.specs.Ghosts.{the_views}
 use Rattle.txn_machine.specs.State.{stop_after}
 use Rattle.txn_machine.specs.Alone.{Story}
-use Rattle.txn_machine.proofs.Playing.{start, table_of, set_in}
+use Rattle.txn_machine.proofs.PlainStates.{start, table_of, set_in}
 use Rattle.txn_machine.proofs.Tabled.{get_is, write_is, none_is}
 use Rattle.script_law.specs.RunLines.{new_table, all_sessions, Cleaned, cleaned_text, counted_line, Cleans, cleaned_all, cleaned_one, clean_fails, CleansLine, pruned, prune_fails}
 use Rattle.script_law.specs.Machine.{DoesOf}

@@ -28,7 +28,8 @@ use Rattle.txn_machine.specs.Answers.{Answer}
 use Rattle.txn_machine.specs.Stored.{IsShown, is_shown}
 use Rattle.txn_machine.specs.Store.{Ends}
 use Rattle.txn_machine.specs.Alone.{Story}
-use Rattle.txn_machine.proofs.Playing.{shop_schema, Plain, state_of, start, read_want, after as left_by_move, ends}
+use Rattle.txn_machine.proofs.PlainStates.{shop_schema, Plain, state_of, start}
+use Rattle.txn_machine.proofs.Playing.{read_want, after as left_by_move, ends}
 use Rattle.txn_machine.proofs.Tabled.{entries_are}
 use Rattle.txn_machine.proofs.MovesAlone.{in_order, free}
 use Rattle.script_law.specs.Programs.{Standing, Todo, says, outside_with}

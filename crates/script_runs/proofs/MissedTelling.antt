@@ -29,7 +29,7 @@ use Rattle.script_runs.proofs.Inverting.{byte, line_begins, lines_begin}
 use Rattle.script_runs.proofs.Steps.{story}
 use Rattle.script_runs.proofs.Scripts.{behind}
 use Rattle.script_runs.proofs.Reaching.{lines_lead}
-use Rattle.txn_machine.proofs.Playing.{start}
+use Rattle.txn_machine.proofs.PlainStates.{start}
 use Rattle.script_runs.proofs.Speaking.{Tells, TellsSo, run_tells, inside_work, alone_tells}
 
 pub shop_reached : IsReachedStory opened_shop

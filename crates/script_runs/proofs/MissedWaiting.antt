@@ -28,7 +28,8 @@ use Rattle.txn_machine.specs.Steps.{IsFree, IsBlocked}
 use Rattle.txn_machine.specs.Alone.{Story}
 use Rattle.txn_machine.specs.Example.{all_keys}
 use Rattle.txn_machine.proofs.Holding.{contains_here}
-use Rattle.txn_machine.proofs.Playing.{shop_schema, state_of, start, read_want}
+use Rattle.txn_machine.proofs.PlainStates.{shop_schema, state_of, start}
+use Rattle.txn_machine.proofs.Playing.{read_want}
 use Rattle.txn_machine.proofs.Tabled.{entries_are}
 use Rattle.txn_machine.proofs.MovesAlone.{in_order, free}
 use Rattle.script_law.specs.Programs.{Todo}

@@ -1,4 +1,4 @@
--- Scripts on the shop, played: what each line prints and what it leaves, all of which computes.
+-- Scripts, played: what each line prints and what it leaves, all of which computes.
 use Rattle.std.specs.Prelude.{ℕ, zero, suc, ◌+◌, nat_le, Bool, true, false, ◌&&◌, List, [], ◌∷◌, ◌++◌, length, Option, Some, None, Result, Ok, Err, codes}
 use Rattle.std.specs.Str.{bytes_eq}
 use Rattle.iv_types.specs.declared.refusal.Refusal.{Refusal}
@@ -13,7 +13,8 @@ use Rattle.txn_machine.specs.Acts.{Act}
 use Rattle.txn_machine.specs.Answers as answer
 use Rattle.txn_machine.specs.Answers.{Answer}
 use Rattle.txn_machine.specs.Keeping.{Open}
-use Rattle.txn_machine.proofs.Playing.{Plain, start, is_in_order, test, said_of, after}
+use Rattle.txn_machine.proofs.PlainStates.{Plain}
+use Rattle.txn_machine.proofs.Playing.{is_in_order, test, said_of, after}
 use Rattle.script_law.specs.Seen.{Event, Waits, event}
 use Rattle.script_law.specs.Programs.{Standing, Todo, says, asks, ghosts, Programs}
 use Rattle.script_law.specs.RunLines.{Line, idle, waiting, stepping, held, AtTable, Table, set_seat, new_table, Outcome, ended, stuck, stepped, printed, seat_run, seat_stepped, printed_later, next_of, outcome_of, all_sessions, counted_line}
@@ -266,5 +267,5 @@ leave_all (n ∷ ns) table p = and_then (leaves_by n (table n).line (open_in (ta
 abbrev pub went_so : List ℕ → Went → Bool
 went_so out w = w.passes && (bytes_eq w.out out && (leave_all all_sessions w.table w.left).passes)
 
-abbrev pub plays : List Said → List ℕ → Bool
-plays lines out = went_so out (whole_lines lines new_table start)
+abbrev pub plays : Plain → List Said → List ℕ → Bool
+plays p lines out = went_so out (whole_lines lines new_table p)

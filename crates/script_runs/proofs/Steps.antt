@@ -6,7 +6,8 @@ use Rattle.txn_machine.specs.Acts.{Act}
 use Rattle.txn_machine.specs.Answers.{Answer}
 use Rattle.txn_machine.specs.Steps.{Step}
 use Rattle.txn_machine.specs.Alone.{Fact, Story, story_after}
-use Rattle.txn_machine.proofs.Playing.{Plain, state_of, is_in_order, Move, act_of, test, said_of, after}
+use Rattle.txn_machine.proofs.PlainStates.{Plain, state_of}
+use Rattle.txn_machine.proofs.Playing.{is_in_order, Move, act_of, test, said_of, after}
 use Rattle.txn_machine.proofs.Played.{sound}
 use Rattle.txn_machine.proofs.MovesAlone.{in_order}
 use Rattle.txn_machine.proofs.Testing.{left_one, right_one, at_most}

@@ -6,3 +6,5 @@ pub mod Snapshots
 pub mod Inside
 pub mod Misses
 pub mod Day
+pub mod Creating
+pub mod Joining

@@ -1,11 +1,13 @@
 -- No clause of `run` rests on this module: it serves contracts between crates.
 --
--- What scripts on a shop's sales print, where the statements' programs run over the machine; and the statements.
+-- What scripts print, on a shop's sales and on other databases, where the statements' programs run over the machine; and the statements.
 use Rattle.std.specs.Prelude.{ℕ, pos, List, [], ◌∷◌, Option, Some, None, codes}
 use Rattle.std.specs.FinMap.{empty}
 use Rattle.iv_types.specs.declared.expression.Op.{Op}
 use Rattle.iv_types.specs.declared.expression.Op.TheVariants.{Equal}
 use Rattle.iv_types.specs.Syntax.{Tree, StatementTree, number, named, pair, all, insert, delete, select}
+use Rattle.iv_types.specs.Grammar.{Spells}
+use Rattle.iv_meaning.specs.Database.{Database}
 use Rattle.iv_meaning.specs.Said.{Said}
 use Rattle.iv_meaning.specs.Serial.{opened_with, IsSerialFrom}
 use Rattle.iv_meaning.specs.SerialExample.{shop_database}
@@ -21,29 +23,40 @@ use Rattle.statement_law.specs.Statements.{the_works}
 
 -- ---- scripts
 
--- the shop as it is opened: its table and its view, and no sale
+-- a database without view rows as it is opened
+abbrev pub opened_on : Database → Story
+opened_on db = begun_story (opened_state unlimited (opened db empty))
+
+-- the shop: its table and its view, and no sale
 abbrev pub opened_shop : Story
-opened_shop = begun_story (opened_state unlimited (opened shop_database empty))
+opened_shop = opened_on shop_database
 
 -- lines that print this on it, to the end of the input
-abbrev pub RunsTo : List Said → List ℕ → Story → Type 0
-RunsTo lines out after = RunsScript DoesOf (programs_of the_works) (tell [] None) seen_of lines opened_shop out after
+abbrev pub RunsTo : Database → List Said → List ℕ → Story → Type 0
+RunsTo db lines out after = RunsScript DoesOf (programs_of the_works) (tell [] None) seen_of lines (opened_on db) out after
 
 -- lines and what they print
 pub record Script : Type 0 where
   pub lines : List Said
   pub out : List ℕ
 
+abbrev pub IsPrintedOn : Database → Script → Type 0
+IsPrintedOn db s = (after : Story) × RunsTo db s.lines s.out after
+
+-- on the shop
 abbrev pub IsPrinted : Script → Type 0
-IsPrinted s = (after : Story) × RunsTo s.lines s.out after
+IsPrinted s = IsPrintedOn shop_database s
 
 -- no run of the lines prints this
 abbrev pub IsMiss : Script → Type 0
-IsMiss s = (after : Story) → RunsTo s.lines s.out after → ⊥
+IsMiss s = (after : Story) → RunsTo shop_database s.lines s.out after → ⊥
 
 -- what is printed is serial
+abbrev pub IsTranscriptOn : Database → Script → Type 0
+IsTranscriptOn db s = IsSerialFrom (opened_with db) s.lines s.out
+
 abbrev pub IsTranscript : Script → Type 0
-IsTranscript s = IsSerialFrom (opened_with shop_database) s.lines s.out
+IsTranscript s = IsTranscriptOn shop_database s
 
 -- some lines print this, and behind them no run of a line prints that
 pub record IsMissBehind (before : Script) (said : Said) (piece : List ℕ) : Type 0 where
@@ -53,6 +66,14 @@ pub record IsMissBehind (before : Script) (said : Said) (piece : List ℕ) : Typ
   pub never : (later_table : Table) (after : Story) → RunsLine DoesOf (programs_of the_works) (tell [] None) all_sessions said table s piece later_table after → ⊥
 
 -- ---- statements
+
+-- a statement and its text as a user types it
+pub record Typed : Type 0 where
+  pub text : List ℕ
+  pub statement : StatementTree
+
+abbrev pub IsSpelled : Typed → Type 0
+IsSpelled t = Spells t.text t.statement
 
 -- a sale's number, its shop and its amount
 abbrev pub sale_tuple : ℕ → ℕ → ℕ → List Tree

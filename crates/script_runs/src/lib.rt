@@ -1,5 +1,5 @@
-//! Scripts on a shop's sales as runs over the machine: what they print, and what no run of them prints. Each function is there
-//! for its contract.
+//! Scripts as runs over the machine, on a shop's sales and on a database that defines nothing: what they print, and what no run of
+//! them prints. Each function is there for its contract.
 #![tactic(auto)]
 
 ghost use Rattle.script_runs.specs.Increments.{BothCommit, DeletedComesBack, GhostIsCleaned, OneRollsBack};
@@ -8,6 +8,8 @@ ghost use Rattle.script_runs.specs.Waiting.{BothAreTried, InsertWaits, ReaderWai
 ghost use Rattle.script_runs.specs.Snapshots.{SnapshotBySteps, SnapshotIsKept};
 ghost use Rattle.script_runs.specs.Inside.{InsertBySteps, RefusedInsert, SavepointReturns, StatementsAreRefused};
 ghost use Rattle.script_runs.specs.Day.{DayRuns};
+ghost use Rattle.script_runs.specs.Creating.{CreationsAreRefused, SalesAreShown};
+ghost use Rattle.script_runs.specs.Joining.{StoresMove};
 ghost use Rattle.script_runs.specs.Misses.{CleanedOfNone, CleanedTwice, DeadlockOfBegin, NotTriedAgain, RefusedByNone, StepOfNone, ToldUncommitted, TriedInFallingOrder, TwoStepsAtOnce, WaitsForNobody, WrongSessionTold};
 
 /// Two open inserts into one group: both commit, and the view has both.
@@ -158,4 +160,20 @@ pub fn not_tried_again()
 /// A shop's day of four sessions, with a snapshot, a checkpoint and a clean.
 pub fn day_runs()
     ensures { DayRuns }
+{}
+
+/// The shop's table and its view are made on a database that defines nothing, the view of sales that are there.
+pub fn sales_are_shown()
+    ensures { SalesAreShown }
+{}
+
+/// CREATE statements are refused for the name of a table, and while a session has a transaction; they are written as a user types them.
+pub fn creations_are_refused()
+    ensures { CreationsAreRefused }
+{}
+
+/// A view of two tables is made once there is the index that it needs, and shows what changes of both come to; its definitions are
+/// written as a user types them.
+pub fn stores_move()
+    ensures { StoresMove }
 {}

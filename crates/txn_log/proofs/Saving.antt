@@ -14,7 +14,8 @@ use Rattle.txn_machine.specs.Steps.{Does, Step, log_after}
 use Rattle.txn_machine.specs.May.{May}
 use Rattle.txn_machine.specs.Example.{sale, one_sale, other_sale, starts, inserts}
 use Rattle.txn_machine.proofs.ShopOpening.{shop_opened}
-use Rattle.txn_machine.proofs.Playing.{Turn, begins, commits, Plain, state_of, played}
+use Rattle.txn_machine.proofs.PlainStates.{Plain, state_of}
+use Rattle.txn_machine.proofs.Playing.{Turn, begins, commits, played}
 use Rattle.txn_machine.proofs.Tabled.{committed_is, get_is}
 use Rattle.txn_machine.proofs.MovesAlone.{in_order}
 use Rattle.txn_machine.proofs.Played.{run_to, runs, sound}
@@ -95,21 +96,21 @@ stop_after_checkpoint =
       leads = run_to inserting_turns tt;
       waiting = d;
       inserts = goes.1;
-      shows_inserted = settled_shows (At s d) goes.1 not_committed (committed_is not_committed) goes.2 [] refl [] tt;
+      shows_inserted = settled_shows (At s d) goes.1 not_committed (committed_is not_committed) refl goes.2 [] refl [] tt;
       saved = t;
       saves = (t, record { may = may_save s; does = inl (saves_does not_committed 2 refl refl) }, refl);
       published = e;
       checkpoint = saves.1;
       has_sale = get_is not_committed.rows (1, key_of sale one_sale) tt;
-      shows_published = settled_shows (At t e) saved_run saved (committed_is saved) goes.2 [] refl [] tt;
+      shows_published = settled_shows (At t e) saved_run saved (committed_is saved) refl goes.2 [] refl [] tt;
       committed = u;
       more = runs saved other_turns tt;
       store = go.store;
       log = go.log;
       unflushed = go.disk;
       commits = before;
-      shows_before = before_flush v more.0 2 act.Commit u go 2 (settled_shows (At v f) (run_both opened_shop (At t e) (At v f) saved_run at) other_waits (committed_is other_waits) more.2 [] refl [] tt 0);
+      shows_before = before_flush v more.0 2 act.Commit u go 2 (settled_shows (At v f) (run_both opened_shop (At t e) (At v f) saved_run at) other_waits (committed_is other_waits) refl more.2 [] refl [] tt 0);
       flushed = g;
       after = after;
-      shows_after = settled_shows (At u g) (run_both opened_shop w (At u g) (run_both opened_shop (At t e) w saved_run before) after) other (committed_is other) (ap (λ (x : Store). (committed x).number) go.store_is) (other_sale ∷ []) refl other_total (refl, refl, tt);
+      shows_after = settled_shows (At u g) (run_both opened_shop w (At u g) (run_both opened_shop (At t e) w saved_run before) after) other (committed_is other) refl (ap (λ (x : Store). (committed x).number) go.store_is) (other_sale ∷ []) refl other_total (refl, refl, tt);
     }

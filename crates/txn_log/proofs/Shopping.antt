@@ -5,6 +5,7 @@ use mathlib.Core.Logic.{inl, inr}
 use Rattle.std.proofs.Common.{arith}
 use Rattle.std.specs.FinMap.{empty}
 use Rattle.table_laws.specs.Place.{Place}
+use Rattle.iv_meaning.specs.Schema.{Schema}
 use Rattle.iv_meaning.specs.Database.{Row, Database, key_of}
 use Rattle.iv_meaning.specs.History.{state_at}
 use Rattle.iv_types.specs.declared.statement.Mode.TheVariants.{Serial}
@@ -15,8 +16,9 @@ use Rattle.txn_machine.specs.Log.{unlimited}
 use Rattle.txn_machine.specs.State.{State, opened_state}
 use Rattle.txn_machine.specs.Example.{sale, shop_database, one_sale}
 use Rattle.txn_machine.proofs.ShopOpening.{shop_opened}
-use Rattle.txn_machine.proofs.Playing.{Turn, begins, lacks, makes, pays, commits, Plain, said_of, after, state_of, start, played, base, number_of, fresh_in}
-use Rattle.txn_machine.proofs.Tabled.{InOrder, with_sales, committed_is, base_sorted, fresh_is, origin_is}
+use Rattle.txn_machine.proofs.PlainStates.{Plain, state_of, shop_schema, start, schema, base, number_of, fresh_in}
+use Rattle.txn_machine.proofs.Playing.{Turn, begins, lacks, makes, pays, commits, said_of, after, played}
+use Rattle.txn_machine.proofs.Tabled.{InOrder, with_rows, plain_db, committed_is, base_sorted, fresh_is, origin_is}
 use Rattle.std.proofs.lemmas.Bool.Decides.{leb_tells}
 use Rattle.iv_types.specs.declared.refusal.EngineRefusal.TheVariants as refusal
 use Rattle.txn_machine.specs.Acts as act
@@ -45,28 +47,29 @@ Settled w = (disk_of w).acknowledged ≡ (committed (store_of w)).number
 -- the totals of a list of sales
 abbrev pub TotalsIn : List (Place × Row) → List Total → Type 0
 TotalsIn l [] = Unit {0}
-TotalsIn l (t ∷ ts) = (fresh_in l (total_place t.shop) 0 ≡ pos t.count) × (fresh_in l (total_place t.shop) 1 ≡ pos t.total) × TotalsIn l ts
+TotalsIn l (t ∷ ts) = (fresh_in shop_schema l (total_place t.shop) 0 ≡ pos t.count) × (fresh_in shop_schema l (total_place t.shop) 1 ≡ pos t.total) × TotalsIn l ts
 
-totals_in : (p : Pages) (n : ℕ) (l : List (Place × Row)) → InOrder l → p.db ≡ with_sales n l → ((place : Place) (column : ℕ) → stored_number p.view place column ≡ fresh p.db.schema p.db.rows place column)
+totals_in : (p : Pages) (n : ℕ) (l : List (Place × Row)) → InOrder l → p.db ≡ with_rows n shop_schema l → ((place : Place) (column : ℕ) → stored_number p.view place column ≡ fresh p.db.schema p.db.rows place column)
     → (ts : List Total) → TotalsIn l ts → HasTotals p.view ts
 totals_in p n l sorted is rows [] h = tt
 totals_in p n l sorted is rows (t ∷ ts) h = (number 0 ∙ h.0, number 1 ∙ h.1, totals_in p n l sorted is rows ts h.2)
   where
-    number : (column : ℕ) → stored_number p.view (total_place t.shop) column ≡ fresh_in l (total_place t.shop) column
+    number : (column : ℕ) → stored_number p.view (total_place t.shop) column ≡ fresh_in shop_schema l (total_place t.shop) column
     number column = rows (total_place t.shop) column
-        ∙ (ap (λ (db : Database). fresh db.schema db.rows (total_place t.shop) column) is ∙ fresh_is l (total_place t.shop) column sorted)
+        ∙ (ap (λ (db : Database). fresh db.schema db.rows (total_place t.shop) column) is ∙ fresh_is shop_schema l (total_place t.shop) column sorted)
 
 -- of the moment after some moves
-pub settled_shows : (w : World) → Run opened_shop w → (p : Plain) → committed (store_of w) ≡ with_sales (number_of p) (base p) → Settled w
+pub settled_shows : (w : World) → Run opened_shop w → (p : Plain) → committed (store_of w) ≡ plain_db p → schema p ≡ shop_schema → Settled w
     → (rows : List Row) → map (λ row. ((1, key_of sale row), row)) rows ≡ base p → (totals : List Total) → TotalsIn (base p) totals → (k : ℕ) → Shows w k (number_of p) rows totals
-settled_shows w r p is settled rows rows_are totals h k =
+settled_shows w r p is defined settled rows rows_are totals h k =
     let good = followed_world w (good_run prints_again opened_shop w r (good_opened prints_again unlimited shop shop_opened)) in
     let right : IsRight (store_of w) (left_by w k) (disk_of w).acknowledged = cut_right (store_of w) good.0 (disk_of w) good.1 k in
-    let db_is : (recovered right.reading).db ≡ with_sales (number_of p) (base p) = right_exact (store_of w) (left_by w k) (disk_of w).acknowledged good.1.sound.good settled right ∙ is in
+    let db_is : (recovered right.reading).db ≡ with_rows (number_of p) shop_schema (base p) =
+    right_exact (store_of w) (left_by w k) (disk_of w).acknowledged good.1.sound.good settled right ∙ (is ∙ ap (λ (objects : Schema). with_rows (number_of p) objects (base p)) defined) in
     record {
       reading = right.reading;
       is_read = right.is_read;
-      db = db_is ∙ ap (with_sales (number_of p)) (sym rows_are);
+      db = db_is ∙ ap (with_rows (number_of p) shop_schema) (sym rows_are);
       view = totals_in (recovered right.reading) (number_of p) (base p) (base_sorted p) db_is right.opens.rows totals h;
     }
 
@@ -121,10 +124,10 @@ stop_in_commit =
       log = go.log;
       waiting = go.disk;
       before = before;
-      shows_before = before_flush s goes.0 1 act.Commit t go 2 (settled_shows (At s f) at not_committed (committed_is not_committed) goes.2 [] refl [] tt 0);
+      shows_before = before_flush s goes.0 1 act.Commit t go 2 (settled_shows (At s f) at not_committed (committed_is not_committed) refl goes.2 [] refl [] tt 0);
       flushed = g;
       after = after;
-      shows_after = settled_shows (At t g) (run_both opened_shop w (At t g) before after) inserted (committed_is inserted) (ap (λ (x : Store). (committed x).number) go.store_is) (one_sale ∷ []) refl one_total (refl, refl, tt);
+      shows_after = settled_shows (At t g) (run_both opened_shop w (At t g) before after) inserted (committed_is inserted) refl (ap (λ (x : Store). (committed x).number) go.store_is) (one_sale ∷ []) refl one_total (refl, refl, tt);
     }
 
 -- ---- a fault in a commit
@@ -150,12 +153,12 @@ fault_in_commit =
     let number : (recovered (right k).reading).db.number ≡ 2 = (let low : disk.acknowledged ≤ (recovered (right k).reading).db.number = (right k).has_all in omega arith) in record {
       reading = (right k).reading;
       is_read = (right k).is_read;
-      db = (right k).db ∙ (ap (state_at shop_database next.history) number ∙ origin_is);
+      db = (right k).db ∙ (ap (state_at shop_database next.history) number ∙ origin_is 2 shop_schema);
       view = tt;
     } in
     let late : (k : ℕ) → 3 ≤ (recovered (right k).reading).db.number → Shows w k 3 (one_sale ∷ []) one_total = λ k h.
     let number : (recovered (right k).reading).db.number ≡ 3 = (let high : (recovered (right k).reading).db.number ≤ 3 = (right k).not_more in omega arith) in
-    let db_is : (recovered (right k).reading).db ≡ with_sales 3 (base inserted) = (right k).db ∙ (ap (state_at shop_database next.history) number ∙ committed_is inserted) in record {
+    let db_is : (recovered (right k).reading).db ≡ with_rows 3 shop_schema (base inserted) = (right k).db ∙ (ap (state_at shop_database next.history) number ∙ committed_is inserted) in record {
       reading = (right k).reading;
       is_read = (right k).is_read;
       db = db_is;

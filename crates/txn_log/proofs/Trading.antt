@@ -10,8 +10,9 @@ use Rattle.txn_machine.specs.Log.{unlimited}
 use Rattle.txn_machine.specs.State.{State, opened_state}
 use Rattle.txn_machine.specs.Steps.{Did}
 use Rattle.txn_machine.specs.Example.{sale, shop_database, sale_row}
-use Rattle.txn_machine.proofs.Playing.{Turn, begins, fetches, puts, lacks, makes, pays, commits, Plain, state_of, start, played, base, number_of}
-use Rattle.txn_machine.proofs.Tabled.{with_sales, committed_is}
+use Rattle.txn_machine.proofs.PlainStates.{Plain, state_of, shop_schema, start, schema, base, number_of}
+use Rattle.txn_machine.proofs.Playing.{Turn, begins, fetches, puts, lacks, makes, pays, commits, played}
+use Rattle.txn_machine.proofs.Tabled.{plain_db, committed_is}
 use Rattle.txn_machine.proofs.Played.{run_to}
 use Rattle.txn_machine.proofs.Replays.{turn, inserting, putting, taking_back}
 use Rattle.txn_log.specs.Moments.{Disk, World, At, flushed_all, Run, here, then_move, flushes, acknowledges, opened_disk, pages_now, published}
@@ -37,17 +38,17 @@ day_turns =
     turn 4 (begins Serial) ∷ selling 4 (of_shop 2 10 31) (turn 4 commits ∷
     turn 2 commits ∷
     turn 4 (begins Snapshot) ∷
-    turn 1 (fetches (key_of sale old_sale)) ∷ turn 1 (puts (key_of sale old_sale) (Some new_sale)) ∷ turn 1 pays ∷ turn 1 pays ∷
+    turn 1 (fetches 1 (key_of sale old_sale)) ∷ turn 1 (puts 1 (key_of sale old_sale) (Some new_sale)) ∷ turn 1 pays ∷ turn 1 pays ∷
     taking_back 3 20 (
     turn 1 commits ∷ []))))))))
 
 -- a checkpoint leaves what is committed
-saved_committed : (p : Plain) (n : ℕ) → committed (state_of (saved_plain p n)).store ≡ with_sales (number_of p) (base p)
+saved_committed : (p : Plain) (n : ℕ) → committed (state_of (saved_plain p n)).store ≡ plain_db p
 saved_committed p n = committed_is (saved_plain p n)
 
-saved_runs : (p : Plain) (steps : List Did) (number : ℕ) (rows : List Row) (totals : List Total) → Leads steps (state_of p) → are_ordinary steps ≡ true → (state_of p).stop ≡ None → number ≡ number_of p
+saved_runs : (p : Plain) (steps : List Did) (number : ℕ) (rows : List Row) (totals : List Total) → Leads steps (state_of p) → are_ordinary steps ≡ true → (state_of p).stop ≡ None → number ≡ number_of p → schema p ≡ shop_schema
     → map (λ row. ((1, key_of sale row), row)) rows ≡ base p → TotalsIn (base p) totals → StopAfter steps number rows totals
-saved_runs p steps number rows totals leads clear runs number_is rows_are totals_are =
+saved_runs p steps number rows totals leads clear runs number_is defined rows_are totals_are =
     let s : State = state_of p in
     let goes : Goes opened_shop s = run_goes (opened_state unlimited (opened shop_database empty)) steps s (opened_disk shop) refl leads (ordinary steps clear) in
     let f : Disk = flushed_all goes.0 in
@@ -65,13 +66,13 @@ saved_runs p steps number rows totals leads clear runs number_is rows_are totals
       leads = leads;
       flushed = g;
       run = run;
-      shows = λ k. subst (λ n. Shows (At s g) k n rows totals) (sym number_is) (settled_shows (At s g) run p (committed_is p) refl rows rows_are totals totals_are k);
+      shows = λ k. subst (λ n. Shows (At s g) k n rows totals) (sym number_is) (settled_shows (At s g) run p (committed_is p) defined refl rows rows_are totals totals_are k);
       saved = t;
       saves = (t, record { may = may_save s; does = inl (saves_does p number runs committed_number) }, refl);
       published = e;
       checkpoint = saves.1;
-      shows_published = λ k. subst (λ n. Shows (At t e) k n rows totals) (sym number_is) (settled_shows (At t e) saved_run p (saved_committed p number) saved_number rows rows_are totals totals_are k);
+      shows_published = λ k. subst (λ n. Shows (At t e) k n rows totals) (sym number_is) (settled_shows (At t e) saved_run p (saved_committed p number) defined saved_number rows rows_are totals totals_are k);
     }
 
 pub stop_after_day : StopAfterDay
-stop_after_day = saved_runs (played start day_turns) day_steps 5 day_rows day_totals (run_to day_turns tt) refl refl refl refl (refl, refl, (refl, refl, (refl, refl, tt)))
+stop_after_day = saved_runs (played start day_turns) day_steps 5 day_rows day_totals (run_to day_turns tt) refl refl refl refl refl (refl, refl, (refl, refl, (refl, refl, tt)))

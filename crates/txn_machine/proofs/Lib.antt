@@ -30,12 +30,14 @@ pub mod Ranging
 pub mod Listing
 pub mod Refusing
 pub mod Fetching
+pub mod PlainStates
 pub mod Playing
 pub mod Tabled
 pub mod Testing
 pub mod MovesAlone
 pub mod MovesWaiting
 pub mod MovesCleaning
+pub mod MovesDefining
 pub mod Played
 pub mod Replays
 pub mod Missing

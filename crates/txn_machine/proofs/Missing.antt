@@ -43,7 +43,8 @@ use Rattle.txn_machine.specs.Example.{sale, by_shop, shop_database, one_sale, al
 use Rattle.txn_machine.proofs.Basics.{one_same, one_other}
 use Rattle.txn_machine.proofs.Holding.{by_contains, contains_none}
 use Rattle.txn_machine.proofs.Moving.{may_of}
-use Rattle.txn_machine.proofs.Playing.{shop_schema, Plain, state_of, start, txn, is_session, is_nil, each_of, some_of, allows, account_in, inf_in, in_way, is_cleanable, Turn, fine, told, played, begins, undoes}
+use Rattle.txn_machine.proofs.PlainStates.{shop_schema, Plain, state_of, start, txn, is_session, is_nil, each_of, some_of, allows, account_in, inf_in, in_way, is_cleanable}
+use Rattle.txn_machine.proofs.Playing.{Turn, fine, told, played, begins, undoes}
 use Rattle.txn_machine.proofs.Tabled.{entries_are, get_is}
 use Rattle.txn_machine.proofs.Testing.{left_one, right_one, equal, not_equal, not_so, is_true, some_is, nil_is, not_nil, session_is, in_way_is, in_way_so}
 use Rattle.txn_machine.proofs.MovesAlone.{Sorted, in_order, number_is, account_is}

@@ -1,37 +1,22 @@
 -- Moves of one session that pass their tests are steps.
-use Rattle.std.specs.Prelude.{◌≡◌, ◌≢◌, ◌⊎◌, ℕ, zero, suc, ◌+◌, ◌≤◌, ◌==◌, nat_le, Bool, true, not, ◌&&◌, T, List, [], ◌∷◌, ◌++◌, map, reverse, length, ℤ, pos, negsuc, Option, Some, None, is_some}
+use Rattle.std.specs.Prelude.{◌≡◌, ◌⊎◌, ℕ, suc, ◌+◌, ◌≤◌, ◌==◌, Bool, not, ◌&&◌, T, List, [], ◌∷◌, ◌++◌, length, ℤ, Option, Some, None, is_some}
 use Rattle.std.specs.List.{AllZip}
 use Rattle.std.specs.Option.{unwrap_or}
 use mathlib.Core.Path.{refl, sym, ap, subst, ◌∙◌}
-use mathlib.Core.List.{map-append}
 use mathlib.Core.Logic.{inl, inr}
-use Rattle.std.proofs.Common.{arith, leb-true}
-use Rattle.std.proofs.lemmas.Option.{none-some}
-use Rattle.std.specs.Int.{w64}
-use Rattle.std.specs.Int.RustNames.{FitsSigned}
-use Rattle.std.specs.Str.{bytes_eq}
-use Rattle.std.proofs.lemmas.Slice.Eq.{bytes_eq-Decides}
-use Rattle.std.specs.FinMap.{find, is_sorted}
+use Rattle.std.specs.FinMap.{entries, find, is_sorted}
 use Rattle.iv_types.specs.declared.statement.Mode.{Mode}
 use Rattle.iv_types.specs.declared.statement.Mode.TheVariants.{Serial, Snapshot}
 use Rattle.iv_types.specs.declared.lock.LockMode.{LockMode}
-use Rattle.iv_types.specs.declared.lock.LockMode.TheVariants.{Share, Exclusive, Increment}
+use Rattle.iv_types.specs.declared.lock.LockMode.TheVariants.{Share, Increment}
 use Rattle.iv_types.specs.declared.lock.GroupDelta.{GroupDelta}
 use Rattle.iv_types.specs.declared.lock.Want.{Want}
-use Rattle.iv_types.specs.declared.value.Kind.{Kind}
-use Rattle.iv_types.specs.declared.value.Kind.TheVariants.{Int, Huge, Text}
-use Rattle.iv_types.specs.declared.value.Value.{Value}
-use Rattle.iv_types.specs.declared.value.Value.TheVariants.{Number, Word}
 use Rattle.iv_types.specs.declared.value.Interval.{Interval}
-use Rattle.iv_types.specs.Encoding.{Fits, FitAll, key_bytes, row_cmp, kinds_of, is_huge, lies_in, fits}
-use Rattle.iv_types.proofs.Orders.{row_cmp_total}
-use Rattle.std.specs.declared.cmp.Ordering.{Ordering}
-use Rattle.std.specs.declared.cmp.Ordering.TheVariants.{Less, Equal, Greater}
-use Rattle.std.specs.Ordering.{ordering_reverse, is_eq}
+use Rattle.iv_types.specs.Encoding.{is_huge, lies_in}
 use Rattle.table_laws.specs.Place.{Place, place_cmp}
 use Rattle.table_laws.specs.Table.{rows_where}
-use Rattle.iv_meaning.specs.Schema.{table, numbered}
-use Rattle.iv_meaning.specs.Database.{Row, Rows, Database, key_of}
+use Rattle.iv_meaning.specs.Schema.{Object, table, index, view, numbered, group_kinds}
+use Rattle.iv_meaning.specs.Database.{Row, Rows, Database}
 use Rattle.iv_meaning.specs.History.{Entry}
 use Rattle.iv_meaning.specs.Escrow.{Account, IsAllowed, IsSession, with_increment, over_sessions, paid}
 use Rattle.txn_machine.specs.Acts as act
@@ -47,13 +32,13 @@ use Rattle.txn_machine.specs.Store.{Store, committed, with_txn, entry_changes, c
 use Rattle.txn_machine.specs.Ghosts.{the_views, account_of, Holds}
 use Rattle.txn_machine.specs.Counts.{fetch_size, put_size, transaction_size, most_of_transaction, entry_size, kept_change_size, history_size, most_of_history, definition_sizes}
 use Rattle.txn_machine.specs.State.{State, counted}
-use Rattle.txn_machine.specs.May.{IsOpenIn, IsReady, Owes, FitsUnder, MayLock, MayPut, MayAct, MayAsk}
+use Rattle.txn_machine.specs.May.{IsOpenIn, IsReady, Owes, MayLock, MayPut, MayAct, MayAsk}
 use Rattle.txn_machine.specs.Steps.{Step, Says, MayBegin, FindsIn, IsFree, CommitsAs, group_want, put_wants, first_want, waits_after, FitsLog, FitsData, used_data, definitions_after, log_after}
-use Rattle.txn_machine.specs.Example.{sale, by_shop}
 use Rattle.txn_machine.proofs.Basics.{one_same}
-use Rattle.txn_machine.proofs.Playing.{shop_schema, table_of, entry_of, Plain, state_of, base, number_of, txn, found_in, shown_in, fit_all, are_shown, owed_in, is_session, is_serial, is_nil, is_free, goes_on, is_ready, fits_txn, fits_history, fits_under, differ, account_in, inf_in, sup_in, allows, all_below, read_want, view_want, seen, change_in, put_wants_in, number_left, said_of, owes, lacks_first, pays_first, holds_in, makes_first, rest, is_increment, may_read, may_put, test, after_makes, locked, paid_txn, after_pays, after_undoes, after, is_in_order, begins, learns, scans, views, puts, lacks, undoes, ends, commits, leaves}
-use Rattle.txn_machine.proofs.Tabled.{InOrder, entries_are, get_is, write_is, add_is, plain_db, base_sorted, committed_is, read_is, owed_is, fresh_is}
-use Rattle.txn_machine.proofs.Testing.{is_true, left_one, right_one, at_most, equal, there_is, none_is_there, serial_is, nil_is, not_nil, false_is, session_is, below_so, some_is, free_is, in_range}
+use Rattle.txn_machine.proofs.PlainStates.{table_of, Plain, state_of, schema, base, number_of, txn, found_in, seen, shown_in, are_shown, is_session, is_serial, is_nil, is_increment, is_free, goes_on, is_ready, fits_txn, fits_history, fits_under, differ, account_in, inf_in, sup_in, allows, all_below, holds_in}
+use Rattle.txn_machine.proofs.Playing.{read_want, change_in, put_wants_in, put_owed_in, width_of, view_rows_of, number_left, said_of, owes, lacks_first, pays_first, makes_first, rest, may_read, is_scanned, lists_in, may_put_in, may_put, test, after_makes, locked, paid_txn, after_pays, after_undoes, after, is_in_order, begins, learns, scans, views, puts, lacks, undoes, ends, commits, leaves}
+use Rattle.txn_machine.proofs.Tabled.{InOrder, entries_are, get_is, write_is, add_is, with_rows, plain_db, base_sorted, committed_is, read_is, owed_is, fresh_is}
+use Rattle.txn_machine.proofs.Testing.{is_true, left_one, right_one, at_most, equal, there_is, none_is_there, serial_is, nil_is, not_nil, false_is, session_is, below_so, some_is, free_is, in_range, increment_is, under_is, differ_is, shown_lists, may_lock_so, finds_stored}
 use Rattle.txn_machine.specs.Log.{Within, end_bytes, reserved}
 
 -- the tables are in order, and the engine is not stopped
@@ -79,65 +64,6 @@ in_order p h =
       no_log_limit = none_is_there p.of.opening.log_limit (left_one (not (is_some p.of.opening.log_limit)) no_data limits);
       no_data_limit = none_is_there p.of.opening.data_limit (right_one (not (is_some p.of.opening.log_limit)) no_data limits);
     }
-
-bytes_same : (xs ys : List ℕ) → T (bytes_eq xs ys) → xs ≡ ys
-bytes_same xs ys h = (bytes_eq-Decides xs ys).0 (is_true (bytes_eq xs ys) h)
-
-increment_is : (m : LockMode) → T (is_increment m) → m ≡ Increment
-increment_is Increment h = refl
-increment_is Share h = absurd h
-increment_is Exclusive h = absurd h
-
-fit_all_is : (kinds : List Kind) (values : List Value) → T (fit_all kinds values) → FitAll kinds values
-fit_all_is [] [] h = tt
-fit_all_is [] (v ∷ vs) h = absurd h
-fit_all_is (k ∷ ks) [] h = absurd h
-fit_all_is (k ∷ ks) (v ∷ vs) h = (is_true (fits k v) (left_one (fits k v) (fit_all ks vs) h), fit_all_is ks vs (right_one (fits k v) (fit_all ks vs) h))
-
-under_is : (key : List ℕ) (new : Option Row) → T (fits_under key new) → FitsUnder sale key new
-under_is key None h = tt
-under_is key (Some row) h =
-    let same : Bool = bytes_eq key (key_of sale row) in
-    let fits : Bool = fit_all (kinds_of sale) row in
-    (bytes_same key (key_of sale row) (left_one same fits h), fit_all_is (kinds_of sale) row (right_one same fits h))
-
--- a row is equal to itself
-self_equal : (o : Ordering) → o ≡ ordering_reverse o → is_eq o ≡ true
-self_equal Less e = absurd (cc)
-self_equal Equal e = refl
-self_equal Greater e = absurd (cc)
-
-row_out : Row → Option Row → Row
-row_out row None = row
-row_out row (Some r) = r
-
-same_row : (old new : Row) → Some old ≡ Some new → old ≡ new
-unfolding row_out
-same_row old new e = ap (row_out old) e
-
-differ_is : (old new : Option Row) → T (differ old new) → old ≢ new
-differ_is None None h e = h
-differ_is None (Some new) h e = none-some new e
-differ_is (Some old) None h e = none-some old (sym e)
-differ_is (Some old) (Some new) h e =
-    subst T (ap not (ap (λ r. is_eq (row_cmp old r)) (sym (same_row old new e)) ∙ self_equal (row_cmp old old) (row_cmp_total.antisymm old old))) h
-
--- the rows of stored groups
-shown_lists : (es : List (Place × List ℤ)) (shops : List ℤ) → T (are_shown es shops) → AllZip (IsShown shop_schema by_shop) es (shown_in es shops)
-shown_lists [] [] h = tt
-shown_lists [] (n ∷ ns) h = absurd h
-shown_lists (e ∷ es) [] h = absurd h
-shown_lists (e ∷ es) (n ∷ ns) h =
-    let same : Bool = bytes_eq (key_bytes (Int ∷ []) (Number n ∷ [])) e.0.1 in
-    let more = right_one (fits Int (Number n)) (same && are_shown es ns) h in (
-      record {
-        group = Number n ∷ [];
-        fits = (is_true (fits Int (Number n)) (left_one (fits Int (Number n)) (same && are_shown es ns) h), tt);
-        key = bytes_same (key_bytes (Int ∷ []) (Number n ∷ [])) e.0.1 (left_one same (are_shown es ns) more);
-        row_is = refl;
-      },
-      shown_lists es ns (right_one same (are_shown es ns) more),
-    )
 
 -- who may act may ask
 pub asks : (s : Store) (i : ℕ) (a : Act) → i ≤ 64 → MayAct s i a → MayAsk i a
@@ -197,17 +123,17 @@ module _ (p : Plain) (i : ℕ) (sorted : Sorted p) (session : i ≤ 64) where
   free wants h = free_is (locks_of here.store) i wants h
 
   room : (need : Database → ℕ) → T (fits_txn p i (need (plain_db p))) → transaction_size (committed here.store).schema (now here.store i) + need (committed here.store) ≤ most_of_transaction
-  room need h = of_db (λ db. transaction_size db.schema (now here.store i) + need db ≤ most_of_transaction) (at_most (transaction_size shop_schema (txn p i) + need (plain_db p)) most_of_transaction h)
+  room need h = of_db (λ db. transaction_size db.schema (now here.store i) + need db ≤ most_of_transaction) (at_most (transaction_size (schema p) (txn p i) + need (plain_db p)) most_of_transaction h)
 
-  history_room : (need : Database → ℕ) → T (fits_history p (need (plain_db p))) → history_size (committed here.store).schema here.store.history (definition_sizes here.definitions) here.store.open_of + need (committed here.store) ≤ most_of_history
+  pub history_room : (need : Database → ℕ) → T (fits_history p (need (plain_db p))) → history_size (committed here.store).schema here.store.history (definition_sizes here.definitions) here.store.open_of + need (committed here.store) ≤ most_of_history
   history_room need h = of_db (λ db. history_size db.schema here.store.history (definition_sizes here.definitions) here.store.open_of + need db ≤ most_of_history)
-      (at_most (history_size shop_schema (map entry_of p.sold) (definition_sizes p.of.definitions) p.of.store.open_of + need (plain_db p)) most_of_history h)
+      (at_most (history_size (schema p) p.history (definition_sizes p.of.definitions) p.of.store.open_of + need (plain_db p)) most_of_history h)
 
   -- without limits there is room
   pub log_room : (need : ℕ) → FitsLog here need
   log_room need = subst (λ (limit : Option ℕ). Within limit (here.log.used + reserved here.store here.log + need)) (sym sorted.no_log_limit) tt
 
-  data_room : (need : ℕ) → FitsData here need
+  pub data_room : (need : ℕ) → FitsData here need
   data_room need = subst (λ (limit : Option ℕ). Within limit (used_data here + need)) (sym sorted.no_data_limit) tt
 
   -- ---- Begin
@@ -227,96 +153,105 @@ module _ (p : Plain) (i : ℕ) (sorted : Sorted p) (session : i ≤ 64) where
   begin_may Snapshot h =
       (session_is i (left_one (is_session i) (not (is_some (p.of.store.open_of i))) h), none_is_there (p.of.store.open_of i) (right_one (is_session i) (not (is_some (p.of.store.open_of i))) h))
 
-  pub begins_so : (mode : Mode) → T (test p i (begins mode)) → Step here i (act.Begin mode) (answer.Begun (number_of p) 2) (state_of (after p i (begins mode)))
-  begins_so mode h = step (act.Begin mode) (answer.Begun (number_of p) 2) (Opens mode ∷ []) (state_of (after p i (begins mode)))
+  pub begins_so : (mode : Mode) → T (test p i (begins mode)) → Step here i (act.Begin mode) (said_of p i (begins mode)) (state_of (after p i (begins mode)))
+  begins_so mode h = step (act.Begin mode) (said_of p i (begins mode)) (Opens mode ∷ []) (state_of (after p i (begins mode)))
       (begin_may mode h)
-      (record { room = begin_room mode h; number_is = number_is; defs_are = of_db (λ db. 2 ≡ length db.schema) refl; effects = refl })
-      (ap (λ n. counted here i (act.Begin mode) (answer.Begun (number_of p) 2) (with_txn here.store i (Some (begun mode n))) [] here.definitions (log_after here i (act.Begin mode) (answer.Begun (number_of p) 2) (Opens mode ∷ []))) number_is)
+      (record { room = begin_room mode h; number_is = number_is; defs_are = of_db (λ db. length (schema p) ≡ length db.schema) refl; effects = refl })
+      (ap (λ n. counted here i (act.Begin mode) (said_of p i (begins mode)) (with_txn here.store i (Some (begun mode n))) [] here.definitions (log_after here i (act.Begin mode) (said_of p i (begins mode)) (Opens mode ∷ []))) number_is)
 
   -- ---- Defs
 
-  pub learns_so : T (test p i learns) → Step here i act.Defs (answer.Defs shop_schema) (state_of (after p i learns))
-  learns_so h = step act.Defs (answer.Defs shop_schema) [] (state_of (after p i learns)) (session_is i h) (of_db (λ db. shop_schema ≡ db.schema) refl, refl) refl
+  pub learns_so : T (test p i learns) → Step here i act.Defs (answer.Defs (schema p)) (state_of (after p i learns))
+  learns_so h = step act.Defs (answer.Defs (schema p)) [] (state_of (after p i learns)) (session_is i h) (of_db (λ db. schema p ≡ db.schema) refl, refl) refl
 
   -- ---- Fetch
 
-  lock_so : (index : ℕ) (lock : LockMode) → T (may_read index lock) → MayLock lock (numbered shop_schema index)
-  lock_so zero lock h = absurd h
-  lock_so (suc zero) Share h = refl
-  lock_so (suc zero) Exclusive h = tt
-  lock_so (suc zero) Increment h = absurd h
-  lock_so (suc (suc zero)) Share h = refl
-  lock_so (suc (suc zero)) Exclusive h = absurd h
-  lock_so (suc (suc zero)) Increment h = absurd h
-  lock_so (suc (suc (suc n))) lock h = absurd h
+  pub may_read_so : (number : ℕ) (lock : LockMode) → T (may_read p number lock) → MayLock lock (numbered (committed here.store).schema number)
+  may_read_so number lock h = of_db (λ db. MayLock lock (numbered db.schema number)) (may_lock_so lock (numbered (schema p) number) h)
 
-  pub may_read_so : (index : ℕ) (lock : LockMode) → T (may_read index lock) → MayLock lock (numbered (committed here.store).schema index)
-  may_read_so index lock h = of_db (λ db. MayLock lock (numbered db.schema index)) (lock_so index lock h)
-
-  pub scans_so : (interval : Interval) (lock : LockMode) → T (test p i (scans interval lock)) → Step here i (act.Fetch 1 interval lock) (said_of p i (scans interval lock)) (state_of (after p i (scans interval lock)))
-  scans_so interval lock h =
-      let rows : List Row = found_in p.rows interval in
-      let fits : Bool = fits_txn p i (fetch_size shop_schema 1 interval rows) in
-      let nobody : Bool = is_free p i (read_want 1 interval lock) in
-      let h1 = right_one (is_ready p i) (may_read 1 lock && (nobody && fits)) h in
-      let h2 = right_one (may_read 1 lock) (nobody && fits) h1 in
-      step (act.Fetch 1 interval lock) (said_of p i (scans interval lock)) (_ ∷ _ ∷ []) (state_of (after p i (scans interval lock)))
-      (ready (left_one (is_ready p i) (may_read 1 lock && (nobody && fits)) h), may_read_so 1 lock (left_one (may_read 1 lock) (nobody && fits) h1))
+  pub scans_so : (number : ℕ) (interval : Interval) (lock : LockMode) → T (test p i (scans number interval lock))
+      → Step here i (act.Fetch number interval lock) (said_of p i (scans number interval lock)) (state_of (after p i (scans number interval lock)))
+  scans_so number interval lock h =
+      let rows : List Row = found_in (schema p) p.rows number interval in
+      let fits : Bool = fits_txn p i (fetch_size (schema p) number interval rows) in
+      let nobody : Bool = is_free p i (read_want number interval lock) in
+      let scanned : Bool = is_scanned (numbered (schema p) number) in
+      let h1 = right_one (is_ready p i) (may_read p number lock && (scanned && (nobody && fits))) h in
+      let h2 = right_one (may_read p number lock) (scanned && (nobody && fits)) h1 in
+      let h3 = right_one scanned (nobody && fits) h2 in
+      step (act.Fetch number interval lock) (said_of p i (scans number interval lock)) (_ ∷ _ ∷ []) (state_of (after p i (scans number interval lock)))
+      (ready (left_one (is_ready p i) (may_read p number lock && (scanned && (nobody && fits))) h), may_read_so number lock (left_one (may_read p number lock) (scanned && (nobody && fits)) h1))
       (record {
-        free = free (read_want 1 interval lock) (left_one nobody fits h2);
-        found = of_db (λ db. FindsIn (record db { rows = table_of p.rows }) (table_of p.view) (numbered db.schema 1) 1 interval rows) (read_is (number_of p) p.rows interval sorted.rows);
-        room = room (λ db. fetch_size db.schema 1 interval rows) (right_one nobody fits h2);
+        free = free (read_want number interval lock) (left_one nobody fits h3);
+        found = of_db (λ db. FindsIn (record db { rows = table_of p.rows }) (table_of p.view) (numbered db.schema number) number interval rows)
+            (finds_stored (with_rows (number_of p) (schema p) p.rows) (table_of p.view) (numbered (schema p) number) number interval rows (left_one scanned (nobody && fits) h2) (read_is (number_of p) (schema p) p.rows number interval sorted.rows));
+        room = room (λ db. fetch_size db.schema number interval rows) (right_one nobody fits h3);
         effects = refl;
       })
       refl
 
-  pub views_so : (interval : Interval) (shops : List ℤ) → T (test p i (views interval shops)) → Step here i (act.Fetch 2 interval Share) (said_of p i (views interval shops)) (state_of (after p i (views interval shops)))
-  views_so interval shops h =
-      let rows : List Row = shown_in (seen p interval) shops in
-      let fits : Bool = fits_txn p i (fetch_size shop_schema 2 interval rows) in
-      let shown : Bool = are_shown (seen p interval) shops in
-      let more = right_one (is_ready p i) (is_free p i (view_want interval) && (shown && fits)) h in
-      let last = right_one (is_free p i (view_want interval)) (shown && fits) more in
-      step (act.Fetch 2 interval Share) (said_of p i (views interval shops)) (_ ∷ _ ∷ []) (state_of (after p i (views interval shops)))
-      (ready (left_one (is_ready p i) (is_free p i (view_want interval) && (shown && fits)) h), of_db (λ db. MayLock Share (numbered db.schema 2)) refl)
+  -- a view's stored rows are listed
+  lists_so : (number : ℕ) (interval : Interval) (groups : List Row) (o : Option Object) → T (lists_in p number interval groups o)
+      → FindsIn (with_rows (number_of p) (schema p) p.rows) (table_of p.view) o number interval (shown_in (width_of o) (seen p number interval) groups)
+  lists_so number interval groups None h = absurd h
+  lists_so number interval groups (Some (table t)) h = absurd h
+  lists_so number interval groups (Some (index x)) h = absurd h
+  lists_so number interval groups (Some (view v)) h =
+      let shown : Bool = are_shown (group_kinds (schema p) v) (seen p number interval) groups in
+      let same = equal number v.number (left_one (number == v.number) shown h) in
+      subst (λ (n : ℕ). AllZip (IsShown (schema p) v) (rows_where (is_shown n interval) (entries (table_of p.view))) (shown_in (suc (length v.sums)) (seen p number interval) groups)) same
+      (subst (λ (es : List (Place × List ℤ)). AllZip (IsShown (schema p) v) (rows_where (is_shown number interval) es) (shown_in (suc (length v.sums)) (seen p number interval) groups)) (sym (entries_are p.view sorted.view))
+      (shown_lists (schema p) v (seen p number interval) groups (right_one (number == v.number) shown h)))
+
+  pub views_so : (number : ℕ) (interval : Interval) (groups : List Row) → T (test p i (views number interval groups))
+      → Step here i (act.Fetch number interval Share) (said_of p i (views number interval groups)) (state_of (after p i (views number interval groups)))
+  views_so number interval groups h =
+      let rows : List Row = view_rows_of p number interval groups in
+      let fits : Bool = fits_txn p i (fetch_size (schema p) number interval rows) in
+      let nobody : Bool = is_free p i (read_want number interval Share) in
+      let shown : Bool = lists_in p number interval groups (numbered (schema p) number) in
+      let h1 = right_one (is_ready p i) (may_read p number Share && (nobody && (shown && fits))) h in
+      let h2 = right_one (may_read p number Share) (nobody && (shown && fits)) h1 in
+      let h3 = right_one nobody (shown && fits) h2 in
+      step (act.Fetch number interval Share) (said_of p i (views number interval groups)) (_ ∷ _ ∷ []) (state_of (after p i (views number interval groups)))
+      (ready (left_one (is_ready p i) (may_read p number Share && (nobody && (shown && fits))) h), may_read_so number Share (left_one (may_read p number Share) (nobody && (shown && fits)) h1))
       (record {
-        free = free (view_want interval) (left_one (is_free p i (view_want interval)) (shown && fits) more);
-        found = of_db (λ db. FindsIn (record db { rows = table_of p.rows }) (table_of p.view) (numbered db.schema 2) 2 interval rows)
-            (subst (λ (es : List (Place × List ℤ)). AllZip (IsShown shop_schema by_shop) (rows_where (is_shown 2 interval) es) rows) (sym (entries_are p.view sorted.view)) (shown_lists (seen p interval) shops (left_one shown fits last)));
-        room = room (λ db. fetch_size db.schema 2 interval rows) (right_one shown fits last);
+        free = free (read_want number interval Share) (left_one nobody (shown && fits) h2);
+        found = of_db (λ db. FindsIn (record db { rows = table_of p.rows }) (table_of p.view) (numbered db.schema number) number interval rows) (lists_so number interval groups (numbered (schema p) number) (left_one shown fits h3));
+        room = room (λ db. fetch_size db.schema number interval rows) (right_one shown fits h3);
         effects = refl;
       })
       refl
 
   -- ---- Put
 
-  module _ (key : List ℕ) (new : Option Row) where
+  module _ (number : ℕ) (key : List ℕ) (new : Option Row) where
     abbrev place : Place
-    place = (1, key)
+    place = (number, key)
 
     abbrev put : Act
-    put = act.Put 1 key new
+    put = act.Put number key new
 
     abbrev change_here : RowChange
     change_here = change_at here.store place new
 
-    change_is : change_here ≡ change_in p key new
+    change_is : change_here ≡ change_in p number key new
     change_is = ap (λ (b : Option Row). record { key = place; before = b; after = new }) (get_is p.rows place sorted.rows)
 
     abbrev wants_here : List Want
-    wants_here = put_wants (committed here.store).schema (numbered (committed here.store).schema 1) change_here
+    wants_here = put_wants (committed here.store).schema (numbered (committed here.store).schema number) change_here
 
-    pub wants_are : wants_here ≡ put_wants_in p key new
-    wants_are = ap (λ (db : Database). put_wants db.schema (numbered db.schema 1) change_here) (committed_is p) ∙ ap (put_wants shop_schema (Some (table sale))) change_is
+    pub wants_are : wants_here ≡ put_wants_in p number key new
+    wants_are = ap (λ (db : Database). put_wants db.schema (numbered db.schema number) change_here) (committed_is p) ∙ ap (put_wants (schema p) (numbered (schema p) number)) change_is
 
     abbrev owed_here : List GroupDelta
     owed_here = owed (committed here.store).schema (table_of p.rows) change_here
 
-    owes_shop : owed shop_schema (table_of p.rows) change_here ≡ owed_in p.rows place new
-    owes_shop = owed_is p.rows change_here sorted.rows
+    owes_plain : owed (schema p) (table_of p.rows) change_here ≡ put_owed_in p number key new
+    owes_plain = owed_is (schema p) p.rows change_here sorted.rows
 
-    owes_here : owed_here ≡ owed_in p.rows place new
-    owes_here = ap (λ (db : Database). owed db.schema (table_of p.rows) change_here) (committed_is p) ∙ owes_shop
+    owes_here : owed_here ≡ put_owed_in p number key new
+    owes_here = ap (λ (db : Database). owed db.schema (table_of p.rows) change_here) (committed_is p) ∙ owes_plain
 
     abbrev wrote_as : List Want → RowChange → List GroupDelta → Rows → Store
     wrote_as wants c ds m = record (locked here.store i wants) {
@@ -324,42 +259,48 @@ module _ (p : Plain) (i : ℕ) (sorted : Sorted p) (session : i ≤ 64) where
       open_of = with_one (locked here.store i wants).open_of i (Some (record (now (locked here.store i wants) i) { kept = Put c ds ∷ (now (locked here.store i wants) i).kept; owed = ds; back = 0 }));
     }
 
-    put_size_is : put_size shop_schema change_here (owed shop_schema (table_of p.rows) change_here) ≡ put_size shop_schema (change_in p key new) (owed_in p.rows place new)
-    put_size_is = λ j. put_size shop_schema (change_is j) (owes_shop j)
+    put_size_is : put_size (schema p) change_here (owed (schema p) (table_of p.rows) change_here) ≡ put_size (schema p) (change_in p number key new) (put_owed_in p number key new)
+    put_size_is = λ j. put_size (schema p) (change_is j) (owes_plain j)
 
-    pub may_put_so : T (may_put p key new) → MayPut here.store 1 key new
-    may_put_so h =
-        let fits : Bool = fits_under key new in
+    may_put_by : (o : Option Object) → numbered (schema p) number ≡ o → T (may_put_in p number key new o) → MayPut here.store number key new
+    may_put_by None e h = absurd h
+    may_put_by (Some (index x)) e h = absurd h
+    may_put_by (Some (view v)) e h = absurd h
+    may_put_by (Some (table t)) e h =
+        let fits : Bool = fits_under t key new in
         let differs : Bool = differ (find place_cmp place p.rows) new in
         record {
-          of = sale;
-          table_is = of_db (λ db. numbered db.schema 1 ≡ Some (table sale)) refl;
-          fits = under_is key new (left_one fits differs h);
-          changes = λ e. differ_is (find place_cmp place p.rows) new (right_one fits differs h) (sym (get_is p.rows place sorted.rows) ∙ e);
+          of = t;
+          table_is = of_db (λ db. numbered db.schema number ≡ Some (table t)) e;
+          fits = under_is t key new (left_one fits differs h);
+          changes = λ same. differ_is (find place_cmp place p.rows) new (right_one fits differs h) (sym (get_is p.rows place sorted.rows) ∙ same);
         }
 
-    pub puts_so : T (test p i (puts key new)) → Step here i put (said_of p i (puts key new)) (state_of (after p i (puts key new)))
+    pub may_put_so : T (may_put p number key new) → MayPut here.store number key new
+    may_put_so h = may_put_by (numbered (schema p) number) refl h
+
+    pub puts_so : T (test p i (puts number key new)) → Step here i put (said_of p i (puts number key new)) (state_of (after p i (puts number key new)))
     puts_so h =
-        let is_free_here : Bool = is_free p i (put_wants_in p key new) in
-        let may : Bool = may_put p key new in
-        let has_room : Bool = fits_txn p i (put_size shop_schema (change_in p key new) (owed_in p.rows place new)) in
-        let has_history : Bool = fits_history p (kept_change_size shop_schema (change_in p key new)) in
+        let is_free_here : Bool = is_free p i (put_wants_in p number key new) in
+        let may : Bool = may_put p number key new in
+        let has_room : Bool = fits_txn p i (put_size (schema p) (change_in p number key new) (put_owed_in p number key new)) in
+        let has_history : Bool = fits_history p (kept_change_size (schema p) (change_in p number key new)) in
         let h1 = right_one (is_ready p i) (is_free_here && (may && (has_room && has_history))) h in
         let h2 = right_one is_free_here (may && (has_room && has_history)) h1 in
         let h4 = right_one may (has_room && has_history) h2 in
-        step put (said_of p i (puts key new)) (Takes wants_here ∷ Writes place new ∷ []) (state_of (after p i (puts key new)))
+        step put (said_of p i (puts number key new)) (Takes wants_here ∷ Writes place new ∷ []) (state_of (after p i (puts number key new)))
         (ready (left_one (is_ready p i) (is_free_here && (may && (has_room && has_history))) h), may_put_so (left_one may (has_room && has_history) h2))
         (record {
-          free = subst (IsFree here.store i) (sym wants_are) (free (put_wants_in p key new) (left_one is_free_here (may && (has_room && has_history)) h1));
+          free = subst (IsFree here.store i) (sym wants_are) (free (put_wants_in p number key new) (left_one is_free_here (may && (has_room && has_history)) h1));
           room = room (λ db. put_size db.schema change_here (owed db.schema (table_of p.rows) change_here)) (subst (λ n. T (fits_txn p i n)) (sym put_size_is) (left_one has_room has_history h4));
           log_room = log_room _;
           data_room = data_room _;
-          history_room = history_room (λ db. kept_change_size db.schema change_here) (subst (λ (c : RowChange). T (fits_history p (kept_change_size shop_schema c))) (sym change_is) (right_one has_room has_history h4));
+          history_room = history_room (λ db. kept_change_size db.schema change_here) (subst (λ (c : RowChange). T (fits_history p (kept_change_size (schema p) c))) (sym change_is) (right_one has_room has_history h4));
           before_is = sym (get_is p.rows place sorted.rows);
           owed_is = sym owes_here;
           effects = refl;
         })
-        (ap (λ (t : Store). counted here i put (said_of p i (puts key new)) t [] here.definitions (log_after here i put (said_of p i (puts key new)) (Takes wants_here ∷ Writes place new ∷ [])))
+        (ap (λ (t : Store). counted here i put (said_of p i (puts number key new)) t [] here.definitions (log_after here i put (said_of p i (puts number key new)) (Takes wants_here ∷ Writes place new ∷ [])))
         (λ j. wrote_as (sym wants_are j) (sym change_is j) (sym owes_here j) (sym (write_is place new p.rows sorted.rows) j)))
 
   -- ---- Pay and Ghost
@@ -425,7 +366,7 @@ module _ (p : Plain) (i : ℕ) (sorted : Sorted p) (session : i ≤ 64) where
 
   pub account_is : (k : Place) (column : ℕ) → account_of here.store k column ≡ account_in p k column
   account_is k column = ap (λ (x : ℤ). record { committed = x; kept = λ j. increments k column (txn p j).kept })
-      (ap (λ (db : Database). fresh db.schema db.rows k column) (committed_is p) ∙ fresh_is (base p) k column (base_sorted p))
+      (ap (λ (db : Database). fresh db.schema db.rows k column) (committed_is p) ∙ fresh_is (schema p) (base p) k column (base_sorted p))
 
   pub allows_so : (d : GroupDelta) (column : ℕ) → T (allows p i d column) → IsAllowed (account_in p (place_of d) column) i (worth column d)
   unfolding over_sessions
@@ -516,13 +457,11 @@ module _ (p : Plain) (i : ℕ) (sorted : Sorted p) (session : i ≤ 64) where
   pub commits_so : T (test p i commits) → Step here i act.Commit (answer.Committed (number_of p + 1)) (state_of (after p i commits))
   commits_so h =
       let some : Bool = not (is_nil (changes_of (txn p i).kept)) in
-      let entry : ℕ → Entry = λ n. record { number = n + 1; session = i; kept = entry_changes (txn p i).kept } in
       step act.Commit (answer.Committed (number_of p + 1)) (Commits ∷ []) (state_of (after p i commits))
       (inl (ready (left_one (is_ready p i) some h)))
       (changed (changes_of (txn p i).kept) (Commits ∷ []) (right_one (is_ready p i) some h) refl)
       (ap (λ (l : List Entry). counted here i act.Commit (answer.Committed (number_of p + 1)) (record (with_txn here.store i None) { history = l }) [] here.definitions (log_after here i act.Commit (answer.Committed (number_of p + 1)) (Commits ∷ [])))
-      (map-append entry_of p.sold (record { number = number_of p + 1; session = i; changes = reverse (changes_of (txn p i).kept) } ∷ [])
-      ∙ ap (λ n. map entry_of p.sold ++ entry n ∷ []) number_is))
+      (ap (λ n. p.history ++ record { number = n + 1; session = i; kept = entry_changes (txn p i).kept } ∷ []) number_is))
 
   left_may : (m : Mode) → (txn p i).mode ≡ m → T (goes_on p i) → (txn p i).owed ≡ [] → IsReady here.store i Serial ⊎ IsReady here.store i Snapshot
   left_may Serial e h o = inl (record { goes_on = going Serial h e; owes_nothing = o })

@@ -1,12 +1,12 @@
 -- Moves of snapshots and of the cleaner: a read at a number, the removal of a ghost, and the drop of versions.
-use Rattle.std.specs.Prelude.{◌≡◌, ℕ, zero, suc, ◌≤◌, ◌==◌, nat_le, cond, Bool, true, false, not, ◌&&◌, ◌||◌, T, List, [], ◌∷◌, ◌++◌, map, filter, ℤ, pos, negsuc, Some, None, is_some, IsSome}
+use Rattle.std.specs.Prelude.{◌≡◌, ℕ, zero, suc, ◌≤◌, ◌==◌, nat_le, cond, Bool, true, false, not, ◌&&◌, ◌||◌, T, List, [], ◌∷◌, ◌++◌, ℤ, pos, negsuc, Option, Some, None, is_some, IsSome}
 use Rattle.std.specs.List.{Contains}
 use mathlib.Core.Path.{refl, sym, ap, subst, ◌∙◌}
 use mathlib.Core.Logic.{inl, inr}
 use Rattle.std.proofs.Common.{arith, eq-eqb}
 use Rattle.std.specs.declared.cmp.Ordering.{Ordering}
 use Rattle.std.specs.declared.cmp.Ordering.TheVariants.{Less, Equal, Greater}
-use Rattle.std.specs.FinMap.{get, entries, find, from_entries}
+use Rattle.std.specs.FinMap.{get, find}
 use Rattle.std.specs.Ordering.{eq_by_cmp, is_eq}
 use Rattle.iv_types.specs.declared.statement.Mode.{Mode}
 use Rattle.iv_types.specs.declared.statement.Mode.TheVariants.{Serial, Snapshot}
@@ -16,17 +16,16 @@ use Rattle.iv_types.specs.declared.lock.LockMode.TheVariants.{Increment}
 use Rattle.iv_types.specs.declared.lock.Want.{Want}
 use Rattle.iv_types.specs.declared.value.Interval.{Interval}
 use Rattle.table_laws.specs.Place.{Place, place_cmp}
-use Rattle.table_laws.specs.Table.{rows_where}
 use Rattle.table_laws.proofs.Place.{place_cmp-IsAntisymmetric}
-use Rattle.iv_meaning.specs.Schema.{numbered}
+use Rattle.iv_meaning.specs.Schema.{Schema, Object, table, index, view, numbered}
 use Rattle.iv_meaning.specs.Database.{Row, Rows, Database}
 use Rattle.iv_meaning.specs.History.{Entry, fold, state_at}
-use Rattle.iv_meaning.specs.Statement.{sets}
+use Rattle.iv_meaning.specs.Statement.{Kept, sets, defines}
 use Rattle.iv_types.specs.Encoding.{lies_in}
-use Rattle.iv_meaning.specs.View.{view_key, read}
+use Rattle.iv_meaning.specs.View.{read}
 use Rattle.txn_machine.specs.Acts as act
 use Rattle.txn_machine.specs.Answers as answer
-use Rattle.txn_machine.specs.Deltas.{RowChange, is_for}
+use Rattle.txn_machine.specs.Deltas.{is_for}
 use Rattle.txn_machine.specs.Keeping.{increments}
 use Rattle.txn_machine.specs.Fresh.{fresh}
 use Rattle.txn_machine.specs.Stored.{ViewRows}
@@ -35,10 +34,10 @@ use Rattle.txn_machine.specs.Ghosts.{the_views, Holds, IsCleanable, versions}
 use Rattle.txn_machine.specs.State.{counted}
 use Rattle.txn_machine.specs.May.{MayPeek}
 use Rattle.txn_machine.specs.Steps.{Step, log_after}
-use Rattle.txn_machine.specs.Example.{by_shop, shop_database}
 use Rattle.txn_machine.proofs.Holding.{contains_here, contains_next}
-use Rattle.txn_machine.proofs.Playing.{shop_schema, set_in, Sold, entry_of, Plain, state_of, redo_in, base, number_after, number_of, txn, sales_in, fresh_in, each_to, each_of, is_serial, is_nil, is_zero, is_increment, goes_on, holds_in, view_of, peeked, sold_by, changes_deltas, deltas_in, is_cleanable, said_of, test, after, peeks, peeks_sales, cleans_none, cleans, prunes, saves}
-use Rattle.txn_machine.proofs.Tabled.{key_cmp, InOrder, entries_are, get_is, write_is, set_sorted, redo_sorted, sold_sorted, with_sales, keeps_is, fold_is, origin_is, base_sorted, committed_is, listed_is, read_is, owed_is, fresh_is}
+use Rattle.txn_machine.proofs.PlainStates.{set_in, bare, Plain, state_of, kept_in, kept_objects, rows_after, objects_after, base, schema, number_after, number_of, txn, fresh_in, each_to, each_of, is_serial, is_nil, is_zero, is_increment, goes_on, holds_in, history_by, kept_deltas, deltas_in, versions_in, is_cleanable}
+use Rattle.txn_machine.proofs.Playing.{may_peek, said_of, test, after, peeks, cleans_none, cleans, prunes, saves}
+use Rattle.txn_machine.proofs.Tabled.{InOrder, get_is, write_is, set_sorted, kept_sorted, rows_sorted, with_rows, keeps_is, fold_is, origin_is, base_sorted, committed_is, read_is, owed_is, fresh_is}
 use Rattle.txn_machine.proofs.Testing.{is_true, holds, left_one, right_one, both, either, not_so, not_that, equal, nil_is, each_so, each_in, some_in}
 use Rattle.txn_machine.proofs.MovesAlone.{Sorted, step, of_db, number_is, log_room, going, holds_so}
 
@@ -88,66 +87,48 @@ holds_back locks k h =
 
 -- ---- versions
 
-changes_deltas_are : (cs : List RowChange) (n : ℕ) (l : List (Place × Row)) → InOrder l → entry_deltas the_views (with_sales n l) (map sets cs) ≡ changes_deltas l cs
-changes_deltas_are [] n l h = refl
-changes_deltas_are (c ∷ cs) n l h = λ j.
-    owed_is l c h j ++ (ap (λ (m : Rows). entry_deltas the_views (record { number = n; schema = shop_schema; rows = m }) (map sets cs)) (write_is c.key c.after l h)
-    ∙ changes_deltas_are cs n (set_in c.key c.after l) (set_sorted c.key c.after l h)) j
+kept_deltas_are : (ks : List Kept) (n : ℕ) (objects : Schema) (l : List (Place × Row)) → InOrder l → entry_deltas the_views (with_rows n objects l) ks ≡ kept_deltas objects l ks
+kept_deltas_are [] n objects l h = refl
+kept_deltas_are (sets c ∷ ks) n objects l h = λ j.
+    owed_is objects l c h j ++ (ap (λ (m : Rows). entry_deltas the_views (record { number = n; schema = objects; rows = m }) ks) (write_is c.key c.after l h)
+    ∙ kept_deltas_are ks n objects (set_in c.key c.after l) (set_sorted c.key c.after l h)) j
+kept_deltas_are (defines o ∷ ks) n objects l h = kept_deltas_are ks n (objects ++ o ∷ []) l h
 
-deltas_are : (mark : ℕ) (es : List Sold) (n : ℕ) (l : List (Place × Row)) → InOrder l → deltas_above the_views mark (with_sales n l) (map entry_of es) ≡ deltas_in mark l es
-deltas_are mark [] n l h = refl
-deltas_are mark (e ∷ es) n l h =
-    let later = ap (λ (db : Database). deltas_above the_views mark (record db { number = e.number }) (map entry_of es)) (keeps_is e.changes n l h)
-    ∙ deltas_are mark es e.number (redo_in e.changes l) (redo_sorted e.changes l h) in
-    λ j. cond (nat_le e.number mark) (later j) (changes_deltas_are e.changes n l h j ++ later j)
+deltas_are : (mark : ℕ) (es : List Entry) (n : ℕ) (objects : Schema) (l : List (Place × Row)) → InOrder l → deltas_above the_views mark (with_rows n objects l) es ≡ deltas_in mark objects l es
+deltas_are mark [] n objects l h = refl
+deltas_are mark (e ∷ es) n objects l h =
+    let later = ap (λ (db : Database). deltas_above the_views mark (record db { number = e.number }) es) (keeps_is e.kept n objects l h)
+    ∙ deltas_are mark es e.number (kept_objects e.kept objects) (kept_in e.kept l) (kept_sorted e.kept l h) in
+    λ j. cond (nat_le e.number mark) (later j) (kept_deltas_are e.kept n objects l h j ++ later j)
 
 -- ---- the database at a number
 
-filter_is : (n : ℕ) (es : List Sold) → filter (λ (e : Entry). nat_le e.number n) (map entry_of es) ≡ map entry_of (filter (λ (e : Sold). nat_le e.number n) es)
-filter_is n [] = refl
-filter_is n (e ∷ es) = elim (nat_le e.number n) as (λ b. cond b (entry_of e ∷ filter (λ (e : Entry). nat_le e.number n) (map entry_of es)) (filter (λ (e : Entry). nat_le e.number n) (map entry_of es)) ≡ map entry_of (cond b (e ∷ filter (λ (e : Sold). nat_le e.number n) es) (filter (λ (e : Sold). nat_le e.number n) es))) [
-  | true ↦ ap (λ (l : List Entry). entry_of e ∷ l) (filter_is n es)
-  | false ↦ filter_is n es
-]
-
-abbrev kept_by : Plain → ℕ → List Sold
-kept_by p n = filter (λ e. nat_le e.number n) p.sold
-
-at_is : (p : Plain) (n : ℕ) → state_at shop_database (map entry_of p.sold) n ≡ with_sales (number_after (kept_by p n) 2) (sold_by p n)
-at_is p n = ap (λ (h : List Entry). fold h shop_database) (filter_is n p.sold) ∙ (ap (fold (map entry_of (kept_by p n))) origin_is ∙ fold_is (kept_by p n) 2 [] tt)
-
-peeked_is : (n : ℕ) (l : List (Place × Row)) (interval : Interval) → InOrder l → read (with_sales n l) 2 interval ≡ peeked l interval
-peeked_is n l interval h =
-    ap (λ (es : List (Place × Row)). map (λ (e : List ℕ × Row). e.1) (filter (λ (e : List ℕ × Row). lies_in e.0 interval) (entries (from_entries {R = key_cmp} (map (λ row. (view_key shop_schema by_shop row, row)) (view_of (map (λ (e : Place × Row). e.1) (rows_where (λ place row. place.0 == 1) es)))))))) (entries_are l h)
-    ∙ ap (λ (es : List (List ℕ × Row)). map (λ (e : List ℕ × Row). e.1) (filter (λ (e : List ℕ × Row). lies_in e.0 interval) es)) (listed_is (map (λ row. (view_key shop_schema by_shop row, row)) (view_of (sales_in l))))
+at_is : (p : Plain) (n : ℕ) → state_at (bare p.number p.objects) p.history n ≡ with_rows (number_after (history_by p n) p.number) (objects_after (history_by p n) p.objects) (rows_after (history_by p n) [])
+at_is p n = ap (fold (history_by p n)) (origin_is p.number p.objects) ∙ fold_is (history_by p n) p.number p.objects [] tt
 
 snapshot_is : (m : Mode) → T (not (is_serial m)) → m ≡ Snapshot
 snapshot_is Serial h = absurd h
 snapshot_is Snapshot h = refl
 
-module _ (p : Plain) (i : ℕ) (sorted : Sorted p) (session : i ≤ 64) where
-  pub peeks_so : (interval : Interval) → T (test p i (peeks interval)) → Step (state_of p) i (act.Peek 2 interval) (said_of p i (peeks interval)) (state_of (after p i (peeks interval)))
-  peeks_so interval h =
-      let n : ℕ = (txn p i).number in
-      step p i sorted session (act.Peek 2 interval) (said_of p i (peeks interval)) [] (state_of (after p i (peeks interval))) (
-        going p i sorted session Snapshot (left_one (goes_on p i) (not (is_serial (txn p i).mode)) h) (snapshot_is (txn p i).mode (right_one (goes_on p i) (not (is_serial (txn p i).mode)) h)),
-        of_db p i sorted session (λ db. MayPeek (numbered db.schema 2)) tt,
-      ) (
-        ap (λ (db : Database). read db 2 interval) (at_is p n)
-            ∙ peeked_is (number_after (kept_by p n) 2) (sold_by p n) interval (sold_sorted (kept_by p n) [] tt),
-        refl,
-      )
-      refl
+may_peek_so : (o : Option Object) → T (may_peek o) → MayPeek o
+may_peek_so None h = absurd h
+may_peek_so (Some (table t)) h = tt
+may_peek_so (Some (index i)) h = absurd h
+may_peek_so (Some (view v)) h = tt
 
-  pub peeks_sales_so : (interval : Interval) → T (test p i (peeks_sales interval)) → Step (state_of p) i (act.Peek 1 interval) (said_of p i (peeks_sales interval)) (state_of (after p i (peeks_sales interval)))
-  peeks_sales_so interval h =
+module _ (p : Plain) (i : ℕ) (sorted : Sorted p) (session : i ≤ 64) where
+  pub peeks_so : (number : ℕ) (interval : Interval) → T (test p i (peeks number interval)) → Step (state_of p) i (act.Peek number interval) (said_of p i (peeks number interval)) (state_of (after p i (peeks number interval)))
+  peeks_so number interval h =
       let n : ℕ = (txn p i).number in
-      step p i sorted session (act.Peek 1 interval) (said_of p i (peeks_sales interval)) [] (state_of (after p i (peeks_sales interval))) (
-        going p i sorted session Snapshot (left_one (goes_on p i) (not (is_serial (txn p i).mode)) h) (snapshot_is (txn p i).mode (right_one (goes_on p i) (not (is_serial (txn p i).mode)) h)),
-        of_db p i sorted session (λ db. MayPeek (numbered db.schema 1)) tt,
+      let old : Bool = not (is_serial (txn p i).mode) in
+      let may : Bool = may_peek (numbered (schema p) number) in
+      let more = right_one (goes_on p i) (old && may) h in
+      step p i sorted session (act.Peek number interval) (said_of p i (peeks number interval)) [] (state_of (after p i (peeks number interval))) (
+        going p i sorted session Snapshot (left_one (goes_on p i) (old && may) h) (snapshot_is (txn p i).mode (left_one old may more)),
+        of_db p i sorted session (λ db. MayPeek (numbered db.schema number)) (may_peek_so (numbered (schema p) number) (right_one old may more)),
       ) (
-        ap (λ (db : Database). read db 1 interval) (at_is p n)
-            ∙ read_is (number_after (kept_by p n) 2) (sold_by p n) interval (sold_sorted (kept_by p n) [] tt),
+        ap (λ (db : Database). read db number interval) (at_is p n)
+            ∙ read_is (number_after (history_by p n) p.number) (objects_after (history_by p n) p.objects) (rows_after (history_by p n) []) number interval (rows_sorted (history_by p n) [] tt),
         refl,
       )
       refl
@@ -158,22 +139,22 @@ module _ (p : Plain) (i : ℕ) (sorted : Sorted p) (session : i ≤ 64) where
   s = (state_of p).store
 
   abbrev counts : Place → Bool
-  counts k = is_zero (fresh_in (base p) k 0)
+  counts k = is_zero (fresh_in (schema p) (base p) k 0)
 
   abbrev unpaid : Place → Bool
   unpaid k = each_to 64 (λ j. is_nil (increments k 0 (txn p j).kept))
 
   abbrev unkept : Place → Bool
-  unkept k = each_of (λ d. not (is_for k d)) (deltas_in p.of.store.mark [] p.sold)
+  unkept k = each_of (λ d. not (is_for k d)) (versions_in p)
 
   abbrev unlocked : Place → Bool
   unlocked k = each_to 64 (λ j. not (holds_in (txn p j).locks k))
 
-  count_is : (k : Place) → fresh (committed s).schema (committed s).rows k 0 ≡ fresh_in (base p) k 0
-  count_is k = ap (λ (db : Database). fresh db.schema db.rows k 0) (committed_is p) ∙ fresh_is (base p) k 0 (base_sorted p)
+  count_is : (k : Place) → fresh (committed s).schema (committed s).rows k 0 ≡ fresh_in (schema p) (base p) k 0
+  count_is k = ap (λ (db : Database). fresh db.schema db.rows k 0) (committed_is p) ∙ fresh_is (schema p) (base p) k 0 (base_sorted p)
 
-  versions_are : versions s ≡ deltas_in p.of.store.mark [] p.sold
-  versions_are = ap (λ (db : Database). deltas_above the_views p.of.store.mark db (map entry_of p.sold)) origin_is ∙ deltas_are p.of.store.mark p.sold 2 [] tt
+  versions_are : versions s ≡ versions_in p
+  versions_are = ap (λ (db : Database). deltas_above the_views p.of.store.mark db p.history) (origin_is p.number p.objects) ∙ deltas_are p.of.store.mark p.history p.number p.objects [] tt
 
   -- what is stored has its place in the list
   stored_there : (k : Place) → IsSome (get s.view k) → T (is_some (find place_cmp k p.view))
@@ -181,10 +162,10 @@ module _ (p : Plain) (i : ℕ) (sorted : Sorted p) (session : i ≤ 64) where
 
   cleanable_so : (k : Place) → IsCleanable s k → T (is_cleanable p k)
   cleanable_so k c =
-      both (counts k) (unpaid k && (unkept k && unlocked k)) (zero_so (fresh_in (base p) k 0) (sym (count_is k) ∙ c.ghost.count))
+      both (counts k) (unpaid k && (unkept k && unlocked k)) (zero_so (fresh_in (schema p) (base p) k 0) (sym (count_is k) ∙ c.ghost.count))
       (both (unpaid k) (unkept k && unlocked k) (each_all 64 (λ j. is_nil (increments k 0 (txn p j).kept)) (λ j l m. nil_so (increments k 0 (txn p j).kept) (c.no_pays j (l, m))))
       (both (unkept k) (unlocked k)
-      (each_there (λ d. not (is_for k d)) (deltas_in p.of.store.mark [] p.sold) (λ d there. not_that (is_for k d) (λ t. c.no_versions d (subst (λ (l : List GroupDelta). Contains l d) (sym versions_are) there) (is_true (is_for k d) t))))
+      (each_there (λ d. not (is_for k d)) (versions_in p) (λ d there. not_that (is_for k d) (λ t. c.no_versions d (subst (λ (l : List GroupDelta). Contains l d) (sym versions_are) there) (is_true (is_for k d) t))))
       (each_all 64 (λ j. not (holds_in (txn p j).locks k)) (λ j l m. not_that (holds_in (txn p j).locks k) (λ t. c.not_locked j (l, m) (holds_so p i sorted session (txn p j).locks k t))))))
 
   cleanable_is : (k : Place) → T (is_some (find place_cmp k p.view)) → T (is_cleanable p k) → IsCleanable s k
@@ -194,10 +175,10 @@ module _ (p : Plain) (i : ℕ) (sorted : Sorted p) (session : i ≤ 64) where
       record {
         ghost = record {
           stored = ap is_some (get_is p.view k sorted.view) ∙ is_true (is_some (find place_cmp k p.view)) stored;
-          count = count_is k ∙ zero_is (fresh_in (base p) k 0) (left_one (counts k) (unpaid k && (unkept k && unlocked k)) h);
+          count = count_is k ∙ zero_is (fresh_in (schema p) (base p) k 0) (left_one (counts k) (unpaid k && (unkept k && unlocked k)) h);
         };
         no_pays = λ j is. nil_is (increments k 0 (txn p j).kept) (each_so 64 (λ j. is_nil (increments k 0 (txn p j).kept)) j (left_one (unpaid k) (unkept k && unlocked k) h1) is.0 is.1);
-        no_versions = λ d there t. not_so (is_for k d) (each_in (λ d. not (is_for k d)) (deltas_in p.of.store.mark [] p.sold) d (left_one (unkept k) (unlocked k) h2) (subst (λ (l : List GroupDelta). Contains l d) versions_are there)) (holds (is_for k d) t);
+        no_versions = λ d there t. not_so (is_for k d) (each_in (λ d. not (is_for k d)) (versions_in p) d (left_one (unkept k) (unlocked k) h2) (subst (λ (l : List GroupDelta). Contains l d) versions_are there)) (holds (is_for k d) t);
         not_locked = λ j is held. not_so (holds_in (txn p j).locks k) (each_so 64 (λ j. not (holds_in (txn p j).locks k)) j (right_one (unkept k) (unlocked k) h2) is.0 is.1) (holds_back (txn p j).locks k held);
       }
 

@@ -1,9 +1,9 @@
 -- Pays that other sessions are in the way of: one that a column does not allow, one that waits, and one that closes a ring.
-use Rattle.std.specs.Prelude.{◌≡◌, ◌≢◌, ℕ, ◌≤◌, ◌<◌, ◌-◌, ◌^◌, ◌==◌, nat_le, nat_lt, Bool, true, not, ◌&&◌, ◌||◌, T, List, [], ◌∷◌, length, ℤ, pos, negsuc, Option, is_some}
+use Rattle.std.specs.Prelude.{◌≡◌, ◌≢◌, ℕ, ◌≤◌, ◌==◌, nat_lt, Bool, not, ◌&&◌, ◌||◌, T, List, [], ◌∷◌, length, ℤ, Option, is_some}
 use Rattle.std.specs.List.{Contains}
 use mathlib.Core.Path.{refl, sym, ap, subst, ◌∙◌}
 use mathlib.Core.Logic.{inl, inr}
-use Rattle.std.proofs.Common.{arith, le-leb, ltb-true}
+use Rattle.std.proofs.Common.{arith, ltb-true}
 use Rattle.iv_types.specs.declared.lock.GroupDelta.{GroupDelta}
 use Rattle.iv_types.specs.declared.lock.LockMode.{LockMode}
 use Rattle.iv_types.specs.declared.lock.Want.{Want}
@@ -27,7 +27,8 @@ use Rattle.txn_machine.specs.State.{counted}
 use Rattle.txn_machine.specs.Steps.{Step, IsFree, IsBlocked, group_want, first_want, log_after}
 use Rattle.txn_machine.proofs.Basics.{one_same, one_other}
 use Rattle.txn_machine.proofs.Holding.{by_contains, contains_none}
-use Rattle.txn_machine.proofs.Playing.{Plain, state_of, txn, is_session, each_to, each_of, some_of, is_nil, in_way, is_free, owes, account_in, inf_in, sup_in, allows, all_below, bounds_in, ring_of, refuses_first, are_exact, waits_for, waits_with, waits_of, are_rung, may_read, may_put, put_wants_in, read_want, is_ready, test, left_by, after, blocks, reads_later, puts_later, cancels, deadlocks}
+use Rattle.txn_machine.proofs.PlainStates.{Plain, state_of, txn, is_session, each_to, each_of, some_of, is_nil, in_way, is_free, account_in, inf_in, sup_in, allows, all_below, is_ready}
+use Rattle.txn_machine.proofs.Playing.{owes, bounds_in, ring_of, refuses_first, are_exact, waits_for, waits_with, waits_of, are_rung, may_read, may_put, put_wants_in, read_want, test, left_by, after, blocks, reads_later, puts_later, cancels, deadlocks}
 use Rattle.txn_machine.proofs.Tabled.{get_is}
 use Rattle.txn_machine.proofs.Testing.{is_true, holds, left_one, right_one, both, either, not_so, equal, not_equal, nil_is, not_nil, session_is, each_so, below_so, each_in, some_is, in_way_is, in_way_so}
 use Rattle.txn_machine.proofs.MovesAlone.{Sorted, step, ready, free, may_read_so, wants_are, may_put_so, owes_so, account_is, allows_so, view_at}
@@ -168,7 +169,7 @@ module _ (p : Plain) (i : ℕ) (sorted : Sorted p) (session : i ≤ 64) where
   pub reads_later_so : (index : ℕ) (interval : Interval) (lock : LockMode) (sessions : Sessions) → T (test p i (reads_later index interval lock sessions))
       → Step (state_of p) i (act.Fetch index interval lock) (answer.Blocked sessions) (state_of (after p i (reads_later index interval lock sessions)))
   reads_later_so index interval lock sessions h =
-      let may : Bool = may_read index lock in
+      let may : Bool = may_read p index lock in
       let waits : Bool = waits_for p i (read_want index interval lock) sessions in
       let more = right_one (is_ready p i) (may && waits) h in
       step p i sorted session (act.Fetch index interval lock) (answer.Blocked sessions) [] (state_of (after p i (reads_later index interval lock sessions)))
@@ -176,17 +177,17 @@ module _ (p : Plain) (i : ℕ) (sorted : Sorted p) (session : i ≤ 64) where
       (tt, blocked_so (read_want index interval lock) sessions (right_one may waits more), refl)
       refl
 
-  pub puts_later_so : (key : List ℕ) (new : Option Row) (sessions : Sessions) → T (test p i (puts_later key new sessions))
-      → Step (state_of p) i (act.Put 1 key new) (answer.Blocked sessions) (state_of (after p i (puts_later key new sessions)))
-  puts_later_so key new sessions h =
-      let may : Bool = may_put p key new in
-      let waits : Bool = waits_for p i (put_wants_in p key new) sessions in
+  pub puts_later_so : (number : ℕ) (key : List ℕ) (new : Option Row) (sessions : Sessions) → T (test p i (puts_later number key new sessions))
+      → Step (state_of p) i (act.Put number key new) (answer.Blocked sessions) (state_of (after p i (puts_later number key new sessions)))
+  puts_later_so number key new sessions h =
+      let may : Bool = may_put p number key new in
+      let waits : Bool = waits_for p i (put_wants_in p number key new) sessions in
       let more = right_one (is_ready p i) (may && waits) h in
-      let same = wants_are p i sorted session key new in
-      step p i sorted session (act.Put 1 key new) (answer.Blocked sessions) [] (state_of (after p i (puts_later key new sessions)))
-      (ready p i sorted session (left_one (is_ready p i) (may && waits) h), may_put_so p i sorted session key new (left_one may waits more))
-      (tt, subst (λ (w : List Want). IsBlocked (state_of p) i w sessions) (sym same) (blocked_so (put_wants_in p key new) sessions (right_one may waits more)), refl)
-      (ap (λ (w : List Want). counted (state_of p) i (act.Put 1 key new) (answer.Blocked sessions) (state_of p).store w (state_of p).definitions (log_after (state_of p) i (act.Put 1 key new) (answer.Blocked sessions) [])) (sym same))
+      let same = wants_are p i sorted session number key new in
+      step p i sorted session (act.Put number key new) (answer.Blocked sessions) [] (state_of (after p i (puts_later number key new sessions)))
+      (ready p i sorted session (left_one (is_ready p i) (may && waits) h), may_put_so p i sorted session number key new (left_one may waits more))
+      (tt, subst (λ (w : List Want). IsBlocked (state_of p) i w sessions) (sym same) (blocked_so (put_wants_in p number key new) sessions (right_one may waits more)), refl)
+      (ap (λ (w : List Want). counted (state_of p) i (act.Put number key new) (answer.Blocked sessions) (state_of p).store w (state_of p).definitions (log_after (state_of p) i (act.Put number key new) (answer.Blocked sessions) [])) (sym same))
 
   pub cancels_so : T (test p i cancels) → Step (state_of p) i act.Cancel answer.Cancelled (state_of (after p i cancels))
   cancels_so h = step p i sorted session act.Cancel answer.Cancelled [] (state_of (after p i cancels)) (session_is i h) refl refl

@@ -2,25 +2,28 @@
 use Rattle.std.specs.Prelude.{◌≡◌, ℕ, ◌≤◌, nat_le, ◌&&◌, T, List, [], ◌∷◌}
 use mathlib.Core.Path.{refl, sym, subst}
 use Rattle.std.specs.FinMap.{empty}
+use Rattle.iv_meaning.specs.Schema.{Schema}
 use Rattle.txn_machine.specs.Store.{opened}
 use Rattle.txn_machine.specs.Log.{unlimited}
 use Rattle.txn_machine.specs.State.{State, opened_state}
 use Rattle.txn_machine.specs.Steps.{Step, Run}
 use Rattle.txn_machine.specs.Example.{shop_database}
-use Rattle.txn_machine.proofs.Playing.{put_in, Plain, state_of, start, txn, owes, lacks_first, makes_first, pays_first, refuses_first, Move, act_of, said_of, test, after, is_in_order, Turn, fine, told, played, begins, learns, scans, views, puts, lacks, makes, pays, undoes, ends, commits, leaves, refuses, blocks, reads_later, puts_later, cancels, deadlocks, peeks, peeks_sales, cleans_none, cleans, prunes, saves}
+use Rattle.txn_machine.proofs.PlainStates.{bare, put_in, Plain, state_of, start_with, start, txn}
+use Rattle.txn_machine.proofs.Playing.{owes, lacks_first, makes_first, pays_first, refuses_first, Move, act_of, said_of, test, after, is_in_order, Turn, fine, told, played, begins, learns, scans, views, puts, lacks, makes, pays, undoes, ends, commits, leaves, refuses, blocks, reads_later, puts_later, cancels, deadlocks, peeks, creates, denies, finds_busy, cleans_none, cleans, prunes, saves}
 use Rattle.txn_machine.proofs.Tabled.{none_is}
 use Rattle.txn_machine.proofs.Testing.{left_one, right_one, at_most}
 use Rattle.txn_machine.proofs.MovesAlone.{Sorted, in_order, begins_so, learns_so, scans_so, views_so, puts_so, lacks_by, makes_by, pays_by, undoes_so, ends_so, commits_so, leaves_so}
 use Rattle.txn_machine.proofs.MovesWaiting.{refuses_by, blocks_so, reads_later_so, puts_later_so, cancels_so, deadlocks_so}
-use Rattle.txn_machine.proofs.MovesCleaning.{peeks_so, peeks_sales_so, cleans_none_so, cleans_so, prunes_so, saves_so}
+use Rattle.txn_machine.proofs.MovesCleaning.{peeks_so, cleans_none_so, cleans_so, prunes_so, saves_so}
+use Rattle.txn_machine.proofs.MovesDefining.{creates_so, denies_so, finds_busy_so}
 
 module _ (p : Plain) (i : ℕ) (sorted : Sorted p) (session : i ≤ 64) where
   pub sound : (m : Move) → T (test p i m) → Step (state_of p) i (act_of m) (said_of p i m) (state_of (after p i m))
   sound (begins mode) h = begins_so p i sorted session mode h
   sound learns h = learns_so p i sorted session h
-  sound (scans interval lock) h = scans_so p i sorted session interval lock h
-  sound (views interval shops) h = views_so p i sorted session interval shops h
-  sound (puts key new) h = puts_so p i sorted session key new h
+  sound (scans number interval lock) h = scans_so p i sorted session number interval lock h
+  sound (views number interval groups) h = views_so p i sorted session number interval groups h
+  sound (puts number key new) h = puts_so p i sorted session number key new h
   sound lacks h = lacks_by p i sorted session (left_one (owes p i) (lacks_first p i (txn p i).owed) h) (txn p i).owed refl (right_one (owes p i) (lacks_first p i (txn p i).owed) h)
   sound makes h = makes_by p i sorted session (left_one (owes p i) (makes_first p i (txn p i).owed) h) (txn p i).owed refl (right_one (owes p i) (makes_first p i (txn p i).owed) h)
   sound pays h = pays_by p i sorted session (left_one (owes p i) (pays_first p i (txn p i).owed) h) (txn p i).owed refl (right_one (owes p i) (pays_first p i (txn p i).owed) h)
@@ -32,10 +35,12 @@ module _ (p : Plain) (i : ℕ) (sorted : Sorted p) (session : i ≤ 64) where
   sound (blocks sessions) h = blocks_so p i sorted session sessions h
   sound (deadlocks other mine theirs) h = deadlocks_so p i sorted session other mine theirs h
   sound (reads_later index interval lock sessions) h = reads_later_so p i sorted session index interval lock sessions h
-  sound (puts_later key new sessions) h = puts_later_so p i sorted session key new sessions h
+  sound (puts_later number key new sessions) h = puts_later_so p i sorted session number key new sessions h
   sound cancels h = cancels_so p i sorted session h
-  sound (peeks interval) h = peeks_so p i sorted session interval h
-  sound (peeks_sales interval) h = peeks_sales_so p i sorted session interval h
+  sound (peeks number interval) h = peeks_so p i sorted session number interval h
+  sound (creates statement written) h = creates_so p i sorted session statement written h
+  sound (denies statement written) h = denies_so p i sorted session statement written h
+  sound (finds_busy statement written busy) h = finds_busy_so p i sorted session statement written busy h
   sound cleans_none h = cleans_none_so p i sorted session h
   sound (cleans place) h = cleans_so p i sorted session place h
   sound prunes h = prunes_so p i sorted session h
@@ -54,9 +59,13 @@ runs p (t ∷ ts) h =
       runs next ts (right_one (test p t.session t.move) (fine next ts) h2),
     )
 
--- the moves begin where the example does
+-- the moves begin at a database without rows as it is opened
+pub begins_at : (n : ℕ) (objects : Schema) → state_of (start_with n objects) ≡ opened_state unlimited (opened (bare n objects) empty)
+begins_at n objects = λ j. put_in (opened_state unlimited (opened (bare n objects) empty)) (bare n objects) [] (sym none_is j) (sym none_is j)
+
+-- the example's begin at the shop
 pub start_is : state_of start ≡ opened_state unlimited (opened shop_database empty)
-start_is = λ j. put_in (opened_state unlimited (opened shop_database empty)) [] (sym none_is j) (sym none_is j)
+start_is = begins_at 2 shop_database.schema
 
 pub run_to : (ts : List Turn) → T (fine start ts) → Run (opened_state unlimited (opened shop_database empty)) (told start ts) (state_of (played start ts))
 run_to ts h = subst (λ (s : State). Run s (told start ts) (state_of (played start ts))) start_is (runs start ts h)

@@ -1,9 +1,9 @@
 -- A view that can be read has its numbers in range.
-use Rattle.std.specs.Prelude.{◌≡◌, ℕ, zero, suc, ◌≤◌, ◌^◌, ◌-◌, ◌&&◌, nat_le, cond, Bool, true, false, List, [], ◌∷◌, ◌++◌, map, filter, length, slice_get, get_or, ℤ, pos, negsuc, ◌+ℤ◌, Option, Some, None, is_some, IsSome}
+use Rattle.std.specs.Prelude.{◌≡◌, ℕ, zero, suc, cond, Bool, true, false, List, [], ◌∷◌, ◌++◌, map, filter, length, slice_get, get_or, ℤ, pos, ◌+ℤ◌, Option, Some, None, is_some, IsSome}
 use Rattle.std.specs.List.{AllByRecursion, Contains}
 use Rattle.std.specs.Option.{option_map, option_map_or, option_to_list, option_and_then, option_zip}
 use mathlib.Core.Path.{refl, sym, ap, subst, ◌∙◌}
-use Rattle.std.proofs.Common.{arith, leb-true}
+use Rattle.std.proofs.Common.{arith}
 use Rattle.std.proofs.lemmas.Bool.{false≢true}
 use Rattle.std.proofs.lemmas.Int.{ints}
 use Rattle.std.specs.declared.cmp.Ordering.TheVariants.{Less, Equal, Greater}

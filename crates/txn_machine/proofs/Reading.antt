@@ -1,19 +1,19 @@
 -- What a table or an index has in an interval depends on the rows alone that it has there.
-use Rattle.std.specs.Prelude.{◌≡◌, ◌≢◌, ℕ, ◌==◌, ◌&&◌, cond, Bool, true, false, List, [], ◌∷◌, map, filter, Option, Some, None, IfSome}
-use Rattle.std.specs.Option.{option_map, option_map_or, option_and_then}
+use Rattle.std.specs.Prelude.{◌≡◌, ◌≢◌, ℕ, ◌==◌, ◌&&◌, cond, Bool, true, false, List, [], ◌∷◌, map, filter, Option, Some, None}
+use Rattle.std.specs.Option.{option_map, option_and_then}
 use mathlib.Core.Path.{refl, sym, ap, ◌∙◌}
 use Rattle.std.proofs.Common.{eq-eqb, eqb-true}
 use Rattle.std.proofs.lemmas.Bool.{ne_eqb, false≢true}
 use Rattle.std.specs.declared.cmp.Ordering.{Ordering}
-use Rattle.std.specs.declared.cmp.Ordering.TheVariants.{Less, Equal, Greater}
-use Rattle.std.specs.Ordering.{nat_cmp, is_gt, is_lt}
+use Rattle.std.specs.declared.cmp.Ordering.TheVariants.{Equal}
+use Rattle.std.specs.Ordering.{nat_cmp}
 use Rattle.std.specs.Cmp.Lexicographic.{slice_cmp, nat_list_cmp_total}
 use Rattle.std.specs.FinMap.{get, entries, from_entries, retain_keys, get-from_entries, get-retain_keys, IsAntisymmetric, nat_cmp-IsAntisymmetric, slice_cmp-IsAntisymmetric}
 use Rattle.std.specs.FinMap.Entries.{where_key, find-where_key}
 use Rattle.iv_types.specs.declared.value.Interval.{Interval}
 use Rattle.iv_types.specs.declared.catalog.TableDef.{TableDef}
 use Rattle.iv_types.specs.declared.catalog.IndexDef.{IndexDef}
-use Rattle.iv_types.specs.Intervals.{LiesIn, IsBelow}
+use Rattle.iv_types.specs.Intervals.{LiesIn}
 use Rattle.table_laws.specs.Place.{Place}
 use Rattle.table_laws.specs.Table.{rows_where}
 use Rattle.table_laws.specs.Sums.{passing}

@@ -1,6 +1,7 @@
 -- The example's runs, played move by move.
 use Rattle.std.specs.Prelude.{ℕ, zero, suc, ◌-◌, pos, List, [], ◌∷◌, Some, None}
 use Rattle.iv_types.specs.declared.statement.Mode.TheVariants.{Serial, Snapshot}
+use Rattle.iv_types.specs.declared.value.Value.TheVariants.{Number}
 use Rattle.iv_meaning.specs.Database.{Row, key_of}
 use Rattle.txn_machine.specs.Deltas.{place_of}
 use Rattle.txn_machine.specs.Example.{sale, one_sale, other_sale, all_keys, sale_row, delta_of, shop_point, most, small_sale, refused_sale, ninth_sale, InsertRuns, BothCommit, OneRollsBack, DeletedComesBack, UndoIsCovered, RingIsRefused, SnapshotIsKept}
@@ -10,8 +11,12 @@ use Rattle.txn_machine.proofs.Played.{run_of}
 abbrev pub turn : ℕ → Move → Turn
 turn session move = record { session = session; move = move }
 
+-- a shop's group in the view
+abbrev pub shop : ℕ → Row
+shop n = Number (pos n) ∷ []
+
 abbrev pub putting : ℕ → Row → List Turn → List Turn
-putting i row more = turn i (fetches (key_of sale row)) ∷ turn i (puts (key_of sale row) (Some row)) ∷ more
+putting i row more = turn i (fetches 1 (key_of sale row)) ∷ turn i (puts 1 (key_of sale row) (Some row)) ∷ more
 
 abbrev pub inserting : ℕ → Row → List Turn → List Turn
 inserting i row more = putting i row (turn i pays ∷ more)
@@ -20,7 +25,7 @@ abbrev inserting_first : ℕ → Row → List Turn → List Turn
 inserting_first i row more = putting i row (turn i lacks ∷ turn i makes ∷ turn i pays ∷ more)
 
 abbrev deleting : ℕ → Row → List Turn → List Turn
-deleting i row more = turn i (fetches (key_of sale row)) ∷ turn i (puts (key_of sale row) None) ∷ turn i pays ∷ more
+deleting i row more = turn i (fetches 1 (key_of sale row)) ∷ turn i (puts 1 (key_of sale row) None) ∷ turn i pays ∷ more
 
 abbrev pub taking_back : ℕ → ℕ → List Turn → List Turn
 taking_back i zero more = turn i ends ∷ more
@@ -53,7 +58,7 @@ one_undoing more = both_inserting (taking_back 1 2 more)
 
 -- the third reads the view
 abbrev showing : List Turn
-showing = turn 3 (begins Serial) ∷ turn 3 (views all_keys (pos 7 ∷ [])) ∷ turn 3 leaves ∷ []
+showing = turn 3 (begins Serial) ∷ turn 3 (views 2 all_keys (shop 7 ∷ [])) ∷ turn 3 leaves ∷ []
 
 pub both_commit : BothCommit
 both_commit = run_of (both_inserting (turn 1 commits ∷ showing)) tt
@@ -69,8 +74,8 @@ one_deleting more = turn 1 (begins Serial) ∷ inserting_first 1 one_sale (turn 
 
 pub deleted_comes_back : DeletedComesBack
 deleted_comes_back = run_of (one_deleting (
-    turn 0 cleans_none ∷ turn 1 (views all_keys []) ∷ taking_back 1 2 (
-    turn 2 (begins Serial) ∷ turn 2 (views all_keys (pos 7 ∷ [])) ∷ turn 2 leaves ∷ []))) tt
+    turn 0 cleans_none ∷ turn 1 (views 2 all_keys []) ∷ taking_back 1 2 (
+    turn 2 (begins Serial) ∷ turn 2 (views 2 all_keys (shop 7 ∷ [])) ∷ turn 2 leaves ∷ []))) tt
 
 -- the second session's pay is too near to the end of the range
 abbrev pub other_near : List Turn → List Turn
@@ -88,7 +93,7 @@ two_selling more = turn 1 (begins Serial) ∷ inserting_first 1 (sale_row 1 1 10
 
 -- reads the row of a shop
 abbrev viewing : ℕ → ℕ → Turn
-viewing i shop = turn i (views (shop_point shop) (pos shop ∷ []))
+viewing i n = turn i (views 2 (shop_point n) (shop n ∷ []))
 
 abbrev pub one_crossing : List Turn → List Turn
 one_crossing more = two_selling (turn 1 (begins Serial) ∷ turn 2 (begins Serial) ∷ viewing 1 1 ∷ viewing 2 2 ∷ putting 1 (sale_row 3 2 5) more)
@@ -112,5 +117,5 @@ snapshot_is_kept = run_of (
     turn 1 (begins Serial) ∷ inserting 1 (sale_row 3 7 1) (turn 1 commits ∷
     turn 1 (begins Serial) ∷ deleting 1 ninth_sale (turn 1 commits ∷
     turn 3 (begins Serial) ∷ inserting 3 (sale_row 4 7 100) (
-    turn 0 prunes ∷ turn 0 cleans_none ∷ turn 2 (peeks all_keys) ∷ turn 2 leaves ∷
+    turn 0 prunes ∷ turn 0 cleans_none ∷ turn 2 (peeks 2 all_keys) ∷ turn 2 leaves ∷
     turn 0 prunes ∷ turn 0 (cleans (place_of (delta_of ninth_sale))) ∷ taking_back 3 2 [])))))) tt

@@ -1,30 +1,45 @@
 -- What the tests of moves tell.
-use Rattle.std.specs.Prelude.{◌≡◌, ◌≢◌, ◌⊎◌, ℕ, zero, suc, ◌≤◌, ◌<◌, ◌-◌, ◌^◌, ◌==◌, nat_le, cond, Bool, true, false, not, ◌&&◌, ◌||◌, T, List, [], ◌∷◌, ℤ, pos, negsuc, Option, Some, None, is_some, IfSome}
-use Rattle.std.specs.List.{Contains}
-use Rattle.std.specs.Option.{unwrap_or, option_map_or}
-use mathlib.Core.Path.{refl, sym, subst}
+use Rattle.std.specs.Prelude.{◌≡◌, ◌≢◌, ◌⊎◌, ℕ, zero, suc, ◌≤◌, ◌<◌, ◌==◌, nat_le, cond, Bool, true, false, not, ◌&&◌, ◌||◌, T, List, [], ◌∷◌, length, ℤ, Option, Some, None, is_some, IfSome}
+use Rattle.std.specs.List.{AllZip, Contains}
+use Rattle.std.specs.Option.{unwrap_or}
+use mathlib.Core.Path.{refl, sym, ap, subst, ◌∙◌}
 use mathlib.Core.Logic.{inl, inr}
-use Rattle.std.proofs.Common.{arith, leb-true, eqb-true, eq-eqb}
+use Rattle.std.proofs.Common.{arith, leb-true, le-leb, eqb-true, eq-eqb}
+use Rattle.std.proofs.lemmas.Option.{none-some}
+use Rattle.std.proofs.lemmas.Slice.Eq.{bytes_eq-Decides}
 use Rattle.std.specs.declared.cmp.Ordering.{Ordering}
 use Rattle.std.specs.declared.cmp.Ordering.TheVariants.{Less, Equal, Greater}
-use Rattle.std.specs.Ordering.{nat_cmp, is_gt, is_lt}
+use Rattle.std.specs.Ordering.{nat_cmp, ordering_reverse, is_eq, is_lt}
 use Rattle.std.specs.Cmp.Lexicographic.{slice_cmp}
+use Rattle.std.specs.Str.{bytes_eq}
 use Rattle.iv_types.specs.declared.statement.Mode.{Mode}
 use Rattle.iv_types.specs.declared.statement.Mode.TheVariants.{Serial, Snapshot}
 use Rattle.iv_types.specs.declared.lock.LockMode.{LockMode}
 use Rattle.iv_types.specs.declared.lock.LockMode.TheVariants.{Share, Exclusive, Increment}
 use Rattle.iv_types.specs.declared.lock.Want.{Want}
+use Rattle.iv_types.specs.declared.catalog.TableDef.{TableDef}
 use Rattle.iv_types.specs.declared.value.Interval.{Interval}
-use Rattle.iv_types.specs.Encoding.{IsHuge, is_huge, lies_in}
-use Rattle.iv_types.specs.Intervals.{IsBelow, LiesIn, HaveCommonKey}
+use Rattle.iv_types.specs.declared.value.Kind.{Kind}
+use Rattle.iv_types.specs.declared.value.Value.{Value}
+use Rattle.iv_types.specs.Encoding.{FitAll, IsHuge, is_huge, key_bytes, row_cmp, kinds_of, fits}
+use Rattle.iv_types.specs.Intervals.{IsBelow, HaveCommonKey}
+use Rattle.iv_types.proofs.Fitting.{huge_is}
+use Rattle.iv_types.proofs.Orders.{row_cmp_total}
 use Rattle.row_codec.specs.Ranges.{IsGreater}
 use Rattle.row_codec.proofs.RangeLaws.{greater_is_a, greater_is_b, common_key, common_before_a, common_before_b}
+use Rattle.table_laws.specs.Place.{Place}
 use Rattle.table_laws.proofs.Stored.{by_session}
+use Rattle.iv_meaning.specs.Schema.{Schema, Object, table, index, view, ViewTree, group_kinds}
+use Rattle.iv_meaning.specs.Database.{Row, Database, key_of}
 use Rattle.iv_meaning.specs.Escrow.{IsSession}
+use Rattle.iv_meaning.specs.View.{read}
 use Rattle.txn_machine.specs.Locks.{Agree, Conflict, Meet, IsInTheWay}
+use Rattle.txn_machine.specs.May.{FitsUnder, MayLock}
+use Rattle.txn_machine.specs.Steps.{FindsIn}
+use Rattle.txn_machine.specs.Stored.{ViewRows, IsShown}
 use Rattle.txn_machine.proofs.Holding.{by_contains, contains_here, contains_next, contains_none}
-use Rattle.txn_machine.proofs.Playing.{is_session, each_to, each_of, some_of, is_serial, is_nil, agree, greater_low, is_below, have_common, clash, clash_any, in_way, all_below}
-use Rattle.iv_types.proofs.Fitting.{huge_is}
+use Rattle.txn_machine.proofs.PlainStates.{shown_in, fit_all, are_shown, is_session, each_to, each_of, some_of, is_serial, is_nil, is_increment, agree, greater_low, is_below, have_common, clash, clash_any, in_way, all_below, fits_under, differ}
+use Rattle.txn_machine.proofs.Playing.{may_lock, is_scanned}
 
 -- ---- two tests
 
@@ -105,6 +120,9 @@ false_is false h = refl
 
 pub session_is : (i : ℕ) → T (is_session i) → IsSession i
 session_is i h = (at_most 1 i (left_one (nat_le 1 i) (nat_le i 64) h), at_most i 64 (right_one (nat_le 1 i) (nat_le i 64) h))
+
+pub session_so : (i : ℕ) → IsSession i → T (is_session i)
+session_so i is = both (nat_le 1 i) (nat_le i 64) (holds (nat_le 1 i) (le-leb 1 i is.0)) (holds (nat_le i 64) (le-leb i 64 is.1))
 
 -- ---- each and some
 
@@ -243,3 +261,81 @@ in_way_so locks i wants j w = both (not (j == i)) (clash_any (locks j) wants) (d
 -- nobody is in the way
 pub free_is : (locks : ℕ → List Want) (i : ℕ) (wants : List Want) → T (each_to 64 (λ j. not (in_way locks i wants j))) → (j : ℕ) → IsInTheWay locks i wants j → ⊥
 free_is locks i wants h j w = not_so (in_way locks i wants j) (each_so 64 (λ j. not (in_way locks i wants j)) j h w.of_session.0 w.of_session.1) (in_way_so locks i wants j w)
+
+-- ---- rows and reads
+
+pub bytes_same : (xs ys : List ℕ) → T (bytes_eq xs ys) → xs ≡ ys
+bytes_same xs ys h = (bytes_eq-Decides xs ys).0 (is_true (bytes_eq xs ys) h)
+
+pub increment_is : (m : LockMode) → T (is_increment m) → m ≡ Increment
+increment_is Increment h = refl
+increment_is Share h = absurd h
+increment_is Exclusive h = absurd h
+
+fit_all_is : (kinds : List Kind) (values : List Value) → T (fit_all kinds values) → FitAll kinds values
+fit_all_is [] [] h = tt
+fit_all_is [] (v ∷ vs) h = absurd h
+fit_all_is (k ∷ ks) [] h = absurd h
+fit_all_is (k ∷ ks) (v ∷ vs) h = (is_true (fits k v) (left_one (fits k v) (fit_all ks vs) h), fit_all_is ks vs (right_one (fits k v) (fit_all ks vs) h))
+
+pub under_is : (t : TableDef) (key : List ℕ) (new : Option Row) → T (fits_under t key new) → FitsUnder t key new
+under_is t key None h = tt
+under_is t key (Some row) h =
+    let same : Bool = bytes_eq key (key_of t row) in
+    let fits : Bool = fit_all (kinds_of t) row in
+    (bytes_same key (key_of t row) (left_one same fits h), fit_all_is (kinds_of t) row (right_one same fits h))
+
+-- a row is equal to itself
+self_equal : (o : Ordering) → o ≡ ordering_reverse o → is_eq o ≡ true
+self_equal Less e = absurd (cc)
+self_equal Equal e = refl
+self_equal Greater e = absurd (cc)
+
+row_out : Row → Option Row → Row
+row_out row None = row
+row_out row (Some r) = r
+
+same_row : (old new : Row) → Some old ≡ Some new → old ≡ new
+unfolding row_out
+same_row old new e = ap (row_out old) e
+
+pub differ_is : (old new : Option Row) → T (differ old new) → old ≢ new
+differ_is None None h e = h
+differ_is None (Some new) h e = none-some new e
+differ_is (Some old) None h e = none-some old (sym e)
+differ_is (Some old) (Some new) h e =
+    subst T (ap not (ap (λ r. is_eq (row_cmp old r)) (sym (same_row old new e)) ∙ self_equal (row_cmp old old) (row_cmp_total.antisymm old old))) h
+
+-- the rows of stored groups
+pub shown_lists : (objects : Schema) (v : ViewTree) (es : List (Place × List ℤ)) (groups : List Row) → T (are_shown (group_kinds objects v) es groups)
+    → AllZip (IsShown objects v) es (shown_in (suc (length v.sums)) es groups)
+shown_lists objects v [] [] h = tt
+shown_lists objects v [] (g ∷ gs) h = absurd h
+shown_lists objects v (e ∷ es) [] h = absurd h
+shown_lists objects v (e ∷ es) (g ∷ gs) h =
+    let kinds : List Kind = group_kinds objects v in
+    let same : Bool = bytes_eq (key_bytes kinds g) e.0.1 in
+    let more = right_one (fit_all kinds g) (same && are_shown kinds es gs) h in (
+      record {
+        group = g;
+        fits = fit_all_is kinds g (left_one (fit_all kinds g) (same && are_shown kinds es gs) h);
+        key = bytes_same (key_bytes kinds g) e.0.1 (left_one same (are_shown kinds es gs) more);
+        row_is = refl;
+      },
+      shown_lists objects v es gs (right_one same (are_shown kinds es gs) more),
+    )
+
+pub may_lock_so : (lock : LockMode) (o : Option Object) → T (may_lock lock o) → MayLock lock o
+may_lock_so Share o h = is_true (is_some o) h
+may_lock_so Exclusive None h = absurd h
+may_lock_so Exclusive (Some (table t)) h = tt
+may_lock_so Exclusive (Some (index i)) h = tt
+may_lock_so Exclusive (Some (view v)) h = absurd h
+may_lock_so Increment o h = absurd h
+
+-- what is no view is read as it is stored
+pub finds_stored : (db : Database) (stored : ViewRows) (o : Option Object) (number : ℕ) (interval : Interval) (rows : List Row) → T (is_scanned o) → read db number interval ≡ rows → FindsIn db stored o number interval rows
+finds_stored db stored None number interval rows h e = e
+finds_stored db stored (Some (table t)) number interval rows h e = e
+finds_stored db stored (Some (index i)) number interval rows h e = e
+finds_stored db stored (Some (view v)) number interval rows h e = absurd h

@@ -6,7 +6,7 @@
 --
 -- The log and the limits are a layer over this: they are functions of the act, of its effects and of what was before, and where an
 -- opening has no limits no step is refused for them.
-use Rattle.std.specs.Prelude.{◌≡◌, ◌≢◌, ◌⊎◌, ℕ, ◌+◌, ◌<◌, ◌≤◌, ℤ, true, List, [], ◌∷◌, ◌++◌, length, Option, Some, None, IsSome, Ok, Err}
+use Rattle.std.specs.Prelude.{◌≡◌, ◌≢◌, ◌⊎◌, ℕ, ◌+◌, ◌<◌, ◌≤◌, ℤ, true, List, [], ◌∷◌, ◌++◌, length, Option, Some, None, IsSome, Result, Ok, Err}
 use Rattle.std.specs.FinMap.{get}
 use Rattle.iv_types.specs.declared.statement.Mode.{Mode}
 use Rattle.iv_types.specs.declared.statement.Mode.TheVariants.{Serial, Snapshot}
@@ -25,7 +25,7 @@ use Rattle.table_laws.specs.Place.{Place}
 use Rattle.iv_meaning.specs.Schema.{Schema, Object, table, view, numbered}
 use Rattle.iv_meaning.specs.Database.{Row, Database}
 use Rattle.iv_meaning.specs.View.{read}
-use Rattle.iv_meaning.specs.Statement.{Kept, create, Refused, Accepted, bound_meaning}
+use Rattle.iv_meaning.specs.Statement.{BoundTree, Kept, create, Refused, Accepted, bound_meaning}
 use Rattle.iv_meaning.specs.Binding.{bind}
 use Rattle.iv_meaning.specs.History.{state_at}
 use Rattle.iv_meaning.specs.Escrow.{IsSession, IsAllowed, inf, sup}
@@ -296,9 +296,13 @@ pub record IsBusy (s : Store) (session : ℕ) : Type 0 where
   pub is_open : IsSome (s.open_of session)
   pub least : (other : ℕ) → IsSession other → other < session → s.open_of other ≡ None
 
+-- a statement as it is bound to what is defined
+abbrev pub bound_by : Schema → StatementTree → Result BoundTree Refusal
+bound_by objects statement = bind objects statement
+
 -- it makes this object
 pub record Makes (s : Store) (statement : StatementTree) (object : Object) : Type 0 where
-  pub bound : bind (schema_of s) statement ≡ Ok (create object)
+  pub bound : bound_by (schema_of s) statement ≡ Ok (create object)
 
 -- the entries that it makes
 abbrev pub made_need : Store → StatementTree → Object → ℕ
@@ -317,7 +321,7 @@ pub record DefinesIt (s : State) (statement : StatementTree) (number : ℕ) (es 
 
 -- what can be told of it without rows is told first; what needs them, once no transaction is open
 pub data IsDenied (s : Store) (statement : StatementTree) (why : Refusal) : Type 0 where
-  unbound : bind (schema_of s) statement ≡ Err why → IsDenied s statement why
+  unbound : bound_by (schema_of s) statement ≡ Err why → IsDenied s statement why
   refused : (object : Object) → Makes s statement object → NoneIsOpen s → bound_meaning (create object) (committed s) ≡ Refused why → IsDenied s statement why
 
 pub record IsSchemaBusy (s : Store) (statement : StatementTree) (busy : ℕ) : Type 0 where
