@@ -10,7 +10,7 @@ use Rattle.log_records.specs.declared.record.Scanned.{Scanned}
 use Rattle.log_records.specs.Spelling.{spelling}
 use Rattle.log_records.specs.Area.{Entry, group, block, blocks, BeginsWith, unplaced}
 use Rattle.log_records.specs.Reading.{record_at}
-use Rattle.log_records.specs.Scan.{Fault, joined, or_seven, with_first, records, frame_size, holds_block, frames, and_then, all_records, of_frames, scanned}
+use Rattle.log_records.specs.Scan.{Fault, with_before, or_seven, with_first, records, frame_size, holds_block, frames, and_then, all_records, of_frames, scanned}
 use Rattle.log_records.proofs.RecordLaws.{record_takes, record_again}
 use Rattle.table_laws.proofs.Tables.{by_bool}
 use Rattle.log_disk.specs.Places.{BreaksAt, BreakLaw}
@@ -104,7 +104,7 @@ frames_stop (suc fuel) at place bytes bs fits h k = by_bool (get_or bytes 0 0 ==
     others = frames fuel (at + frame_size bytes) (drop (frame_size bytes) bytes)
 
     inner : Bool → Result (List (ℕ × List ℕ)) Fault
-    inner b = if b then joined ((at + 5, piece) ∷ []) others else Err (record { rule = 6; place = at })
+    inner b = if b then with_before ((at + 5, piece) ∷ []) others else Err (record { rule = 6; place = at })
 
     outer : Bool → Result (List (ℕ × List ℕ)) Fault
     outer b = if b then inner (holds_block bytes) else Ok []
@@ -113,7 +113,7 @@ frames_stop (suc fuel) at place bytes bs fits h k = by_bool (get_or bytes 0 0 ==
     piece_fits = IsBytes-take (big_number 4 (drop 1 bytes)) (drop 5 bytes) (IsBytes-drop 5 bytes fits)
 
     block_first : ((ps : List (ℕ × List ℕ)) → others ≡ Ok ps → all_records ps ≡ Err (record { rule = 7; place = place }) → StopsBehind (at + frame_size bytes) (drop (frame_size bytes) bytes) place)
-        → get_or bytes 0 0 ≡ 165 → frame_size bytes < length bytes → joined ((at + 5, piece) ∷ []) others ≡ Ok bs → StopsBehind at bytes place
+        → get_or bytes 0 0 ≡ 165 → frame_size bytes < length bytes → with_before ((at + 5, piece) ∷ []) others ≡ Ok bs → StopsBehind at bytes place
     block_first next gate more j =
         let rest = joined_ok ((at + 5, piece) ∷ []) bs others j in
         let front = front_block bytes fits gate more in

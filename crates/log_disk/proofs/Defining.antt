@@ -12,7 +12,7 @@ use Rattle.iv_meaning.specs.Schema.{Schema, Object}
 use Rattle.txn_machine.specs.Log.{part_bytes}
 use Rattle.txn_log.specs.Appended.{Creates}
 use Rattle.txn_log.specs.Stored.{PageEntry, AreParts, AllCreate}
-use Rattle.txn_log.specs.Damaged.{Found, FirstBad, part_key, key_in, IsFurther, IsNextKey, with_next, HasSize, joined, texts_found, MakesNext, DefinitionFails}
+use Rattle.txn_log.specs.Damaged.{Found, FirstBad, part_key, key_in, IsFurther, IsNextKey, with_next, HasSize, in_texts, texts_found, MakesNext, DefinitionFails}
 use Rattle.log_disk.proofs.Ordered.{parts_from, texts_from}
 
 -- where none is bad, none is the first
@@ -166,12 +166,12 @@ tell xs ys e = (bytes_eq-Decides xs ys).1 e
 differ : (xs ys : List ℕ) → xs ≢ ys → bytes_eq xs ys ≡ false
 differ xs ys n = by_bool (bytes_eq xs ys) (λ b. absurd (n ((bytes_eq-Decides xs ys).0 b))) (λ b. b)
 
-first_part : (f : Found) (fs : List Found) (n : ℕ) → key_in f ≡ part_key n 0 → joined (f ∷ fs) ≡ ([], (f.page, f.entry.1 ++ (joined fs).0) ∷ (joined fs).1)
+first_part : (f : Found) (fs : List Found) (n : ℕ) → key_in f ≡ part_key n 0 → in_texts (f ∷ fs) ≡ ([], (f.page, f.entry.1 ++ (in_texts fs).0) ∷ (in_texts fs).1)
 first_part f fs n key =
     let test : bytes_eq (drop 4 (key_in f)) (big_bytes 2 0) ≡ true = tell (drop 4 (key_in f)) (big_bytes 2 0) (ap (drop 4) key) in
-    ap (λ b. cond b ([], (f.page, f.entry.1 ++ (joined fs).0) ∷ (joined fs).1) (f.entry.1 ++ (joined fs).0, (joined fs).1)) test
+    ap (λ b. cond b ([], (f.page, f.entry.1 ++ (in_texts fs).0) ∷ (in_texts fs).1) (f.entry.1 ++ (in_texts fs).0, (in_texts fs).1)) test
 
-later_part : (f : Found) (fs : List Found) (n j : ℕ) → key_in f ≡ part_key n (j + 1) → j + 1 < 2 ^ 16 → joined (f ∷ fs) ≡ (f.entry.1 ++ (joined fs).0, (joined fs).1)
+later_part : (f : Found) (fs : List Found) (n j : ℕ) → key_in f ≡ part_key n (j + 1) → j + 1 < 2 ^ 16 → in_texts (f ∷ fs) ≡ (f.entry.1 ++ (in_texts fs).0, (in_texts fs).1)
 later_part f fs n j key few =
     let test : bytes_eq (drop 4 (key_in f)) (big_bytes 2 0) ≡ false =
     differ (drop 4 (key_in f)) (big_bytes 2 0) (λ e. absurd (
@@ -179,10 +179,10 @@ later_part f fs n j key few =
     let none : big_number 2 (big_bytes 2 0) ≡ 0 = big_number-reads_back 2 0 [] (omega arith) in
     let same : big_number 2 (big_bytes 2 (j + 1)) ≡ big_number 2 (big_bytes 2 0) = ap (λ (bs : List ℕ). big_number 2 (drop 4 bs)) (sym key) ∙ ap (big_number 2) e in
     omega (arith, one, none, same))) in
-    ap (λ b. cond b ([], (f.page, f.entry.1 ++ (joined fs).0) ∷ (joined fs).1) (f.entry.1 ++ (joined fs).0, (joined fs).1)) test
+    ap (λ b. cond b ([], (f.page, f.entry.1 ++ (in_texts fs).0) ∷ (in_texts fs).1) (f.entry.1 ++ (in_texts fs).0, (in_texts fs).1)) test
 
 abbrev Joins : List Found → List ℕ → List (List ℕ) → Type 0
-Joins fs front texts = ((joined fs).0 ≡ front) × (texts_found (joined fs).1 ≡ texts)
+Joins fs front texts = ((in_texts fs).0 ≡ front) × (texts_found (in_texts fs).1 ≡ texts)
 
 parts_joined : (n j : ℕ) (parts : List (List ℕ)) (rest : List PageEntry) (texts : List (List ℕ)) (fs : List Found) → j + 1 + length parts ≤ 2 ^ 16
     → map (λ f. f.entry) fs ≡ parts_from n (j + 1) parts ++ rest → ((gs : List Found) → map (λ f. f.entry) gs ≡ rest → Joins gs [] texts) → Joins fs (concat parts) texts
@@ -236,7 +236,7 @@ all_texts earlier (t ∷ ts) objects all done h = (
 
 module _ (texts : List (List (List ℕ))) (few : length texts < 2 ^ 32) (short : AllByRecursion (λ parts. length parts ≤ 2 ^ 16) texts) (parts : AllByRecursion AreParts texts)
     (fs : List Found) (are : map (λ f. f.entry) fs ≡ texts_from 1 texts) where
-  pub texts_are : texts_found (joined fs).1 ≡ map concat texts
+  pub texts_are : texts_found (in_texts fs).1 ≡ map concat texts
   texts_are = (texts_joined 1 texts fs parts short are).1
 
   pub definitions_good : (schema : Schema) → AllCreate [] (map concat texts) schema → (place : ℕ) → DefinitionFails fs place → ⊥
@@ -244,5 +244,5 @@ module _ (texts : List (List (List ℕ))) (few : length texts < 2 ^ 32) (short :
   definitions_good schema create place (inr (inl h)) =
       never_first (λ earlier g. HasSize g.0 g.1 → ⊥) PairsGood (λ earlier y ys g. ((λ bad. bad g.0), g.1)) [] (with_next fs) h.1 (sizes_pairs [] fs (all_sizes texts fs few parts are)) h.3
   definitions_good schema create place (inr (inr h)) =
-      never_first (λ earlier u. MakesNext earlier u → ⊥) TextsGood (λ earlier y ys g. ((λ bad. bad g.0), g.1)) [] (joined fs).1 h.2
-      (all_texts [] (joined fs).1 [] schema refl (subst (λ (xs : List (List ℕ)). AllCreate [] xs schema) (sym texts_are) create)) h.4
+      never_first (λ earlier u. MakesNext earlier u → ⊥) TextsGood (λ earlier y ys g. ((λ bad. bad g.0), g.1)) [] (in_texts fs).1 h.2
+      (all_texts [] (in_texts fs).1 [] schema refl (subst (λ (xs : List (List ℕ)). AllCreate [] xs schema) (sym texts_are) create)) h.4

@@ -11,7 +11,7 @@ use Rattle.page_store.specs.Image.{header_at, area_at, slot_at, area_of, area_si
 use Rattle.slot_page.specs.Page.{IsLeaf}
 use Rattle.log_records.specs.declared.record.Scanned.{Scanned}
 use Rattle.log_records.specs.Reading.{record_at}
-use Rattle.log_records.specs.Scan.{Fault, joined, or_seven, with_first, records, frame_size, holds_block, frames, and_then, all_records, of_frames, scanned}
+use Rattle.log_records.specs.Scan.{Fault, with_before, or_seven, with_first, records, frame_size, holds_block, frames, and_then, all_records, of_frames, scanned}
 use Rattle.table_laws.proofs.Tables.{by_bool}
 use Rattle.txn_machine.proofs.Basics.{contains_none}
 use Rattle.txn_log.specs.Damaged.{Header, Page, Device}
@@ -87,7 +87,7 @@ places c d found h is = by (live_on c) refl found.by
 
 -- ---- gates
 
-pub joined_fault : {X : Type 0} (xs : List X) (r : Result (List X) Fault) (e : Fault) → joined xs r ≡ Err e → r ≡ Err e
+pub joined_fault : {X : Type 0} (xs : List X) (r : Result (List X) Fault) (e : Fault) → with_before xs r ≡ Err e → r ≡ Err e
 joined_fault xs (Ok ys) e h = absurd (cc)
 joined_fault xs (Err f) e h = h
 
@@ -132,7 +132,7 @@ frames_gate (suc fuel) place bytes e h = by_bool (get_or bytes 0 0 == 165)
     (λ f. absurd (let n : ◌≡◌ {A = Result (List (ℕ × List ℕ)) Fault} (Ok []) (Err e) = sym (ap outer f) ∙ h in cc))
   where
     inner : Bool → Result (List (ℕ × List ℕ)) Fault
-    inner b = if b then joined ((place + 5, part 5 (big_number 4 (drop 1 bytes)) bytes) ∷ []) (frames fuel (place + frame_size bytes) (drop (frame_size bytes) bytes)) else Err (record { rule = 6; place = place })
+    inner b = if b then with_before ((place + 5, part 5 (big_number 4 (drop 1 bytes)) bytes) ∷ []) (frames fuel (place + frame_size bytes) (drop (frame_size bytes) bytes)) else Err (record { rule = 6; place = place })
 
     outer : Bool → Result (List (ℕ × List ℕ)) Fault
     outer b = if b then inner (holds_block bytes) else Ok []

@@ -9,7 +9,7 @@ use Rattle.log_records.specs.declared.record.Scanned.{Scanned}
 use Rattle.log_records.specs.Spelling.{spelling}
 use Rattle.log_records.specs.Area.{Entry, group, block, blocks, at_place, placed, laid, unplaced}
 use Rattle.log_records.specs.Reading.{record_at}
-use Rattle.log_records.specs.Scan.{Fault, joined, or_seven, with_first, records, frame_size, holds_block, frames, and_then, all_records, of_frames, scanned}
+use Rattle.log_records.specs.Scan.{Fault, with_before, or_seven, with_first, records, frame_size, holds_block, frames, and_then, all_records, of_frames, scanned}
 use Rattle.log_records.proofs.RecordLaws.{IsScanned, record_takes}
 use Rattle.table_laws.proofs.Tables.{by_bool}
 use Rattle.wal_log.proofs.KeptLaws.{block_is}
@@ -24,7 +24,7 @@ none_of bs e = grind (arith, nat_tests)
 ok_same : {X : Type 0} (x y : X) → ◌≡◌ {A = Result X Fault} (Ok x) (Ok y) → x ≡ y
 ok_same x y e = cc
 
-pub joined_ok : {X : Type 0} (xs zs : List X) (r : Result (List X) Fault) → joined xs r ≡ Ok zs → (ys : List X) × (r ≡ Ok ys) × (zs ≡ xs ++ ys)
+pub joined_ok : {X : Type 0} (xs zs : List X) (r : Result (List X) Fault) → with_before xs r ≡ Ok zs → (ys : List X) × (r ≡ Ok ys) × (zs ≡ xs ++ ys)
 joined_ok {X = X} xs zs (Ok ys) h = (ys, refl, sym (ok_same (xs ++ ys) zs h))
 joined_ok xs zs (Err f) h = absurd (cc)
 
@@ -139,13 +139,13 @@ frames_are (suc fuel) place bytes bs ss fits le h k = by_bool (get_or bytes 0 0 
     others = frames fuel (place + frame_size bytes) (drop (frame_size bytes) bytes)
 
     inner : Bool → Result (List (ℕ × List ℕ)) Fault
-    inner b = if b then joined ((place + 5, piece) ∷ []) others else Err (record { rule = 6; place = place })
+    inner b = if b then with_before ((place + 5, piece) ∷ []) others else Err (record { rule = 6; place = place })
 
     outer : Bool → Result (List (ℕ × List ℕ)) Fault
     outer b = if b then inner (holds_block bytes) else Ok []
 
     block_first : (frame_size bytes < length bytes → (ps : List (ℕ × List ℕ)) (ys : List Scanned) → others ≡ Ok ps → all_records ps ≡ Ok ys → AreBlocks (place + frame_size bytes) (drop (frame_size bytes) bytes) ys)
-        → get_or bytes 0 0 ≡ 165 → frame_size bytes < length bytes → joined ((place + 5, piece) ∷ []) others ≡ Ok bs → AreBlocks place bytes ss
+        → get_or bytes 0 0 ≡ 165 → frame_size bytes < length bytes → with_before ((place + 5, piece) ∷ []) others ≡ Ok bs → AreBlocks place bytes ss
     block_first next gate more j =
         let rest = joined_ok ((place + 5, piece) ∷ []) bs others j in
         let both = and_then_ok (records (length piece) (place + 5) piece) (all_records rest.0) ss (ap all_records (sym rest.2) ∙ k) in

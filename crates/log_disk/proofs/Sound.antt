@@ -19,7 +19,7 @@ use Rattle.txn_log.specs.Replay.{Pages}
 use Rattle.txn_log.specs.Fitting.{IsGroup}
 use Rattle.txn_log.specs.Appended.{Image}
 use Rattle.txn_log.specs.Stored.{PageEntry, AreParts, IsPartEntry, IsRowEntry, IsTotalEntry, AllCreate}
-use Rattle.txn_log.specs.Damaged.{Header, Page, Found, Device, FirstBad, FitsDevice, placed_from, found_in, all_found, texts_found, joined, EntryStands, DefinitionFails, Rule, header_lives, format_known, sizes_fit, area_named, first_block_ends, blocks_lie, records_read, map_read, pages_formed, keys_apart, definitions_read, entries_read, FailsAt}
+use Rattle.txn_log.specs.Damaged.{Header, Page, Found, Device, FirstBad, FitsDevice, placed_from, found_in, all_found, texts_found, in_texts, EntryStands, DefinitionFails, Rule, header_lives, format_known, sizes_fit, area_named, first_block_ends, blocks_lie, records_read, map_read, pages_formed, keys_apart, definitions_read, entries_read, FailsAt}
 use Rattle.txn_log.proofs.Placing.{in_rest}
 use Rattle.txn_log.proofs.Printed.{one_statement}
 use Rattle.txn_log.proofs.Standing.{creates_once, row_numbered, total_numbered, in_row}
@@ -145,14 +145,14 @@ module _ (stored : List (Option (List ℕ))) (p : Pages) (a : AreStoredAs stored
     no_definition : (place : ℕ) → DefinitionFails ds place → ⊥
     no_definition = definitions_good a.texts a.few a.short all_parts ds definitions_are p.db.schema a.define.1
 
-    same_schema : (objects : Schema) → AllCreate [] (texts_found (joined ds).1) objects → objects ≡ p.db.schema
+    same_schema : (objects : Schema) → AllCreate [] (texts_found (in_texts ds).1) objects → objects ≡ p.db.schema
     same_schema objects h = creates_once one_statement [] (map concat a.texts) objects p.db.schema
         (subst (λ (xs : List (List ℕ)). AllCreate [] xs objects) (texts_are a.texts a.few a.short all_parts ds definitions_are) h) a.define.1
 
     abbrev EntriesGood : List Found → List Found → Type 0
     EntriesGood earlier fs = (g : Found) → Contains fs g → EntryStands p.db.schema g.entry
 
-    no_entry : (objects : Schema) → AllCreate [] (texts_found (joined ds).1) objects → (f : Found) → FirstBad (λ earlier g. EntryStands objects g.entry → ⊥) [] all f → ⊥
+    no_entry : (objects : Schema) → AllCreate [] (texts_found (in_texts ds).1) objects → (f : Found) → FirstBad (λ earlier g. EntryStands objects g.entry → ⊥) [] all f → ⊥
     no_entry objects h f bad =
         never_first (λ earlier g. EntryStands p.db.schema g.entry → ⊥) EntriesGood (λ earlier y ys good. ((λ never. never (good y (contains_here y ys))), (λ g c. good g (Contains-append_right (y ∷ []) ys g c))))
         [] all f (λ g c. entry_stands g.entry (subst (λ (xs : List PageEntry). Contains xs g.entry) are (contains_map (λ (x : Found). x.entry) all g c)))

@@ -16,7 +16,7 @@ use Rattle.txn_machine.proofs.Holding.{contains_here, contains_next, contains_ma
 use Rattle.iv_meaning.specs.Schema.{Schema}
 use Rattle.txn_log.specs.Replay.{Pages}
 use Rattle.txn_log.specs.Stored.{PageEntry, AllCreate}
-use Rattle.txn_log.specs.Damaged.{Header, Page, Found, Device, FirstBad, FitsDevice, placed_from, all_found, Rule, header_lives, format_known, sizes_fit, area_named, first_block_ends, blocks_lie, records_read, map_read, pages_formed, keys_apart, definitions_read, entries_read, IsNextKey, HasSize, with_next, joined, MakesNext, EntryStands, rule_number, FailsAt, IsDamaged}
+use Rattle.txn_log.specs.Damaged.{Header, Page, Found, Device, FirstBad, FitsDevice, placed_from, all_found, Rule, header_lives, format_known, sizes_fit, area_named, first_block_ends, blocks_lie, records_read, map_read, pages_formed, keys_apart, definitions_read, entries_read, IsNextKey, HasSize, with_next, in_texts, MakesNext, EntryStands, rule_number, FailsAt, IsDamaged}
 use Rattle.txn_log.proofs.Finding.{by_number}
 use Rattle.txn_log.proofs.Placing.{in_rest}
 use Rattle.log_disk.specs.Bears.{all_entries, AreLeaves, StandOnce, AreStoredAs}
@@ -226,7 +226,7 @@ module _ (c : List ℕ) (d : Device) (none : (rule : Rule) (place : ℕ) → IsD
     no_size : (f : Found × Option Found) → FirstBad (λ earlier (g : Found × Option Found). HasSize g.0 g.1 → ⊥) [] (with_next d.definitions) f → ⊥
     no_size f first = never definitions_read f.0.page (inr (inl (no_key, f, refl, first)))
 
-    no_text : (t : ℕ × List ℕ) → FirstBad (λ earlier u. MakesNext earlier u → ⊥) [] (joined d.definitions).1 t → ⊥
+    no_text : (t : ℕ × List ℕ) → FirstBad (λ earlier u. MakesNext earlier u → ⊥) [] (in_texts d.definitions).1 t → ⊥
     no_text t first = never definitions_read t.0 (inr (inr (no_key, no_size, t, refl, first)))
 
     entries_are : map (λ f. f.entry) (all_found d.stored) ≡ all_entries (map (λ p. named room p (map_byte k p c) c) (range_with_len 0 count))
@@ -240,9 +240,9 @@ module _ (c : List ℕ) (d : Device) (none : (rule : Rule) (place : ℕ) → IsD
     stored_there none_stored =
         all_hold IsNextKey [] d.definitions no_key (λ keys.
         all_hold (λ former (p : Found × Option Found). HasSize p.0 p.1) [] (with_next d.definitions) no_size (λ sizes.
-        all_hold MakesNext [] (joined d.definitions).1 no_text (λ make.
+        all_hold MakesNext [] (in_texts d.definitions).1 no_text (λ make.
         let parts = texts_of d.definitions indexed defs.in_order keys (pairs_sizes [] d.definitions sizes) in
-        let objects = all_make [] (joined d.definitions).1 [] refl make in
+        let objects = all_make [] (in_texts d.definitions).1 [] refl make in
         all_hold (λ former (g : Found). EntryStands objects.0 g.entry) [] (all_found d.stored) (λ f first. never entries_read f.page (objects.0, objects.1, f, refl, first)) (λ stand.
         let there = built (map (λ p. named room p (map_byte k p c) c) (range_with_len 0 count)) (commits_of k c) leaves apart (all_found d.stored) d.definitions entries_are defs parts objects.0
         (subst (λ (xs : List (List ℕ)). AllCreate [] xs objects.0) (texts_are parts.texts parts.few parts.short parts.parts d.definitions parts.are) objects.1)

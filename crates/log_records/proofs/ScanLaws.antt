@@ -13,7 +13,7 @@ use Rattle.log_records.specs.declared.fault.ScanFault.{ScanFault}
 use Rattle.log_records.specs.Spelling.{spelling}
 use Rattle.log_records.specs.Area.{Entry, group, block, blocks, Begins, BeginsWith, IsSmall, FitsBlock, at_place, placed, laid, unplaced}
 use Rattle.log_records.specs.Reading.{record_at}
-use Rattle.log_records.specs.Scan.{Fault, Answers, joined, or_seven, with_first, without_rest, records, frame_size, frames, and_then, all_records, of_frames, scanned}
+use Rattle.log_records.specs.Scan.{Fault, Answers, with_before, or_seven, with_first, without_rest, records, frame_size, frames, and_then, all_records, of_frames, scanned}
 use Rattle.iv_types.proofs.ByteNumbers.{IsBytes}
 use Rattle.log_records.proofs.RecordLaws.{record_takes, record_again}
 use Rattle.log_records.proofs.RecordSteps.{records_some, eq_false}
@@ -30,9 +30,9 @@ records_group (suc fuel) place (e ∷ es) le all =
     let whole = length-append (spelling e.number e.entry) (group es) in
     records_some fuel place (spelling e.number e.entry ++ group es) (omega (arith, whole))
     ∙ ap (λ r. with_first (λ read. records fuel read.0.end read.1) (or_seven place r)) (record_again place e.number e.entry (group es) all.0.numbered all.0.fits)
-    ∙ ap (joined (at_place place e ∷ [])) (records_group fuel (place + length (spelling e.number e.entry)) es (omega (arith, le, whole)) all.1)
+    ∙ ap (with_before (at_place place e ∷ [])) (records_group fuel (place + length (spelling e.number e.entry)) es (omega (arith, le, whole)) all.1)
 
-of_joined : (b : ℕ × List ℕ) (xs : List Scanned) (r : Result (List (ℕ × List ℕ)) Fault) → records (length b.1) b.0 b.1 ≡ Ok xs → of_frames (joined (b ∷ []) r) ≡ joined xs (of_frames r)
+of_joined : (b : ℕ × List ℕ) (xs : List Scanned) (r : Result (List (ℕ × List ℕ)) Fault) → records (length b.1) b.0 b.1 ≡ Ok xs → of_frames (with_before (b ∷ []) r) ≡ with_before xs (of_frames r)
 unfolding all_records
 of_joined b xs (Ok bs) is = ap (λ r. and_then r (all_records bs)) is
 of_joined b xs (Err e) is = refl
@@ -59,13 +59,13 @@ module _ (es : List Entry) (rest : List ℕ) (fits : FitsBlock es) (more : 0 < l
   frame_rest : drop (frame_size bytes) bytes ≡ rest
   frame_rest = ap (λ n. drop (5 + n) bytes) length_is ∙ drop_at (165 ∷ (big_bytes 4 (length (group es)) ++ group es)) rest (5 + length (group es)) (omega arith)
 
-  pub frame_step : (fuel place : ℕ) → of_frames (frames (suc fuel) place bytes) ≡ joined (placed (place + 5) es) (of_frames (frames fuel (place + (5 + length (group es))) rest))
+  pub frame_step : (fuel place : ℕ) → of_frames (frames (suc fuel) place bytes) ≡ with_before (placed (place + 5) es) (of_frames (frames fuel (place + (5 + length (group es))) rest))
   unfolding frames
   frame_step fuel place =
-      (λ i. of_frames (if frame_whole i then joined ((place + 5, part 5 (big_number 4 (drop 1 bytes)) bytes) ∷ []) (frames fuel (place + frame_size bytes) (drop (frame_size bytes) bytes)) else Err (record { rule = 6; place = place })))
-      ∙ (λ i. of_frames (joined ((place + 5, frame_part i) ∷ []) (frames fuel (place + frame_size bytes) (frame_rest i))))
+      (λ i. of_frames (if frame_whole i then with_before ((place + 5, part 5 (big_number 4 (drop 1 bytes)) bytes) ∷ []) (frames fuel (place + frame_size bytes) (drop (frame_size bytes) bytes)) else Err (record { rule = 6; place = place })))
+      ∙ (λ i. of_frames (with_before ((place + 5, frame_part i) ∷ []) (frames fuel (place + frame_size bytes) (frame_rest i))))
       ∙ of_joined (place + 5, group es) (placed (place + 5) es) (frames fuel (place + frame_size bytes) rest) (records_group (length (group es)) (place + 5) es (omega arith) fits.small)
-      ∙ ap (λ n. joined (placed (place + 5) es) (of_frames (frames fuel (place + (5 + n)) rest))) length_is
+      ∙ ap (λ n. with_before (placed (place + 5) es) (of_frames (frames fuel (place + (5 + n)) rest))) length_is
 
 pub frames_blocks : (fuel place : ℕ) (groups : List (List Entry)) (tail : List ℕ) → length (blocks groups ++ tail) ≤ fuel → 0 < length tail → get_or tail 0 0 ≢ 165 → AllByRecursion FitsBlock groups
     → of_frames (frames fuel place (blocks groups ++ tail)) ≡ Ok (laid place groups)
@@ -73,14 +73,14 @@ unfolding frames all_records block
 frames_blocks zero place groups tail le more shut all = absurd (omega (arith, length-append (blocks groups) tail))
 frames_blocks (suc fuel) place [] tail le more shut all =
     let closed : (get_or tail 0 0 == 165) ≡ false = eq_false _ 165 shut in
-    (λ i. of_frames (if closed i then (if not (nat_lt (length tail) 5) && not (nat_lt (length tail) (frame_size tail + 1)) then joined ((place + 5, part 5 (big_number 4 (drop 1 tail)) tail) ∷ []) (frames fuel (place + frame_size tail) (drop (frame_size tail) tail)) else Err (record { rule = 6; place = place })) else Ok []))
+    (λ i. of_frames (if closed i then (if not (nat_lt (length tail) 5) && not (nat_lt (length tail) (frame_size tail + 1)) then with_before ((place + 5, part 5 (big_number 4 (drop 1 tail)) tail) ∷ []) (frames fuel (place + frame_size tail) (drop (frame_size tail) tail)) else Err (record { rule = 6; place = place })) else Ok []))
 frames_blocks (suc fuel) place (es ∷ groups) tail le more shut all =
     let rest = blocks groups ++ tail in
     let longer : 0 < length rest = omega (arith, length-append (blocks groups) tail) in
     let whole : blocks (es ∷ groups) ++ tail ≡ 165 ∷ (big_bytes 4 (length (group es)) ++ group es) ++ rest = append_assoc (block (group es)) (blocks groups) tail in
     ap (λ (l : List ℕ). of_frames (frames (suc fuel) place l)) whole
     ∙ frame_step es rest all.0 longer fuel place
-    ∙ ap (joined (placed (place + 5) es)) (frames_blocks fuel _ groups tail (omega (arith, le, ap length whole, bytes_length es rest all.0 longer)) more shut all.1)
+    ∙ ap (with_before (placed (place + 5) es)) (frames_blocks fuel _ groups tail (omega (arith, le, ap length whole, bytes_length es rest all.0 longer)) more shut all.1)
 
 -- an area that begins with blocks is scanned as their records
 pub scanned_begins : (groups : List (List Entry)) (area : List ℕ) → Begins groups area → AllByRecursion FitsBlock groups → scanned area ≡ Ok (laid 0 groups)

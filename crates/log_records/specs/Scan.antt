@@ -24,9 +24,9 @@ Answers view (Ok x) read = read ≡ Ok (view x)
 Answers view (Err e) read = Fails e read
 
 -- these and then those that are read
-abbrev pub joined : {A : Type 0} → List A → Result (List A) Fault → Result (List A) Fault
-joined xs (Ok ys) = Ok (xs ++ ys)
-joined xs (Err e) = Err e
+abbrev pub with_before : {A : Type 0} → List A → Result (List A) Fault → Result (List A) Fault
+with_before xs (Ok ys) = Ok (xs ++ ys)
+with_before xs (Err e) = Err e
 
 -- the record that begins the bytes, whose first byte has this place, and the bytes after it; else rule 7 fails there
 abbrev pub or_seven : ℕ → Option (Scanned × List ℕ) → Result (Scanned × List ℕ) Fault
@@ -38,7 +38,7 @@ without_rest (Ok read) = Ok read.0
 without_rest (Err e) = Err e
 
 abbrev pub with_first : (Scanned × List ℕ → Result (List Scanned) Fault) → Result (Scanned × List ℕ) Fault → Result (List Scanned) Fault
-with_first others (Ok read) = joined (read.0 ∷ []) (others read)
+with_first others (Ok read) = with_before (read.0 ∷ []) (others read)
 with_first others (Err e) = Err e
 
 -- the records of one block, of at most so many bytes
@@ -67,12 +67,12 @@ frames zero place bytes = Ok []
 frames (suc fuel) place bytes =
     if get_or bytes 0 0 == 165 then
     (if holds_block bytes
-    then joined ((place + 5, part 5 (big_number 4 (drop 1 bytes)) bytes) ∷ []) (frames fuel (place + frame_size bytes) (drop (frame_size bytes) bytes))
+    then with_before ((place + 5, part 5 (big_number 4 (drop 1 bytes)) bytes) ∷ []) (frames fuel (place + frame_size bytes) (drop (frame_size bytes) bytes))
     else Err (record { rule = 6; place = place }))
     else Ok []
 
 abbrev pub and_then : Result (List Scanned) Fault → Result (List Scanned) Fault → Result (List Scanned) Fault
-and_then (Ok xs) r = joined xs r
+and_then (Ok xs) r = with_before xs r
 and_then (Err e) r = Err e
 
 unfoldable pub all_records : List (ℕ × List ℕ) → Result (List Scanned) Fault

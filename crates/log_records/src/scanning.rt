@@ -3,7 +3,7 @@ ghost use Rattle.std.specs.Prelude.{◌≡◌, ◌+◌, ◌≤◌, ◌<◌, ◌^
 ghost use Rattle.std.specs.List.{AllByRecursion};
 ghost use Rattle.log_records.specs.Area.{Entry, unplaced, Begins, BeginsWith, FitsBlock, at_place, laid};
 ghost use Rattle.log_records.specs.Reading.{record_at};
-ghost use Rattle.log_records.specs.Scan.{Answers, without_rest, Fails, joined, or_seven, records, frames, framed, holds_block, frame_size, scanned, all_records};
+ghost use Rattle.log_records.specs.Scan.{Answers, without_rest, Fails, with_before, or_seven, records, frames, framed, holds_block, frame_size, scanned, all_records};
 ghost use Rattle.log_records.specs.declared.fault.ScanFault.TheVariants as faults;
 
 use crate::fault::Unread;
@@ -42,7 +42,7 @@ fn read_block(
     out: &mut Vec<Scanned>,
 ) -> Result<(), ScanFault>
     requires { place + length block.now < 2 ^ 64 }
-    ensures ok { IfOk result (λ _. joined out.old.items (records (length block.now) place block.now) ≡ Ok out.new.items) }
+    ensures ok { IfOk result (λ _. with_before out.old.items (records (length block.now) place block.now) ≡ Ok out.new.items) }
     ensures err { IfErr result (λ e. Fails e (records (length block.now) place block.now)) }
 {
     let mut at = place;

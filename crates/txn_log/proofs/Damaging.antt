@@ -5,7 +5,7 @@ use mathlib.Core.Logic.{inl, inr}
 use Rattle.std.proofs.Common.{arith}
 use Rattle.iv_types.specs.Grammar.{OneStatement}
 use Rattle.std.proofs.lemmas.Bool.Decides.{leb_tells}
-use Rattle.txn_log.specs.Damaged.{Header, Page, Found, Device, FirstBad, placed_from, all_found, IsNextKey, with_next, HasSize, joined, texts_found, MakesNext, EntryStands, DefinitionFails, Rule, rule_number, header_lives, format_known, sizes_fit, area_named, first_block_ends, blocks_lie, records_read, map_read, pages_formed, keys_apart, definitions_read, entries_read, FailsAt, OneDamageLaw}
+use Rattle.txn_log.specs.Damaged.{Header, Page, Found, Device, FirstBad, placed_from, all_found, IsNextKey, with_next, HasSize, in_texts, texts_found, MakesNext, EntryStands, DefinitionFails, Rule, rule_number, header_lives, format_known, sizes_fit, area_named, first_block_ends, blocks_lie, records_read, map_read, pages_formed, keys_apart, definitions_read, entries_read, FailsAt, OneDamageLaw}
 use Rattle.txn_log.proofs.Standing.{creates_once}
 
 first_once : {X : Type 0} (bad : List X → X → Type 0) (earlier xs : List X) (x y : X) → FirstBad bad earlier xs x → FirstBad bad earlier xs y → x ≡ y
@@ -41,7 +41,7 @@ definition_once fs a b (inr (inl h)) (inr (inr k)) = absurd (k.1 h.1 h.3)
 definition_once fs a b (inr (inr h)) (inl k) = absurd (h.0 k.0 k.2)
 definition_once fs a b (inr (inr h)) (inr (inl k)) = absurd (h.1 k.1 k.3)
 definition_once fs a b (inr (inr h)) (inr (inr k)) =
-    h.3 ∙ (ap (λ (t : ℕ × List ℕ). t.0) (first_once (λ earlier u. MakesNext earlier u → ⊥) [] (joined fs).1 h.2 k.2 h.4 k.4) ∙ sym k.3)
+    h.3 ∙ (ap (λ (t : ℕ × List ℕ). t.0) (first_once (λ earlier u. MakesNext earlier u → ⊥) [] (in_texts fs).1 h.2 k.2 h.4 k.4) ∙ sym k.3)
 
 module _ (alone : OneStatement) (d : Device) where
   place_once : (rule : Rule) (a b : ℕ) → FailsAt d rule a → FailsAt d rule b → a ≡ b
@@ -59,7 +59,7 @@ module _ (alone : OneStatement) (d : Device) where
   place_once keys_apart a b h k = h.1 ∙ (ap (λ (f : Found). f.page) (first_once _ [] _ h.0 k.0 h.2 k.2) ∙ sym k.1)
   place_once definitions_read a b h k = definition_once d.definitions a b h k
   place_once entries_read a b h k =
-      let same : h.0 ≡ k.0 = creates_once alone [] (texts_found (joined d.definitions).1) h.0 k.0 h.1 k.1 in
+      let same : h.0 ≡ k.0 = creates_once alone [] (texts_found (in_texts d.definitions).1) h.0 k.0 h.1 k.1 in
       h.3 ∙ (ap (λ (f : Found). f.page) (first_once (λ earlier g. EntryStands k.0 g.entry → ⊥) [] (all_found d.stored) h.2 k.2
       (subst (λ objects. FirstBad (λ earlier g. EntryStands objects g.entry → ⊥) [] (all_found d.stored) h.2) same h.4) k.4) ∙ sym k.3)
 

@@ -116,11 +116,11 @@ HasSize f None = length f.entry.1 ≤ part_bytes
 HasSize f (Some g) = (IsFurther f g → length f.entry.1 ≡ part_bytes) × (length f.entry.1 ≤ part_bytes)
 
 -- the texts of definitions, each with the place of its first part's page, and what comes before the first such part
-abbrev pub joined : List Found → List ℕ × List (ℕ × List ℕ)
-joined [] = ([], [])
-joined (f ∷ fs) =
-    if bytes_eq (drop 4 (key_in f)) (big_bytes 2 0) then ([], (f.page, f.entry.1 ++ (joined fs).0) ∷ (joined fs).1)
-    else (f.entry.1 ++ (joined fs).0, (joined fs).1)
+abbrev pub in_texts : List Found → List ℕ × List (ℕ × List ℕ)
+in_texts [] = ([], [])
+in_texts (f ∷ fs) =
+    if bytes_eq (drop 4 (key_in f)) (big_bytes 2 0) then ([], (f.page, f.entry.1 ++ (in_texts fs).0) ∷ (in_texts fs).1)
+    else (f.entry.1 ++ (in_texts fs).0, (in_texts fs).1)
 
 abbrev pub texts_found : List (ℕ × List ℕ) → List (List ℕ)
 texts_found ts = map (λ t. t.1) ts
@@ -147,7 +147,7 @@ DefinitionFails fs place =
     × (f : Found × Option Found) × (place ≡ f.0.page) × FirstBad (λ earlier g. HasSize g.0 g.1 → ⊥) [] (with_next fs) f)
     ⊎ (((f : Found) → FirstBad (λ earlier g. IsNextKey earlier g → ⊥) [] fs f → ⊥)
     × ((f : Found × Option Found) → FirstBad (λ earlier g. HasSize g.0 g.1 → ⊥) [] (with_next fs) f → ⊥)
-    × (t : ℕ × List ℕ) × (place ≡ t.0) × FirstBad (λ earlier u. MakesNext earlier u → ⊥) [] (joined fs).1 t)
+    × (t : ℕ × List ℕ) × (place ≡ t.0) × FirstBad (λ earlier u. MakesNext earlier u → ⊥) [] (in_texts fs).1 t)
 
 pub data Rule : Type 0 where
   header_lives : Rule
@@ -191,7 +191,7 @@ FailsAt d pages_formed place = (p : Page) × (place ≡ p.place) × FirstBad (λ
 FailsAt d keys_apart place = (f : Found) × (place ≡ f.page) × FirstBad (λ earlier g. Contains (map (λ e. e.entry.0) earlier) g.entry.0) [] (all_found d.stored) f
 FailsAt d definitions_read place = DefinitionFails d.definitions place
 FailsAt d entries_read place =
-    (objects : Schema) × AllCreate [] (texts_found (joined d.definitions).1) objects
+    (objects : Schema) × AllCreate [] (texts_found (in_texts d.definitions).1) objects
     × (f : Found) × (place ≡ f.page) × FirstBad (λ earlier g. EntryStands objects g.entry → ⊥) [] (all_found d.stored) f
 
 -- this rule is the least that fails

@@ -1,7 +1,7 @@
 use Rattle.std.proofs.Common.{◌≡◌, ◌+◌, ◌-◌, ◌<◌, ◌≤◌, ◌==◌, ℕ, List, length, drop, get_or, map, length-drop, false, true, sym, ◌∙◌, ap, subst, arith}
 use Rattle.std.proofs.lemmas.List.{take_rest}
 use Rattle.std.specs.List.{AllByRecursion}
-use Rattle.log_records.specs.Scan.{joined, frames, framed, holds_block, frame_size}
+use Rattle.log_records.specs.Scan.{with_before, frames, framed, holds_block, frame_size}
 use Rattle.log_records.proofs.FrameSteps.{found_shut, found_last, found_bad, found_more, all_push}
 use Rattle.log_records.proofs.scanning.find_blocks.Goals as goal
 
@@ -30,7 +30,7 @@ loop-preserved c =
     record {
       inside = subst (AllByRecursion (λ (p : ℕ × ℕ). p.0 + p.1 ≤ length area)) (sym c.in_ok-push.ensures.items) (all_push (λ (p : ℕ × ℕ). p.0 + p.1 ≤ length area) c.loop.found.items (c.loop.place + 5, c.in-Some.size - 5) c.loop.invariant.inside (omega (arith, is.1, is.2, length-drop c.loop.place area)));
       within = omega (arith, is.2, length-drop c.loop.place area);
-      steps = ap (λ l. joined (map (framed area) l) (frames (length area - (c.loop.counter + 1)) (c.loop.place + c.in-Some.size) (drop (c.loop.place + c.in-Some.size) area))) c.in_ok-push.ensures.items
+      steps = ap (λ l. with_before (map (framed area) l) (frames (length area - (c.loop.counter + 1)) (c.loop.place + c.in-Some.size) (drop (c.loop.place + c.in-Some.size) area))) c.in_ok-push.ensures.items
           ∙ found_more c.loop.place area c.loop.found.items (length area) c.loop.counter _ c.loop.invariant.steps c.in-Some.size c.loop-test.true
           (subst (λ (l : List ℕ). (get_or l 0 0 == 165) ≡ true) same (sym c.is_open.ensures ∙ c.if-not-is_open.false)) is.0 is.1;
     }

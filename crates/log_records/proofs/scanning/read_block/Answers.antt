@@ -1,6 +1,6 @@
 use Rattle.std.proofs.Common.{◌+◌, ◌-◌, List, length, ap, sym, ◌∙◌, arith}
 use Rattle.log_records.specs.declared.record.Scanned.{Scanned}
-use Rattle.log_records.specs.Scan.{joined, records}
+use Rattle.log_records.specs.Scan.{with_before, records}
 use Rattle.log_records.proofs.RecordSteps.{at_end, at_last, at_bad, at_more, eq_of, more_of}
 use Rattle.log_records.proofs.scanning.read_block.Goals as goal
 
@@ -21,7 +21,7 @@ returns-in-Err-clause-err c =
 pub loop-preserved : goal.loop-preserved
 loop-preserved c = record {
   ends = c.in-Ok.ensures.ends ∙ c.loop.invariant.ends;
-  steps = ap (λ (l : List Scanned). joined l (records (length c.args.block.now - (c.loop.counter + 1)) c.in-Ok.found.0.end c.in-Ok.found.1.now)) c.in_ok-push.ensures.items
+  steps = ap (λ (l : List Scanned). with_before l (records (length c.args.block.now - (c.loop.counter + 1)) c.in-Ok.found.0.end c.in-Ok.found.1.now)) c.in_ok-push.ensures.items
       ∙ at_more c.args.place c.loop.at c.loop.rest.now c.args.block.now c.loop.out.items c.args.out.now.items (length c.args.block.now) c.loop.counter c.loop.invariant.steps
       c.in-Ok.found.0 c.in-Ok.found.1.now c.loop-test.true (more_of (length c.loop.rest.now) (sym c.is_empty.ensures ∙ c.if-is_empty.false)) c.in-Ok.ensures.exact;
 }
