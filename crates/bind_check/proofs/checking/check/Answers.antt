@@ -10,6 +10,12 @@ use Rattle.bind_check.specs.Checked.{every_test}
 use Rattle.bind_check.proofs.TestLemmas.{insert_read, select_is, update_read, view_is}
 use Rattle.bind_check.proofs.checking.check.Goals as goal
 
+pub returns-in-Table : goal.returns-in-Table
+returns-in-Table c =
+    subst (λ r. IsMeant (λ u. u) c.check_table.result (passed (every_test (schema_of c.args.catalog.now) (statement_size (statement_tree c.args.statement.now)) (resolved_seen r)))) (sym c.in-Table.is)
+    (subst (λ primary. IsMeant (λ u. u) c.check_table.result (passed (every_test (schema_of c.args.catalog.now) (statement_size (statement_tree c.args.statement.now)) (meant.table c.in-Table.name.now c.in-Table.columns.now primary))))
+    c.as_slice.ensures c.check_table.ensures)
+
 pub returns-in-Index : goal.returns-in-Index
 returns-in-Index c =
     subst (λ r. IsMeant (λ u. u) c.check_index.result (passed (every_test (schema_of c.args.catalog.now) (statement_size (statement_tree c.args.statement.now)) (resolved_seen r)))) (sym c.in-Index.is)
