@@ -15,7 +15,7 @@ use Rattle.iv_types.specs.declared.refusal.EngineRefusal.{EngineRefusal}
 use Rattle.iv_types.specs.declared.refusal.EngineRefusal.TheVariants as refusal
 use Rattle.iv_types.specs.declared.reply.Reply.{Reply}
 use Rattle.iv_types.specs.declared.reply.Reply.TheVariants as reply
-use Rattle.iv_types.specs.Syntax.{StatementTree, create_table, create_index, create_view, insert, update, delete, select, begin, commit, rollback, savepoint}
+use Rattle.iv_types.specs.Syntax.{StatementTree, create_table, create_index, create_view}
 use Rattle.iv_types.specs.Trees.{statement_tree}
 use Rattle.iv_meaning.specs.Database.{Database}
 use Rattle.iv_meaning.specs.Schema.{Object, as_table}
