@@ -15,8 +15,8 @@ use Rattle.iv_types.specs.declared.statement.ColumnDef.{ColumnDef}
 use Rattle.iv_types.specs.declared.statement.Relation.{Relation}
 use Rattle.iv_types.specs.Printing.{statement_size}
 use Rattle.iv_types.specs.Syntax as s
-use Rattle.iv_types.specs.Syntax.{Tree, SetTree, StatementTree, QueryTree, JoinTree}
-use Rattle.iv_meaning.specs.Schema.{Schema, Object, named, kind_at, object_columns, object_kinds}
+use Rattle.iv_types.specs.Syntax.{Tree, StatementTree, QueryTree, JoinTree}
+use Rattle.iv_meaning.specs.Schema.{Schema, Object, named, object_columns, object_kinds}
 use Rattle.iv_meaning.specs.Resolving.{how_many, NamedItem, and_then, each, perhaps, Column, Scope, columns_from, columns_seen, called, scope_from, scope_of_one, only, places_where, column_by, column_of, place_of, expression, known, new_object, fresh, Joined, ResolvedQuery, items_resolved, source, joins_resolved, query_resolved, Resolved, table, index, view, insert, update, delete, select, control, assignment, resolved}
 use Rattle.iv_meaning.specs.Types.{sources_of, kinds_seen, well_typed}
 use Rattle.iv_meaning.specs.Tests.{Test, tests}
@@ -189,8 +189,8 @@ query_is of_view objects query q e =
       group = λ kinds.
           let all : List (List Kind) = map (object_kinds objects) (b.0 ∷ map (λ (j : Joined). j.object) c.0) in
           each_so (column_of scope) (IsKnown all)
-              (λ (ref : Ref) (place : ColumnAt) f. column_so (IsKnown all) scope (seen_known objects [] 0 refl relations (b.0 ∷ map (λ (j : Joined). j.object) c.0) stand kinds) ref.qualifier ref.name place f)
-              query.group g.0 g.1;
+          (λ (ref : Ref) (place : ColumnAt) f. column_so (IsKnown all) scope (seen_known objects [] 0 refl relations (b.0 ∷ map (λ (j : Joined). j.object) c.0) stand kinds) ref.qualifier ref.name place f)
+          query.group g.0 g.1;
     })
 
 -- ---- statements
@@ -234,9 +234,11 @@ resolved_so objects (s.create_table name columns primary) to e =
     let a = went_on (new_object objects name) (λ new. and_then (fresh [] names) (λ distinct. and_then places (λ ps. Ok (table name columns ps)))) to e in
     let b = went_on (fresh [] names) (λ distinct. and_then places (λ ps. Ok (table name columns ps))) to a.2 in
     let c = went_on places (λ ps. Ok (table name columns ps)) to b.2 in
-    subst (Both objects (s.create_table name columns primary)) (ok_same (table name columns c.0) to c.2)
-    (tt, each_so (place_of (scope_of_one name names)) (λ p. p < length columns)
-        (λ of p f. subst (λ n. p < n) (length-map columns (λ (x : ColumnDef). x.name)) (place_within name names of p f)) primary c.0 c.1)
+    subst (Both objects (s.create_table name columns primary)) (ok_same (table name columns c.0) to c.2) (
+      tt,
+      each_so (place_of (scope_of_one name names)) (λ p. p < length columns)
+          (λ of p f. subst (λ n. p < n) (length-map columns (λ (x : ColumnDef). x.name)) (place_within name names of p f)) primary c.0 c.1,
+    )
 resolved_so objects (s.create_index name target columns) to e =
     let Places : Object → Result (List ℕ) Refusal = λ object. each (place_of (scope_of_one target (object_columns object))) columns in
     let a = went_on (new_object objects name) (λ new. and_then (known objects target) (λ object. and_then (Places object) (λ ps. Ok (index name object ps)))) to e in

@@ -10,7 +10,7 @@ use Rattle.iv_types.specs.declared.value.Kind.{Kind}
 use Rattle.iv_types.specs.declared.statement.ColumnDef.{ColumnDef}
 use Rattle.iv_types.specs.declared.catalog.TableDef.{TableDef}
 use Rattle.iv_types.specs.declared.catalog.IndexDef.{IndexDef}
-use Rattle.iv_types.specs.Syntax.{Tree, StatementTree}
+use Rattle.iv_types.specs.Syntax.{Tree}
 use Rattle.iv_meaning.specs.Schema.{Schema, Object, table, index, view, numbered, as_table, kinds_of_table, object_kinds}
 use Rattle.iv_meaning.specs.Database.{Database}
 use Rattle.iv_meaning.specs.Shape.{terms, is_empty, joins_tables, object_number}
