@@ -1,8 +1,9 @@
 -- The rows that entries of a map are, and those that the plain meaning gives.
-use Rattle.std.specs.Prelude.{◌≡◌, ◌≢◌, ℕ, zero, suc, ◌==◌, Bool, true, false, cond, T, List, [], ◌∷◌, map, filter, Some, None, slice_get}
+use Rattle.std.specs.Prelude.{◌≡◌, ◌≢◌, ℕ, zero, suc, ◌==◌, Bool, true, false, cond, T, List, [], ◌∷◌, map, filter, Some, None, slice_get, Option, length, IfSome, ◌+◌}
 use Rattle.std.specs.Option.{option_map}
 use Rattle.std.proofs.Common.{arith}
 use Rattle.std.proofs.lemmas.Bool.Decides.{nat_tests}
+use Rattle.std.proofs.lemmas.List.Sums.{sum_by-cons}
 use mathlib.Core.Path.{refl, sym, ap, subst, ◌∙◌}
 use Rattle.std.specs.FinMap.{FinMap, IsAntisymmetric, get, entries, find, is_sorted, from_entries, get-entries, entries_sorted, get-from_entries}
 use Rattle.std.specs.FinMap.Entries.{below_all, same_entries}
@@ -29,7 +30,7 @@ use Rattle.table_laws.specs.Place.{Place, place_cmp}
 use Rattle.table_laws.specs.Table.{rows_where}
 use Rattle.table_laws.proofs.Place.{place_cmp_total, place_cmp-IsAntisymmetric}
 use Rattle.table_laws.proofs.Tables.{by_bool, other_key}
-use Rattle.table_store.specs.Stored.{stored, as_table, table_of, HoldsTable, Decode, between}
+use Rattle.table_store.specs.Stored.{stored, as_table, table_of, StandsUnder, HoldsTable, AreRows, Decode, between, noted_row, noted_entries, noted_rows}
 use Rattle.table_store.proofs.Places.{first, second, both, below, first_below, rest_sorted, equal}
 use Rattle.table_store.proofs.Maps.{by_bytes, bytes_same}
 
@@ -42,7 +43,7 @@ abbrev pub Each : {K X : Type 0} → (K → X → Type 0) → List (K × X) → 
 Each P [] = Unit {0}
 Each P (e ∷ es) = P e.0 e.1 × Each P es
 
-each_filter : {K X : Type 0} (P : K → X → Type 0) (test : K × X → Bool) (es : List (K × X)) → Each P es → Each P (filter test es)
+pub each_filter : {K X : Type 0} (P : K → X → Type 0) (test : K × X → Bool) (es : List (K × X)) → Each P es → Each P (filter test es)
 each_filter P test [] h = tt
 each_filter P test (e ∷ es) h = elim (test e) as (λ b. Each P (cond b (e ∷ filter test es) (filter test es))) [
   | true ↦ (h.0, each_filter P test es h.1)
@@ -59,7 +60,7 @@ module _ {K : Type 0} {R : K → K → Ordering} (o : IsTotalOrder R) (same : Is
       (λ f. ap (λ b. cond b (Some e.1) (find R k es)) f ∙ is)
 
   -- what holds of all that is found holds of each entry
-  each_found : (P : K → X → Type 0) (es : List (K × X)) → T (is_sorted R es) → ((k : K) (x : X) → find R k es ≡ Some x → P k x) → Each P es
+  pub each_found : (P : K → X → Type 0) (es : List (K × X)) → T (is_sorted R es) → ((k : K) (x : X) → find R k es ≡ Some x → P k x) → Each P es
   each_found P [] s h = tt
   each_found P (e ∷ es) s h = (
     h e.0 e.1 (ap (λ r. cond (is_eq r) (Some e.1) (find R e.0 es)) (tied_itself o e.0)),
@@ -76,18 +77,18 @@ module _ {K : Type 0} (R : K → K → Ordering) {X Y : Type 0} (f : X → Y) wh
   changed_below k [] h = tt
   changed_below k (e ∷ es) h = both _ _ (first _ _ h) (changed_below k es (second _ _ h))
 
-  changed_sorted : (es : List (K × X)) → T (is_sorted R es) → T (is_sorted R (changed es))
+  pub changed_sorted : (es : List (K × X)) → T (is_sorted R es) → T (is_sorted R (changed es))
   changed_sorted [] s = tt
   changed_sorted (e ∷ es) s = both _ _ (changed_below e.0 es (first_below R e es s)) (changed_sorted es (rest_sorted R e es s))
 
-  find_changed : (q : K) (es : List (K × X)) → find R q (changed es) ≡ option_map f (find R q es)
+  pub find_changed : (q : K) (es : List (K × X)) → find R q (changed es) ≡ option_map f (find R q es)
   find_changed q [] = refl
   find_changed q (e ∷ es) = elim (eq_by_cmp R q e.0) as (λ b. cond b (Some (f e.1)) (find R q (changed es)) ≡ option_map f (cond b (Some e.1) (find R q es))) [
     | true ↦ refl
     | false ↦ find_changed q es
   ]
 
-  filter_changed : (test : K → Bool) (es : List (K × X)) → filter (λ (e : K × Y). test e.0) (changed es) ≡ changed (filter (λ (e : K × X). test e.0) es)
+  pub filter_changed : (test : K → Bool) (es : List (K × X)) → filter (λ (e : K × Y). test e.0) (changed es) ≡ changed (filter (λ (e : K × X). test e.0) es)
   filter_changed test [] = refl
   filter_changed test (e ∷ es) = elim (test e.0) as (λ b. cond b ((e.0, f e.1) ∷ filter (λ (e : K × Y). test e.0) (changed es)) (filter (λ (e : K × Y). test e.0) (changed es))
       ≡ changed (cond b (e ∷ filter (λ (e : K × X). test e.0) es) (filter (λ (e : K × X). test e.0) es))) [
@@ -171,6 +172,51 @@ rows_are rows t m holds one interval list told =
     (each_filter _ (λ e. lies_in e.0 interval) (entries (by_key rows t m holds)) (each_fits rows t m holds))
     (subst (λ (l : List Entry). Decode t l list) whole told)
 
+-- ---- one row
+
+-- the row whose bytes stand under a key stands under it
+pub row_stands : OneSpelling value_bytes → (t : TableDef) (m : Map) → AreRows t m → (key : List ℕ) (row : Row) → FitAll (kinds_of t) row
+    → get m key ≡ Some (row_bytes (kinds_of t) row) → StandsUnder t key row
+row_stands one t m are key row fits is =
+    let s = are key (row_bytes (kinds_of t) row) is in
+    let same : row ≡ s.0 = one (kinds_of t) row s.0 fits s.1.0 s.2 in
+    subst (StandsUnder t key) (sym same) s.1
+
+row_found : OneSpelling value_bytes → (t : TableDef) (key : List ℕ) (found row : Option Row) → IfSome found (StandsUnder t key) → IfSome row (FitAll (kinds_of t)) → stored t found ≡ stored t row → found ≡ row
+row_found one t key None None f g e = refl
+row_found one t key None (Some row) f g e = absurd (cc)
+row_found one t key (Some found) None f g e = absurd (cc)
+row_found one t key (Some found) (Some row) f g e = ap Some (one (kinds_of t) found row f.0 g (some_same _ _ e))
+
+fitting_found : (rows : Rows) (t : TableDef) (m : Map) → HoldsTable rows t m → (key : List ℕ) (found : Option Row) → get rows (t.number, key) ≡ found → IfSome found (StandsUnder t key)
+fitting_found rows t m holds key None is = tt
+fitting_found rows t m holds key (Some row) is = holds.fitting key row is
+
+-- the row under a key is the one that its bytes are
+pub row_is : OneSpelling value_bytes → (rows : Rows) (t : TableDef) (m : Map) → HoldsTable rows t m → (key : List ℕ) (row : Option Row) → IfSome row (FitAll (kinds_of t))
+    → get m key ≡ stored t row → get rows (t.number, key) ≡ row
+row_is one rows t m holds key row fits is =
+    row_found one t key (get rows (t.number, key)) row (fitting_found rows t m holds key (get rows (t.number, key)) refl) fits (sym (holds.same key) ∙ is)
+
+-- ---- what rows count in a note
+
+noted_changed : (t : TableDef) (es : List (List ℕ × Row)) → noted_entries (changed by_bytes (row_bytes (kinds_of t)) es) ≡ noted_rows t (map (λ e. e.1) es)
+noted_changed t [] = refl
+noted_changed t (e ∷ es) =
+    omega (
+      arith,
+      sum_by-cons (λ (x : Entry). length x.1 + noted_row) (e.0, row_bytes (kinds_of t) e.1) (changed by_bytes (row_bytes (kinds_of t)) es),
+      sum_by-cons (λ (row : Row). length (row_bytes (kinds_of t) row) + noted_row) e.1 (map (λ x. x.1) es),
+      noted_changed t es,
+    )
+
+pub noted_are : (db : Database) (index : ℕ) (t : TableDef) (m : Map) (interval : Interval) → schema.numbered db.schema index ≡ Some (schema.table t) → HoldsTable db.rows t m
+    → noted_entries (between interval (entries m)) ≡ noted_rows t (read db index interval)
+noted_are db index t m interval is holds =
+    let all = entries (by_key db.rows t m holds) in
+    ap noted_entries (ap (between interval) (encoded db.rows t m holds) ∙ filter_changed by_bytes (row_bytes (kinds_of t)) (λ k. lies_in k interval) all)
+    ∙ (noted_changed t (filter (λ e. lies_in e.0 interval) all) ∙ sym (ap (λ o. noted_rows t (object_rows db o interval)) is))
+
 -- ---- the table in the schema
 
 table_object : (d : Definition) (t : TableDef) → as_table (Some d) ≡ Some t → object_of d ≡ schema.table t
@@ -183,7 +229,7 @@ table_at [] n t is = absurd (cc)
 table_at (d ∷ ds) zero t is = ap Some (table_object d t is)
 table_at (d ∷ ds) (suc n) t is = table_at ds n t is
 
-in_schema : (ds : Definitions) (n : ℕ) (t : TableDef) → table_of ds n ≡ Some t → schema.numbered (schema_of ds) n ≡ Some (schema.table t)
+pub in_schema : (ds : Definitions) (n : ℕ) (t : TableDef) → table_of ds n ≡ Some t → schema.numbered (schema_of ds) n ≡ Some (schema.table t)
 in_schema ds zero t is = absurd (cc)
 in_schema ds (suc n) t is = table_at ds n t is
 

@@ -7,3 +7,5 @@ pub mod Walks
 pub mod Rows
 pub mod Fresh
 pub mod Staging
+pub mod IndexKeys
+pub mod IndexRows

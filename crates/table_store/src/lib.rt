@@ -2,6 +2,7 @@
 #![tactic(auto)]
 
 mod entry_list;
+mod keys;
 mod list_maps;
 mod stored;
 mod tables;

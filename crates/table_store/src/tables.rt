@@ -1,23 +1,29 @@
 //! Tables over sorted maps.
-ghost use Rattle.std.specs.Prelude.{◌≡◌, ℕ, ◌-◌, ◌^◌, ◌≤◌, min, Some, IfOk, IfSome, OnOk, OnErr};
+ghost use Rattle.std.specs.Prelude.{◌≡◌, ℕ, ◌+◌, ◌-◌, ◌^◌, ◌≤◌, min, length, List, Some, IfOk, IfSome, OnOk, OnErr};
 ghost use Rattle.std.specs.FinMap as map;
 ghost use Rattle.std.specs.Borrow.{Lends, sem};
-ghost use Rattle.iv_types.specs.Encoding.{kinds_of};
+ghost use Rattle.iv_types.specs.Encoding.{kinds_of, row_bytes};
 ghost use Rattle.iv_types.specs.Maps.{used};
 ghost use Rattle.iv_meaning.specs.Objects.{schema_of};
-ghost use Rattle.iv_meaning.specs.Database.{Database};
+ghost use Rattle.iv_types.specs.declared.value.Value.{Value};
+ghost use Rattle.iv_types.specs.declared.catalog.TableDef.{TableDef};
+ghost use Rattle.iv_meaning.specs.Database.{Database, Rows};
 ghost use Rattle.iv_meaning.specs.View as view;
-ghost use Rattle.table_store.specs.Stored.{stored, entries_of, HoldsTable, AreRows, Decode, between, before, CanPut, HasRoom, Sets, IsChange, IsKept, CanTakeBack, IsTableAnd, OfTable, SetsRow};
+ghost use Rattle.table_store.specs.Stored.{stored, entries_of, StandsUnder, HoldsTable, HoldsRead, CanRead, IsEntryOf, AreEntries, Follow, AreRows, noted_row, noted_entries, noted_rows, listed_table, Decode, between, before, CanPut, HasRoom, Sets, IsChange, IsKept, CanTakeBack, IsTableAnd, OfTable, SetsRow};
 
+use crate::keys::primary_part;
 use crate::stored::{bytes_of, copy_of, entry_of, row_of, table_of};
 use iv_types::{
-    Bytes, Catalog, Change, IndexEntry, Interval, Kept, NoMemory, Row, RowList, SortedMaps,
-    TableDef,
+    Bytes, Catalog, Change, Definition, IndexDef, IndexEntry, Interval, Kept, NoMemory, Row,
+    RowList, SortedMaps, TableDef,
 };
-use row_codec::row_law;
+use row_codec::{key_law, row_law};
 use std::alloc::Global;
 use std::cmp::Ordering;
 use std::marker::Model;
+
+// What a row counts in a note, besides its bytes.
+const NOTED_ROW: u64 = 16;
 
 // Whether the key is before the high end, where there is one.
 fn is_before(key: &[u8], high: &Option<Bytes>) -> bool
@@ -49,6 +55,100 @@ fn rows_between<M: SortedMaps>(
         next = maps.first_after(table.number, key);
     }
     Ok(rows)
+}
+
+// The row of an entry of an index that CREATE INDEX made.
+fn row_behind<M: SortedMaps>(
+    alloc: Global,
+    maps: &M,
+    table: &TableDef,
+    index: &IndexDef,
+    at: &[u8],
+) -> Result<Row, NoMemory>
+    requires { (row : List Value) × IsEntryOf table.now index.now (M.maps maps.now table.now.number) row at.now }
+    ensures { IfOk result (λ row. IsEntryOf table.now index.now (M.maps maps.now table.now.number) row at.now) }
+{
+    row_law();
+    let key = primary_part(table, index.columns.as_slice(), at);
+    match maps.get(table.number, key) {
+        Some(bytes) => row_of(alloc, table, bytes),
+        None => unreachable!(),
+    }
+}
+
+// The rows of a table whose keys in an index that CREATE INDEX made lie in the interval, in the order of those keys.
+fn rows_by_index<M: SortedMaps>(
+    alloc: Global,
+    maps: &M,
+    table: &TableDef,
+    index: &IndexDef,
+    interval: &Interval,
+) -> Result<Vec<Row>, NoMemory>
+    requires { AreEntries table.now index.now (M.maps maps.now table.now.number) (M.maps maps.now index.now.number) }
+    ensures { IfOk result (λ rows. Follow table.now index.now (M.maps maps.now table.now.number) (between interval.now (map.entries (M.maps maps.now index.now.number))) rows.items) }
+{
+    let mut rows = Vec::new(alloc);
+    let mut next = maps.first_at(index.number, interval.low.as_slice());
+    while let Some((key, _)) = next {
+        if !is_before(key, &interval.high) {
+            break;
+        }
+        rows.push(row_behind(alloc, maps, table, index, key)?)?;
+        next = maps.first_after(index.number, key);
+    }
+    Ok(rows)
+}
+
+// What the rows of a table whose keys lie in the interval count in a note. The sum stands still at the end of a `u64`.
+fn noted_between<M: SortedMaps>(maps: &M, index: u32, interval: &Interval) -> u64
+    ensures { result ≡ min (noted_entries (between interval.now (map.entries (M.maps maps.now index)))) (2 ^ 64 - 1) }
+{
+    let mut size: u64 = 0;
+    let mut next = maps.first_at(index, interval.low.as_slice());
+    while let Some((key, value)) = next {
+        if !is_before(key, &interval.high) {
+            break;
+        }
+        size = size
+            .saturating_add(value.len() as u64)
+            .saturating_add(NOTED_ROW);
+        next = maps.first_after(index, key);
+    }
+    size
+}
+
+// What the row of an entry of an index that CREATE INDEX made counts in a note.
+fn noted_behind<M: SortedMaps>(maps: &M, table: &TableDef, index: &IndexDef, at: &[u8]) -> u64
+    requires { (row : List Value) × IsEntryOf table.now index.now (M.maps maps.now table.now.number) row at.now }
+    ensures { (row : List Value) → IsEntryOf table.now index.now (M.maps maps.now table.now.number) row at.now → result ≡ min (length (row_bytes (kinds_of table.now) row) + noted_row) (2 ^ 64 - 1) }
+{
+    let key = primary_part(table, index.columns.as_slice(), at);
+    match maps.get(table.number, key) {
+        Some(bytes) => (bytes.len() as u64).saturating_add(NOTED_ROW),
+        None => unreachable!(),
+    }
+}
+
+// The same of the rows whose keys in such an index lie in the interval.
+fn noted_by_index<M: SortedMaps>(
+    maps: &M,
+    table: &TableDef,
+    index: &IndexDef,
+    interval: &Interval,
+) -> u64
+    requires { AreEntries table.now index.now (M.maps maps.now table.now.number) (M.maps maps.now index.now.number) }
+    ensures { (rows : List (List Value)) → Follow table.now index.now (M.maps maps.now table.now.number) (between interval.now (map.entries (M.maps maps.now index.now.number))) rows → result ≡ min (noted_rows table.now rows) (2 ^ 64 - 1) }
+{
+    let mut size: u64 = 0;
+    let mut next = maps.first_at(index.number, interval.low.as_slice());
+    while let Some((key, _)) = next {
+        if !is_before(key, &interval.high) {
+            break;
+        }
+        size = size.saturating_add(noted_behind(maps, table, index, key));
+        next = maps.first_after(index.number, key);
+    }
+    size
 }
 
 // Puts a value or none under a key.
@@ -103,8 +203,8 @@ impl<M: SortedMaps> Tables<M> {
         Ok(Tables { alloc, maps })
     }
 
-    /// The rows of a table's index whose keys lie in the interval, in the order of the keys. The number is that of a
-    /// table, whose entries are rows.
+    /// The rows of a table whose keys in one of its indexes lie in the interval, in the order of those keys. The number is that
+    /// of a table, for its primary index, or that of an index that CREATE INDEX made. The entries are those of rows.
     ///
     /// # Errors
     ///
@@ -115,13 +215,61 @@ impl<M: SortedMaps> Tables<M> {
         index: u32,
         interval: &Interval,
     ) -> Result<RowList, NoMemory>
-        requires { IsTableAnd catalog.now index (λ t. AreRows t (M.maps self.now index)) }
+        requires { CanRead catalog.now (M.maps self.now) index }
         ensures entries { IfOk result (λ rows. OfTable catalog.now index (λ t. Decode t (between interval.now (map.entries (M.maps self.now index))) rows)) }
-        ensures rows { IfOk result (λ rows. (db : Database) → db.schema ≡ schema_of catalog.now → OfTable catalog.now index (λ t. HoldsTable db.rows t (M.maps self.now index)) → view.read db index interval.now ≡ rows) }
+        ensures rows { IfOk result (λ rows. (db : Database) → db.schema ≡ schema_of catalog.now → HoldsRead catalog.now db.rows (M.maps self.now) index → view.read db index interval.now ≡ rows) }
     {
         row_law();
-        let table = table_of(catalog, index);
-        Ok(RowList::from_vec(rows_between(self.alloc, &self.maps, table, interval)?))
+        key_law();
+        match catalog.get(index) {
+            Some(Definition::Table(table)) => {
+                Ok(RowList::from_vec(rows_between(self.alloc, &self.maps, table, interval)?))
+            }
+            Some(Definition::Index(index)) => {
+                let table = table_of(catalog, index.table);
+                Ok(RowList::from_vec(rows_by_index(
+                    self.alloc, &self.maps, table, index, interval,
+                )?))
+            }
+            _ => unreachable!(),
+        }
+    }
+
+    /// The row of a table under an encoded primary key, if one is there. The table's entries are rows.
+    ///
+    /// # Errors
+    ///
+    /// Where there is no memory for it.
+    pub fn row(&self, catalog: &Catalog, table: u32, key: &[u8]) -> Result<Option<Row>, NoMemory>
+        requires { IsTableAnd catalog.now table (λ t. AreRows t (M.maps self.now table)) }
+        ensures stored { IfOk result (λ row. OfTable catalog.now table (λ t. map.get (M.maps self.now table) key.now ≡ stored t row)) }
+        ensures stands { IfOk result (λ row. OfTable catalog.now table (λ t. IfSome row (StandsUnder t key.now))) }
+        ensures row { IfOk result (λ row. (rows : Rows) → OfTable catalog.now table (λ t. HoldsTable rows t (M.maps self.now table)) → map.get rows (table, key.now) ≡ row) }
+    {
+        row_law();
+        let definition = table_of(catalog, table);
+        match self.maps.get(table, key) {
+            Some(bytes) => Ok(Some(row_of(self.alloc, definition, bytes)?)),
+            None => Ok(None),
+        }
+    }
+
+    /// What the rows that `read` gives of this index and interval count in a note of their reading: the encoded bytes of
+    /// each, and 16. It copies no row and takes no memory. A sum that does not fit stands still at the end of a `u64`.
+    pub fn noted_between(&self, catalog: &Catalog, index: u32, interval: &Interval) -> u64
+        requires { CanRead catalog.now (M.maps self.now) index }
+        ensures { (db : Database) (t : TableDef) → db.schema ≡ schema_of catalog.now → listed_table catalog.now index ≡ Some t → HoldsRead catalog.now db.rows (M.maps self.now) index
+            → result ≡ min (noted_rows t (view.read db index interval.now)) (2 ^ 64 - 1) }
+    {
+        row_law();
+        key_law();
+        match catalog.get(index) {
+            Some(Definition::Table(table)) => noted_between(&self.maps, table.number, interval),
+            Some(Definition::Index(index)) => {
+                noted_by_index(&self.maps, table_of(catalog, index.table), index, interval)
+            }
+            _ => unreachable!(),
+        }
     }
 
     /// Changes one row of a table, and all entries that belong to it. An `Err` changes none.

@@ -1,0 +1,90 @@
+-- Keys of rows in the indexes of their table: rows with one key there have one primary key.
+use Rattle.std.specs.Prelude.{◌≡◌, ℕ, zero, suc, List, [], ◌∷◌, ◌++◌, length, drop, slice_get, Option, Some, None}
+use Rattle.std.specs.List.{cons_option}
+use Rattle.std.proofs.lemmas.List.Elements.{filter_map-append}
+use Rattle.std.proofs.Math.Seq.{drop-append_seam}
+use mathlib.Core.Path.{refl, sym, ap, subst, ◌∙◌}
+use Rattle.iv_types.specs.declared.value.Kind.{Kind}
+use Rattle.iv_types.specs.declared.value.Value.{Value}
+use Rattle.iv_types.specs.declared.catalog.TableDef.{TableDef}
+use Rattle.iv_types.specs.declared.catalog.IndexDef.{IndexDef}
+use Rattle.iv_types.specs.Encoding.{kinds_of, Fits, FitAll, key_value_bytes, key_bytes}
+use Rattle.iv_meaning.specs.Schema.{items_at}
+use Rattle.iv_meaning.specs.Database.{key_of}
+use Rattle.iv_meaning.specs.View.{index_key}
+use Rattle.row_codec.specs.Laws.{OneSpelling}
+use Rattle.table_store.specs.Stored.{key_at}
+
+-- a column has both a kind and a value that fits it, or neither
+abbrev pub FitsAt : Option Kind → Option Value → Type 0
+FitsAt None None = Unit {0}
+FitsAt (Some k) (Some v) = Fits k v
+FitsAt _ _ = ⊥
+
+pub fits_at : (ks : List Kind) (vs : List Value) (place : ℕ) → FitAll ks vs → FitsAt (slice_get ks place) (slice_get vs place)
+fits_at [] [] place f = tt
+fits_at [] (v ∷ vs) place f = absurd f
+fits_at (k ∷ ks) [] place f = absurd f
+fits_at (k ∷ ks) (v ∷ vs) zero f = f.0
+fits_at (k ∷ ks) (v ∷ vs) (suc place) f = fits_at ks vs place f.1
+
+fit_more : (k : Option Kind) (v : Option Value) (ks : List Kind) (vs : List Value) → FitsAt k v → FitAll ks vs → FitAll (cons_option k ks) (cons_option v vs)
+fit_more None None ks vs h f = f
+fit_more None (Some v) ks vs h f = absurd h
+fit_more (Some k) None ks vs h f = absurd h
+fit_more (Some k) (Some v) ks vs h f = (h, f)
+
+pub items_fit : (ks : List Kind) (vs : List Value) (places : List ℕ) → FitAll ks vs → FitAll (items_at ks places) (items_at vs places)
+items_fit ks vs [] f = tt
+items_fit ks vs (place ∷ places) f =
+    fit_more (slice_get ks place) (slice_get vs place) (items_at ks places) (items_at vs places) (fits_at ks vs place f) (items_fit ks vs places f)
+
+pub same_length : (ks : List Kind) (vs : List Value) → FitAll ks vs → length vs ≡ length ks
+same_length [] [] f = refl
+same_length [] (v ∷ vs) f = absurd f
+same_length (k ∷ ks) [] f = absurd f
+same_length (k ∷ ks) (v ∷ vs) f = ap suc (same_length ks vs f.1)
+
+same_end : {X : Type 0} (fs gs xs ys : List X) → length fs ≡ length gs → fs ++ xs ≡ gs ++ ys → xs ≡ ys
+same_end fs gs xs ys n e = sym (drop-append_seam fs xs) ∙ (ap (drop (length fs)) e ∙ (ap (λ k. drop k (gs ++ ys)) n ∙ drop-append_seam gs ys))
+
+pub one_key : OneSpelling key_value_bytes → (t : TableDef) (i : IndexDef) (a b : List Value) → FitAll (kinds_of t) a → FitAll (kinds_of t) b → index_key t i a ≡ index_key t i b → key_of t a ≡ key_of t b
+one_key one t i a b fa fb e =
+    let ks : List Kind = kinds_of t in
+    let all : List ℕ = i.columns ++ t.primary in
+    let same : items_at a all ≡ items_at b all = one (items_at ks all) (items_at a all) (items_at b all) (items_fit ks a all fa) (items_fit ks b all fb) e in
+    let parts : items_at a i.columns ++ items_at a t.primary ≡ items_at b i.columns ++ items_at b t.primary =
+    sym (filter_map-append (slice_get a) i.columns t.primary) ∙ (same ∙ filter_map-append (slice_get b) i.columns t.primary) in
+    let long : length (items_at a i.columns) ≡ length (items_at b i.columns) =
+    same_length (items_at ks i.columns) (items_at a i.columns) (items_fit ks a i.columns fa) ∙ sym (same_length (items_at ks i.columns) (items_at b i.columns) (items_fit ks b i.columns fb)) in
+    ap (key_bytes (items_at ks t.primary)) (same_end (items_at a i.columns) (items_at b i.columns) (items_at a t.primary) (items_at b t.primary) long parts)
+
+-- ---- a column at the front of a key
+
+pub record FrontColumn (k : Kind) (key rest : List ℕ) : Type 0 where
+  pub value : Value
+  pub fits : Fits k value
+  pub key_is : key ≡ key_value_bytes k value ++ rest
+
+front_value : (k : Kind) (v : Option Value) (ks : List Kind) (vs : List Value) → FitsAt (Some k) v → FrontColumn k (key_bytes (k ∷ ks) (cons_option v vs)) (key_bytes ks vs)
+front_value k None ks vs f = absurd f
+front_value k (Some v) ks vs f = record { value = v; fits = f; key_is = refl }
+
+-- a place with a column
+pub front_there : (t : TableDef) (place : ℕ) (places : List ℕ) (row : List Value) (k : Kind) → FitAll (kinds_of t) row → slice_get (kinds_of t) place ≡ Some k
+    → FrontColumn k (key_at t (place ∷ places) row) (key_at t places row)
+front_there t place places row k f is =
+    let fits : FitsAt (Some k) (slice_get row place) = subst (λ (o : Option Kind). FitsAt o (slice_get row place)) is (fits_at (kinds_of t) row place f) in
+    subst (λ (o : Option Kind). FrontColumn k (key_bytes (cons_option o (items_at (kinds_of t) places)) (cons_option (slice_get row place) (items_at row places))) (key_at t places row)) (sym is)
+    (front_value k (slice_get row place) (items_at (kinds_of t) places) (items_at row places) fits)
+
+none_value : (v : Option Value) (ks : List Kind) (vs : List Value) → FitsAt None v → key_bytes ks (cons_option v vs) ≡ key_bytes ks vs
+none_value None ks vs f = refl
+none_value (Some v) ks vs f = absurd f
+
+-- a place without one
+pub front_none : (t : TableDef) (place : ℕ) (places : List ℕ) (row : List Value) → FitAll (kinds_of t) row → slice_get (kinds_of t) place ≡ None → key_at t (place ∷ places) row ≡ key_at t places row
+front_none t place places row f is =
+    let fits : FitsAt None (slice_get row place) = subst (λ (o : Option Kind). FitsAt o (slice_get row place)) is (fits_at (kinds_of t) row place f) in
+    ap (λ (o : Option Kind). key_bytes (cons_option o (items_at (kinds_of t) places)) (cons_option (slice_get row place) (items_at row places))) is
+    ∙ none_value (slice_get row place) (items_at (kinds_of t) places) (items_at row places) fits
