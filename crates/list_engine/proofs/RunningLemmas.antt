@@ -31,7 +31,7 @@ use Rattle.list_engine.specs.declared.step.Act.{Act}
 use Rattle.list_engine.specs.declared.step.Act.TheVariants as act
 use Rattle.list_engine.specs.declared.step.Answer.{Answer}
 use Rattle.list_engine.specs.declared.step.Answer.TheVariants as answer
-use Rattle.list_engine.specs.State.{State, Open}
+use Rattle.list_engine.specs.State.{State, OpenTransaction}
 use Rattle.list_engine.specs.Steps.{IsCreate, MayAct, number_at_end, Does, DoesStep, May, Moves}
 use Rattle.iv_meaning.specs.Escrow.{IsSession}
 use Rattle.list_engine.specs.declared.engine.ListEngine.{ListEngine}
@@ -229,7 +229,7 @@ module _ (old new : ListEngine) (db : Database) (i : IsIn old db) (session : ℕ
 -- ---- the end of a transaction
 
 -- no session has one open thereafter
-none_left : (f : ℕ → Option Open) (session : ℕ) → ((other : ℕ) → other ≢ session → f other ≡ None) → (t : ℕ) → (if t == session then None else f t) ≡ None
+none_left : (f : ℕ → Option OpenTransaction) (session : ℕ) → ((other : ℕ) → other ≢ session → f other ≡ None) → (t : ℕ) → (if t == session then None else f t) ≡ None
 none_left f session h t = elim (t == session) as (λ b. (t == session) ≡ b → (if b then None else f t) ≡ None) [
   | true ↦ λ e. refl
   | false ↦ λ e. h t (λ same. absurd (grind (arith, e, same)))
@@ -255,7 +255,7 @@ module _ (new : ListEngine) (s : State) (session : ℕ) (reading : IsReading s s
       not_stopped : answer.Committed number ≡ answer.Refused (refusal.Stopped (2 ^ 62)) → ⊥
       not_stopped e = absurd (cc)
 
-      the_open : (a b : Open) → Some a ≡ Some b → a ≡ b
+      the_open : (a b : OpenTransaction) → Some a ≡ Some b → a ≡ b
       the_open a b e = cc
 
   pub end_done : Moves (Stands new) s (record { session = session; act = act.End }) answer.Ended → IsIn new s.committed

@@ -8,7 +8,7 @@ use Rattle.iv_meaning.specs.Database.{Database}
 use Rattle.list_engine.specs.declared.step.LastRefusal.{LastRefusal}
 
 -- an open transaction
-pub record Open : Type 0 where
+pub record OpenTransaction : Type 0 where
   pub mode : Mode
   -- the greatest commit number as it began
   pub number : ℕ
@@ -16,13 +16,13 @@ pub record Open : Type 0 where
 pub record State : Type 0 where
   pub committed : Database
   -- the open transaction of each session
-  pub open_of : ℕ → Option Open
+  pub open_of : ℕ → Option OpenTransaction
   -- how many steps were done
   pub steps : ℕ
   -- of each session, its last step that the engine refused
   pub refused : ℕ → Option LastRefusal
 
-abbrev pub with_open : State → ℕ → Option Open → State
+abbrev pub with_open : State → ℕ → Option OpenTransaction → State
 with_open s session o = record s { open_of = λ t. if t == session then o else s.open_of t }
 
 -- a step was done

@@ -25,7 +25,7 @@ use Rattle.list_engine.specs.declared.step.Act.{Act}
 use Rattle.list_engine.specs.declared.step.Act.TheVariants as act
 use Rattle.list_engine.specs.declared.step.Answer.{Answer}
 use Rattle.list_engine.specs.declared.step.Answer.TheVariants as answer
-use Rattle.list_engine.specs.State.{State, Open, with_open, counted, refused_step}
+use Rattle.list_engine.specs.State.{State, OpenTransaction, with_open, counted, refused_step}
 
 -- ---- stopped engines
 
@@ -71,7 +71,7 @@ May s step = IsStopped s ⊎ MayAct s step.session step.act
 -- ---- what each answer says
 
 -- the number of a transaction that kept no change
-abbrev pub number_at_end : State → Open → ℕ
+abbrev pub number_at_end : State → OpenTransaction → ℕ
 number_at_end s o = elim o.mode [ Serial ↦ s.committed.number | Snapshot ↦ o.number ]
 
 pub record Begins (s : State) (session : ℕ) (mode : Mode) (number defs : ℕ) (after : State) : Type 0 where
@@ -80,7 +80,7 @@ pub record Begins (s : State) (session : ℕ) (mode : Mode) (number defs : ℕ) 
   pub left : after ≡ counted (with_open s session (Some (record { mode = mode; number = number })))
 
 pub record Commits (s : State) (session number : ℕ) (after : State) : Type 0 where
-  pub ended : Open
+  pub ended : OpenTransaction
   pub was_open : s.open_of session ≡ Some ended
   pub number_is : number ≡ number_at_end s ended
   pub left : after ≡ counted (with_open s session None)

@@ -6,7 +6,7 @@ ghost use Rattle.iv_meaning.specs.Objects.{object_of};
 ghost use Rattle.iv_meaning.specs.Database.{created};
 ghost use Rattle.iv_meaning.specs.Binding as binding;
 ghost use Rattle.iv_meaning.specs.Statement as meaning;
-ghost use Rattle.list_engine.specs.State.{State, Open, counted, refused_step, with_open};
+ghost use Rattle.list_engine.specs.State.{State, OpenTransaction, counted, refused_step, with_open};
 ghost use Rattle.list_engine.specs.Steps.{IsFree, MayAct, number_at_end};
 ghost use Rattle.iv_meaning.specs.Escrow.{IsSession};
 ghost use Rattle.list_engine.specs.declared.step.Act.TheVariants as act;
@@ -161,7 +161,7 @@ impl ListEngine {
 
     // The number of a session's transaction, which kept no change, as it commits.
     fn number_at_end(&self, session: u32) -> u64
-        ensures { (s : State) (o : Open) → Stands self.now s → s.open_of session ≡ Some o → result ≡ number_at_end s o }
+        ensures { (s : State) (o : OpenTransaction) → Stands self.now s → s.open_of session ≡ Some o → result ≡ number_at_end s o }
     {
         match self.parts.get(session).opened {
             Some(opened) => match opened.mode {

@@ -21,7 +21,7 @@ use Rattle.txn_machine.specs.Records as machine
 use Rattle.txn_machine.specs.Records.{Record}
 use Rattle.log_records.specs.declared.record.Scanned.{Scanned}
 use Rattle.log_records.specs.Spelling.{spelling}
-use Rattle.log_records.specs.Area.{Entry, group, block, placed, laid, unplaced}
+use Rattle.log_records.specs.Area.{Entry, group, block, at_places, laid, unplaced}
 use Rattle.log_records.specs.Scan.{Fault, scanned}
 use Rattle.txn_log.specs.Replay.{Pages}
 use Rattle.txn_log.specs.Appended.{Numbered}
@@ -190,7 +190,7 @@ spelled_once objects (r ∷ rs) (q ∷ qs) (e ∷ es) h k =
 abbrev pub flat : List (List Entry) → List Entry
 flat groups = flat_map (λ es. es) groups
 
-pub placed_again : (place : ℕ) (es : List Entry) → map unplaced (placed place es) ≡ es
+pub placed_again : (place : ℕ) (es : List Entry) → map unplaced (at_places place es) ≡ es
 placed_again place [] = refl
 placed_again place (e ∷ es) = ap (λ (xs : List Entry). e ∷ xs) (placed_again (place + length (spelling e.number e.entry)) es)
 
@@ -201,7 +201,7 @@ map_both (x ∷ xs) ys = ap (λ (zs : List Entry). unplaced x ∷ zs) (map_both 
 pub laid_again : (place : ℕ) (groups : List (List Entry)) → map unplaced (laid place groups) ≡ flat groups
 laid_again place [] = refl
 laid_again place (g ∷ gs) =
-    map_both (placed (place + 5) g) (laid (place + (5 + length (group g))) gs)
+    map_both (at_places (place + 5) g) (laid (place + (5 + length (group g))) gs)
     ∙ (λ t. placed_again (place + 5) g t ++ laid_again (place + (5 + length (group g))) gs t)
 
 pub same_after : (gs : List (List Entry)) → after_of gs ≡ reverse (flat gs)

@@ -6,7 +6,7 @@ use Rattle.disk_io.specs.Disk.{AreBytes}
 use Rattle.page_store.specs.Image as page
 use Rattle.page_store.specs.Image.{area_at}
 use Rattle.log_records.specs.declared.record.Scanned.{Scanned}
-use Rattle.log_records.specs.Area.{Entry, group, block, blocks, placed, laid, unplaced}
+use Rattle.log_records.specs.Area.{Entry, group, block, blocks, at_places, laid, unplaced}
 use Rattle.log_records.specs.Scan.{scanned}
 use Rattle.iv_meaning.specs.Schema.{Schema}
 use Rattle.txn_log.specs.Appended.{Numbered}
@@ -76,7 +76,7 @@ pub placed_there : PlacedThereLaw
 placed_there room count c here bytes whole p stored commits never =
     let split = split_whole room count c here bytes whole in
     let at : ℕ = area_at here.area_size here.area in
-    carried_there at p.db.schema (reverse (placed 5 split.first)) (λ cs carried. further_there at p.db.schema (reverse (laid here.redo split.others)) (λ rs after.
+    carried_there at p.db.schema (reverse (at_places 5 split.first)) (λ cs carried. further_there at p.db.schema (reverse (laid here.redo split.others)) (λ rs after.
     never (record { pages = p; carried = cs; after = rs; texts = stored.texts; data_limit = Some (data_limit here.pages) }) refl
     (record {
       stored = stored;

@@ -10,7 +10,7 @@ use Rattle.page_store.specs.Image as page
 use Rattle.page_store.specs.Image.{area_at, area_of, image, image_at}
 use Rattle.log_records.specs.declared.record.Scanned.{Scanned}
 use Rattle.log_records.specs.Spelling.{spelling}
-use Rattle.log_records.specs.Area.{Entry, group, block, blocks, at_place, placed, laid, unplaced}
+use Rattle.log_records.specs.Area.{Entry, group, block, blocks, at_place, at_places, laid, unplaced}
 use Rattle.iv_meaning.specs.Schema.{Schema}
 use Rattle.txn_log.specs.Refused.{Placed}
 use Rattle.wal_log.proofs.KeptLaws.{block_is}
@@ -33,7 +33,7 @@ all_of_both P [] ys h = (tt, h)
 all_of_both P (x ∷ xs) ys h = let rest = all_of_both P xs ys h.1 in ((h.0, rest.0), rest.1)
 
 module _ (log : List ℕ) where
-  placed_stand : (place : ℕ) (es : List Entry) (rest : List ℕ) → drop place log ≡ group es ++ rest → AllByRecursion (StandsIn log) (placed place es)
+  placed_stand : (place : ℕ) (es : List Entry) (rest : List ℕ) → drop place log ≡ group es ++ rest → AllByRecursion (StandsIn log) (at_places place es)
   placed_stand place [] rest e = tt
   placed_stand place (x ∷ es) rest e =
       let text : List ℕ = spelling x.number x.entry in
@@ -49,7 +49,7 @@ module _ (log : List ℕ) where
       let apart : drop place log ≡ block (group g) ++ more = e ∙ append_assoc (block (group g)) (blocks groups) tail in
       let long : length (block (group g)) ≡ 5 + length (group g) = block_long (group g) in
       let inside : drop 5 (block (group g) ++ more) ≡ group g ++ more = ap (λ (l : List ℕ). drop 5 (l ++ more)) (block_is (group g)) in
-      all_both (StandsIn log) (placed (place + 5) g) (laid (place + (5 + length (group g))) groups)
+      all_both (StandsIn log) (at_places (place + 5) g) (laid (place + (5 + length (group g))) groups)
       (placed_stand (place + 5) g more (sym (drop-drop 5 place log) ∙ ap (drop 5) apart ∙ inside))
       (laid_stand (place + (5 + length (group g))) groups tail
       (sym (drop-drop (5 + length (group g)) place log) ∙ ap (drop (5 + length (group g))) apart ∙ drop_at (block (group g)) more (5 + length (group g)) long))
@@ -69,23 +69,23 @@ module _ (log : List ℕ) where
       row_push from to [] s h stands k = (stands, k, h)
       row_push from to (t ∷ ss) s h stands k = (k.0, k.1, row_push from t.place ss s h stands k.2)
 
-      row_placed : (from to place end : ℕ) (xs : List Scanned) (es : List Entry) → To from place → end ≡ place + length (group es) → AllByRecursion (StandsIn log) (placed place es) → Row end to xs
-          → Row from to (xs ++ reverse (placed place es))
+      row_placed : (from to place end : ℕ) (xs : List Scanned) (es : List Entry) → To from place → end ≡ place + length (group es) → AllByRecursion (StandsIn log) (at_places place es) → Row end to xs
+          → Row from to (xs ++ reverse (at_places place es))
       row_placed from to place end xs [] h e stand k =
           let there : end ≡ place = omega (arith, e) in
           subst (Row from to) (sym (append-nil xs)) (row_from from place to xs h (subst (λ n. Row n to xs) there k))
       row_placed from to place end xs (x ∷ es) h e stand k =
           let next : ℕ = place + size_of x in
           let rest = row_placed next to next end xs es (same next) (omega (arith, e, length-append (spelling x.number x.entry) (group es))) stand.1 k in
-          subst (Row from to) (append_assoc xs (reverse (placed next es)) (at_place place x ∷ []) ∙ ap (λ (ss : List Scanned). xs ++ ss) (sym (reverse-append (at_place place x ∷ []) (placed next es))))
-          (row_push from to (xs ++ reverse (placed next es)) (at_place place x) h stand.0 rest)
+          subst (Row from to) (append_assoc xs (reverse (at_places next es)) (at_place place x ∷ []) ∙ ap (λ (ss : List Scanned). xs ++ ss) (sym (reverse-append (at_place place x ∷ []) (at_places next es))))
+          (row_push from to (xs ++ reverse (at_places next es)) (at_place place x) h stand.0 rest)
 
       -- with a gate and a length before each block
       row_laid : ((n : ℕ) → To n (n + 5)) → (place to : ℕ) (groups : List (List Entry)) → To (place + length (blocks groups)) to → AllByRecursion (StandsIn log) (laid place groups) → Row place to (reverse (laid place groups))
       row_laid head place to [] h stand = subst (λ n. To n to) (let e : place + 0 ≡ place = omega arith in e) h
       row_laid head place to (g ∷ groups) h stand =
           let next : ℕ = place + (5 + length (group g)) in
-          let first : List Scanned = placed (place + 5) g in
+          let first : List Scanned = at_places (place + 5) g in
           let apart = all_of_both (StandsIn log) first (laid next groups) stand in
           let end : place + length (blocks (g ∷ groups)) ≡ next + length (blocks groups) = omega (arith, length-append (block (group g)) (blocks groups), block_long (group g)) in
           let rest = row_laid head next to groups (subst (λ n. To n to) end h) apart.1 in
@@ -170,15 +170,15 @@ records_lie room count c here bytes means size i is =
     let log_is = log_is_part room count c here means in
     let all = scanned_are here.log (laid 0 (is.first ∷ is.others)) (log_bytes room count c here bytes means) is.scan in
     let stand = subst (AllByRecursion (StandsIn here.log)) (sym all.read) (laid_stand here.log 0 all.groups all.tail all.split) in
-    let apart = all_of_both (StandsIn here.log) (placed 5 is.first) (laid (0 + (5 + length (group is.first))) is.others) stand in
+    let apart = all_of_both (StandsIn here.log) (at_places 5 is.first) (laid (0 + (5 + length (group is.first))) is.others) stand in
     let redo : here.redo ≡ 5 + length (group is.first) = is.redo ∙ block_long (group is.first) in
     let again : here.redo ≡ 0 + (5 + length (group is.first)) = omega (arith, redo) in
-    let first : Row here.log (λ m n. m ≡ n) 5 here.redo (reverse (placed 5 is.first)) =
+    let first : Row here.log (λ m n. m ≡ n) 5 here.redo (reverse (at_places 5 is.first)) =
     row_placed here.log (λ m n. m ≡ n) (λ n. refl) (λ l m n e f. e ∙ f) 5 here.redo 5 here.redo [] is.first refl redo apart.0 refl in
     let others : Row here.log (λ m n. m ≤ n) here.redo (here.redo + length (blocks is.others)) (reverse (laid here.redo is.others)) =
     row_laid here.log (λ m n. m ≤ n) (λ n. omega arith) (λ l m n e f. omega (arith, e, f)) (λ n. omega arith) here.redo (here.redo + length (blocks is.others)) is.others (omega arith)
     (subst (λ n. AllByRecursion (StandsIn here.log) (laid n is.others)) (sym again) apart.1) in (
-      filled c here.log at room log_is 5 here.redo i.pages.db.schema i.carried (reverse (placed 5 is.first)) (subst (λ n. AreCarriedAt n i.pages.db.schema i.carried (reverse (placed 5 is.first))) same is.carried) first,
+      filled c here.log at room log_is 5 here.redo i.pages.db.schema i.carried (reverse (at_places 5 is.first)) (subst (λ n. AreCarriedAt n i.pages.db.schema i.carried (reverse (at_places 5 is.first))) same is.carried) first,
       between_all c here.log at room log_is here.redo (here.redo + length (blocks is.others)) i.pages.db.schema i.after (reverse (laid here.redo is.others))
           (subst (λ n. AreFurtherAt n i.pages.db.schema i.after (reverse (laid here.redo is.others))) same is.after) others,
     )

@@ -7,7 +7,7 @@ use Rattle.iv_types.proofs.ByteNumbers.{IsBytes, IsBytes-rest, IsBytes-drop, IsB
 use Rattle.disk_io.specs.Disk.{part}
 use Rattle.log_records.specs.declared.record.Scanned.{Scanned}
 use Rattle.log_records.specs.Spelling.{spelling}
-use Rattle.log_records.specs.Area.{Entry, group, block, blocks, at_place, placed, laid, unplaced}
+use Rattle.log_records.specs.Area.{Entry, group, block, blocks, at_place, at_places, laid, unplaced}
 use Rattle.log_records.specs.Reading.{record_at}
 use Rattle.log_records.specs.Scan.{Fault, with_before, or_seven, with_first, records, frame_size, holds_block, frames, and_then, all_records, of_frames, scanned}
 use Rattle.log_records.proofs.RecordLaws.{IsScanned, record_takes}
@@ -38,7 +38,7 @@ and_then_ok (Err f) more zs h = absurd (cc)
 pub record AreRead (place : ℕ) (bytes : List ℕ) (ss : List Scanned) : Type 0 where
   pub es : List Entry
   pub bytes_are : bytes ≡ group es
-  pub read : ss ≡ placed place es
+  pub read : ss ≡ at_places place es
 
 one_more : (place : ℕ) (bytes rest : List ℕ) (s : Scanned) (ss ys : List Scanned) → IsScanned place bytes s rest → ss ≡ s ∷ ys → AreRead s.end rest ys → AreRead place bytes ss
 one_more place bytes rest s ss ys is split h =
@@ -47,7 +47,7 @@ one_more place bytes rest s ss ys is split h =
     record {
       es = unplaced s ∷ h.es;
       bytes_are = is.taken.parts ∙ ap (λ (bs : List ℕ). spelling s.number s.entry ++ bs) h.bytes_are;
-      read = split ∙ (λ t. this t ∷ (h.read ∙ ap (λ n. placed n h.es) size) t);
+      read = split ∙ (λ t. this t ∷ (h.read ∙ ap (λ n. at_places n h.es) size) t);
     }
 
 pub records_are : (fuel place : ℕ) (bytes : List ℕ) (ss : List Scanned) → IsBytes bytes → length bytes ≤ fuel → records fuel place bytes ≡ Ok ss → AreRead place bytes ss

@@ -4,7 +4,7 @@ use Rattle.std.specs.Prelude.{reverse}
 use Rattle.std.proofs.lemmas.List.{reverse-append}
 use Rattle.page_store.specs.Image.{area_at}
 use Rattle.log_records.specs.declared.record.Scanned.{Scanned}
-use Rattle.log_records.specs.Area.{Entry, group, block, placed, laid, unplaced}
+use Rattle.log_records.specs.Area.{Entry, group, block, at_places, laid, unplaced}
 use Rattle.iv_meaning.specs.Schema.{Schema}
 use Rattle.txn_log.specs.Replay.{Pages}
 use Rattle.txn_log.specs.Appended.{Numbered}
@@ -68,15 +68,15 @@ placed_image room count c i b p is =
     sym (laid_again 0 (is.first ∷ is.others)) ∙ ap (map unplaced) (ok_same (laid 0 (is.first ∷ is.others)) (laid 0 (b.first ∷ b.others)) (sym is.scan ∙ b.scan)) ∙ laid_again 0 (b.first ∷ b.others) in
     let ends : length (block (group is.first)) ≡ length (block (group b.first)) = sym is.redo ∙ b.records.redo in
     let split = first_once is.first b.first (flat is.others) (flat b.others) all (omega (arith, ends, block_long (group is.first), block_long (group b.first))) in
-    let carried : map unplaced (reverse (placed 5 is.first)) ≡ map (spelled i.pages.db.schema) i.carried =
-    unplaced_turned (placed 5 is.first) ∙ ap reverse (placed_again 5 is.first ∙ split.0) ∙ b.records.carried in
+    let carried : map unplaced (reverse (at_places 5 is.first)) ≡ map (spelled i.pages.db.schema) i.carried =
+    unplaced_turned (at_places 5 is.first) ∙ ap reverse (placed_again 5 is.first ∙ split.0) ∙ b.records.carried in
     let after : map unplaced (reverse (laid b.here.redo is.others)) ≡ after_of b.others =
     unplaced_turned (laid b.here.redo is.others) ∙ ap reverse (laid_again b.here.redo is.others ∙ split.1) ∙ sym (same_after b.others) in
     record {
       image = record {
         pages = pages;
-        carried = carried_tied at i.pages.db.schema p.carried (reverse (placed 5 is.first)) i.carried
-            (subst (λ o. AreCarriedAt at o p.carried (reverse (placed 5 is.first))) objects is.carried) b.records.fit carried;
+        carried = carried_tied at i.pages.db.schema p.carried (reverse (at_places 5 is.first)) i.carried
+            (subst (λ o. AreCarriedAt at o p.carried (reverse (at_places 5 is.first))) objects is.carried) b.records.fit carried;
         after = (further_tied at i.pages.db.schema p.after (reverse (laid b.here.redo is.others)) i.after (after_of b.others)
             (subst (λ o. AreFurtherAt at o p.after (reverse (laid b.here.redo is.others))) objects is.after) b.records.after after).0;
       };

@@ -7,7 +7,7 @@ use Rattle.page_store.specs.Image as page
 use Rattle.page_store.specs.Image.{area_at, image}
 use Rattle.log_records.specs.declared.record.Scanned.{Scanned}
 use Rattle.log_records.specs.Spelling.{spelling}
-use Rattle.log_records.specs.Area.{Entry, group, block, placed, laid, unplaced}
+use Rattle.log_records.specs.Area.{Entry, group, block, at_places, laid, unplaced}
 use Rattle.log_records.specs.Scan.{scanned}
 use Rattle.iv_meaning.specs.Schema.{Schema}
 use Rattle.txn_log.specs.Replay.{Pages}
@@ -59,7 +59,7 @@ pub record ArePlacedIn (here : page.Image) (i : PlacedImage) : Type 0 where
   pub others : List (List Entry)
   pub scan : scanned here.log ≡ Ok (laid 0 (first ∷ others))
   pub redo : here.redo ≡ length (block (group first))
-  pub carried : AreCarriedAt (area_at here.area_size here.area) i.pages.db.schema i.carried (reverse (placed 5 first))
+  pub carried : AreCarriedAt (area_at here.area_size here.area) i.pages.db.schema i.carried (reverse (at_places 5 first))
   pub after : AreFurtherAt (area_at here.area_size here.area) i.pages.db.schema i.after (reverse (laid here.redo others))
 
 -- ---- laws

@@ -11,7 +11,7 @@ use Rattle.log_records.specs.declared.record.Record.{Record}
 use Rattle.log_records.specs.declared.record.Scanned.{Scanned}
 use Rattle.log_records.specs.declared.fault.ScanFault.{ScanFault}
 use Rattle.log_records.specs.Spelling.{spelling}
-use Rattle.log_records.specs.Area.{Entry, group, block, blocks, Begins, BeginsWith, IsSmall, FitsBlock, at_place, placed, laid, unplaced}
+use Rattle.log_records.specs.Area.{Entry, group, block, blocks, Begins, BeginsWith, IsSmall, FitsBlock, at_place, at_places, laid, unplaced}
 use Rattle.log_records.specs.Reading.{record_at}
 use Rattle.log_records.specs.Scan.{Fault, Answers, with_before, or_seven, with_first, without_rest, records, frame_size, frames, and_then, all_records, of_frames, scanned}
 use Rattle.iv_types.proofs.ByteNumbers.{IsBytes}
@@ -21,7 +21,7 @@ use Rattle.log_records.proofs.RecordSteps.{records_some, eq_false}
 lt_false : (m n : ℕ) → n ≤ m → nat_lt m n ≡ false
 lt_false m n le = grind (arith, nat_tests)
 
-pub records_group : (fuel place : ℕ) (es : List Entry) → length (group es) ≤ fuel → AllByRecursion IsSmall es → records fuel place (group es) ≡ Ok (placed place es)
+pub records_group : (fuel place : ℕ) (es : List Entry) → length (group es) ≤ fuel → AllByRecursion IsSmall es → records fuel place (group es) ≡ Ok (at_places place es)
 unfolding records
 records_group zero place [] le all = refl
 records_group zero place (e ∷ es) le all = absurd (omega (arith, le, length-append (spelling e.number e.entry) (group es)))
@@ -59,13 +59,13 @@ module _ (es : List Entry) (rest : List ℕ) (fits : FitsBlock es) (more : 0 < l
   frame_rest : drop (frame_size bytes) bytes ≡ rest
   frame_rest = ap (λ n. drop (5 + n) bytes) length_is ∙ drop_at (165 ∷ (big_bytes 4 (length (group es)) ++ group es)) rest (5 + length (group es)) (omega arith)
 
-  pub frame_step : (fuel place : ℕ) → of_frames (frames (suc fuel) place bytes) ≡ with_before (placed (place + 5) es) (of_frames (frames fuel (place + (5 + length (group es))) rest))
+  pub frame_step : (fuel place : ℕ) → of_frames (frames (suc fuel) place bytes) ≡ with_before (at_places (place + 5) es) (of_frames (frames fuel (place + (5 + length (group es))) rest))
   unfolding frames
   frame_step fuel place =
       (λ i. of_frames (if frame_whole i then with_before ((place + 5, part 5 (big_number 4 (drop 1 bytes)) bytes) ∷ []) (frames fuel (place + frame_size bytes) (drop (frame_size bytes) bytes)) else Err (record { rule = 6; place = place })))
       ∙ (λ i. of_frames (with_before ((place + 5, frame_part i) ∷ []) (frames fuel (place + frame_size bytes) (frame_rest i))))
-      ∙ of_joined (place + 5, group es) (placed (place + 5) es) (frames fuel (place + frame_size bytes) rest) (records_group (length (group es)) (place + 5) es (omega arith) fits.small)
-      ∙ ap (λ n. with_before (placed (place + 5) es) (of_frames (frames fuel (place + (5 + n)) rest))) length_is
+      ∙ of_joined (place + 5, group es) (at_places (place + 5) es) (frames fuel (place + frame_size bytes) rest) (records_group (length (group es)) (place + 5) es (omega arith) fits.small)
+      ∙ ap (λ n. with_before (at_places (place + 5) es) (of_frames (frames fuel (place + (5 + n)) rest))) length_is
 
 pub frames_blocks : (fuel place : ℕ) (groups : List (List Entry)) (tail : List ℕ) → length (blocks groups ++ tail) ≤ fuel → 0 < length tail → get_or tail 0 0 ≢ 165 → AllByRecursion FitsBlock groups
     → of_frames (frames fuel place (blocks groups ++ tail)) ≡ Ok (laid place groups)
@@ -80,7 +80,7 @@ frames_blocks (suc fuel) place (es ∷ groups) tail le more shut all =
     let whole : blocks (es ∷ groups) ++ tail ≡ 165 ∷ (big_bytes 4 (length (group es)) ++ group es) ++ rest = append_assoc (block (group es)) (blocks groups) tail in
     ap (λ (l : List ℕ). of_frames (frames (suc fuel) place l)) whole
     ∙ frame_step es rest all.0 longer fuel place
-    ∙ ap (with_before (placed (place + 5) es)) (frames_blocks fuel _ groups tail (omega (arith, le, ap length whole, bytes_length es rest all.0 longer)) more shut all.1)
+    ∙ ap (with_before (at_places (place + 5) es)) (frames_blocks fuel _ groups tail (omega (arith, le, ap length whole, bytes_length es rest all.0 longer)) more shut all.1)
 
 -- an area that begins with blocks is scanned as their records
 pub scanned_begins : (groups : List (List Entry)) (area : List ℕ) → Begins groups area → AllByRecursion FitsBlock groups → scanned area ≡ Ok (laid 0 groups)

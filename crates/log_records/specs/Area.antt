@@ -47,14 +47,14 @@ abbrev pub at_place : ℕ → Entry → Scanned
 at_place place e = record { place = place; end = place + length (spelling e.number e.entry); number = e.number; entry = e.entry }
 
 -- the records of one block, the first of them from this place
-abbrev pub placed : ℕ → List Entry → List Scanned
-placed place [] = []
-placed place (e ∷ es) = at_place place e ∷ placed (place + length (spelling e.number e.entry)) es
+abbrev pub at_places : ℕ → List Entry → List Scanned
+at_places place [] = []
+at_places place (e ∷ es) = at_place place e ∷ at_places (place + length (spelling e.number e.entry)) es
 
 -- the records of blocks, the first gate at this place
 abbrev pub laid : ℕ → List (List Entry) → List Scanned
 laid place [] = []
-laid place (es ∷ groups) = placed (place + 5) es ++ laid (place + (5 + length (group es))) groups
+laid place (es ∷ groups) = at_places (place + 5) es ++ laid (place + (5 + length (group es))) groups
 
 -- a record as it was scanned, without its place
 abbrev pub unplaced : Scanned → Entry
