@@ -1,9 +1,9 @@
 //! The locks that a session holds.
-ghost use Rattle.std.specs.Prelude.{◌≡◌, ◌+◌, ◌<◌, ◌≤◌, ◌↔◌, [], ◌∷◌, length, IsTrue, OnOk};
-ghost use Rattle.std.specs.Vec.{vec_len, vec_capacity};
+ghost use Rattle.std.specs.Prelude.{◌≡◌, ◌+◌, ◌≤◌, ◌↔◌, [], ◌∷◌, IsTrue, OnOk};
+ghost use Rattle.std.specs.List.{Contains};
 ghost use Rattle.txn_machine.specs.Locks.{Conflict, Meet};
-ghost use Rattle.lock_manager.specs.Order.{IsPoint, ArePoints, AreInOrder, HasNoneBefore};
-ghost use Rattle.lock_manager.specs.Table.{Covers, HasSome, HasGained};
+ghost use Rattle.lock_manager.specs.Order.{ArePoints, AreInOrder, HasNoneBefore};
+ghost use Rattle.lock_manager.specs.Table.{Covers, HasSome, HasGained, AddAtMost, AreNew};
 
 use crate::conflict::{conflict, covers, is_same};
 use crate::order::{count_before, is_point, put, stands_after, stands_past};
@@ -110,21 +110,6 @@ fn has(locks: &[Want], want: &Want) -> bool
     has_from(locks, start, want)
 }
 
-// Adds a lock, into room that was made, if it is not there already.
-fn keep(locks: &mut Vec<Want>, want: Want)
-    requires order { AreInOrder locks.old.items }
-    requires room { vec_len locks.old < vec_capacity locks.old }
-    ensures gained { HasGained locks.old.items (want ∷ []) locks.new.items }
-    ensures order { AreInOrder locks.new.items }
-    ensures points { ArePoints locks.old.items → IsPoint want.interval → ArePoints locks.new.items }
-    ensures len { vec_len locks.new ≤ vec_len locks.old + 1 }
-    ensures capacity { vec_capacity locks.old ≤ vec_capacity locks.new }
-{
-    if !has(locks, &want) {
-        put(locks, want);
-    }
-}
-
 /// The locks of a session: those of one key, which are the great majority, apart from those of true ranges, so that a
 /// search begins at the first that can overlap an interval and goes no further than the last.
 #[derive(Drop)]
@@ -173,29 +158,35 @@ impl Held {
         Ok(())
     }
 
-    /// Adds a lock, into room that was made. One that is there already is not kept twice.
+    /// Adds a lock, into room that was made.
     pub fn add(&mut self, want: Want)
         requires { 1 ≤ self.old.spare }
         ensures locks { HasGained self.old.locks (want ∷ []) self.new.locks }
         ensures spare { self.old.spare ≤ self.new.spare + 1 }
     {
         if is_point(&want.interval) {
-            keep(&mut self.points, want);
+            put(&mut self.points, want);
         } else {
-            keep(&mut self.ranges, want);
+            put(&mut self.ranges, want);
         }
     }
 
-    /// Adds locks, into room that was made.
-    pub fn add_all(&mut self, wants: Vec<Want>)
-        requires { length wants.items ≤ self.old.spare }
+    /// Adds locks, and tells how many of them are new. Room was made for the new ones; the others use none.
+    pub fn add_all(&mut self, wants: Vec<Want>) -> usize
+        requires { AddAtMost self.old.spare self.old.locks wants.items }
         ensures locks { HasGained self.old.locks wants.items self.new.locks }
-        ensures spare { self.old.spare ≤ self.new.spare + length wants.items }
+        ensures new { AreNew result self.old.locks wants.items }
+        ensures spare { self.old.spare ≤ self.new.spare + result }
     {
         let mut left = wants;
+        let mut used = 0;
         while let Some(want) = left.pop() {
-            self.add(want);
+            if !self.has(&want) {
+                self.add(want);
+                used += 1;
+            }
         }
+        used
     }
 
     /// Takes all locks away. The memory stays for later ones.
@@ -226,6 +217,13 @@ impl Held {
             }
         }
         false
+    }
+
+    /// Whether this very lock is among the locks.
+    pub fn has(&self, want: &Want) -> bool
+        ensures { IsTrue result ↔ Contains self.now.locks want.now }
+    {
+        has(&self.points, want) || has(&self.ranges, want)
     }
 
     /// Whether there is a lock of exactly this mode on this index whose interval has the key.

@@ -1,8 +1,8 @@
 //! Locks in the order of their indexes, and in an index of their low ends.
-ghost use Rattle.std.specs.Prelude.{◌≡◌, ◌+◌, ◌<◌, ◌≤◌, ℕ, ◌∷◌, [], length, not, IsTrue, ◌↔◌};
+ghost use Rattle.std.specs.Prelude.{◌≡◌, ◌+◌, ◌<◌, ◌≤◌, ◌∷◌, [], IsTrue, ◌↔◌};
 ghost use Rattle.std.specs.Vec.{vec_len, vec_capacity};
-ghost use Rattle.std.specs.List.{insert};
-ghost use Rattle.lock_manager.specs.Order.{IsPoint, IsCount, AreInOrder, is_before, is_after, is_past, place_of};
+ghost use Rattle.lock_manager.specs.Order.{IsPoint, ArePoints, IsCount, AreInOrder, is_before, is_after, is_past};
+ghost use Rattle.lock_manager.specs.Table.{HasGained};
 
 use iv_types::{Interval, Want};
 use std::cmp::Ordering;
@@ -64,8 +64,9 @@ pub fn count_before(locks: &[Want], index: u32, low: &[u8]) -> usize
 pub fn put(locks: &mut Vec<Want>, lock: Want)
     requires order { AreInOrder locks.old.items }
     requires room { vec_len locks.old < vec_capacity locks.old }
-    ensures items { (at : ℕ) × (at ≤ length locks.old.items) × (locks.new.items ≡ insert locks.old.items at lock) }
+    ensures gained { HasGained locks.old.items (lock ∷ []) locks.new.items }
     ensures order { AreInOrder locks.new.items }
+    ensures points { ArePoints locks.old.items → IsPoint lock.interval → ArePoints locks.new.items }
     ensures len { vec_len locks.new ≡ vec_len locks.old + 1 }
     ensures capacity { vec_capacity locks.old ≤ vec_capacity locks.new }
 {

@@ -9,14 +9,14 @@ pub returns-then-is_point-clause-locks : goal.returns-then-is_point-clause-locks
 returns-then-is_point-clause-locks c =
     let points = c.self.inside.points.items in
     let ranges = c.self.inside.ranges.items in
-    let new = c.keep.new.locks.items in
+    let new = c.put.new.locks.items in
     subst (λ (old : List Want). HasGained old (c.args.want ∷ []) (new ++ ranges)) (ap (λ (k : HeldLocks). k.locks) c.self.view_is)
-    (gained_left (c.args.want ∷ []) points ranges new c.keep.ensures.gained)
+    (gained_left (c.args.want ∷ []) points ranges new c.put.ensures.gained)
 
 pub returns-else-is_point-clause-locks : goal.returns-else-is_point-clause-locks
 returns-else-is_point-clause-locks c =
     let points = c.self.inside.points.items in
     let ranges = c.self.inside.ranges.items in
-    let new = c.keep-else-is_point.new.locks.items in
+    let new = c.put-else-is_point.new.locks.items in
     subst (λ (old : List Want). HasGained old (c.args.want ∷ []) (points ++ new)) (ap (λ (k : HeldLocks). k.locks) c.self.view_is)
-    (gained_right (c.args.want ∷ []) points ranges new c.keep-else-is_point.ensures.gained)
+    (gained_right (c.args.want ∷ []) points ranges new c.put-else-is_point.ensures.gained)
