@@ -1,8 +1,7 @@
 -- How many of the wants are new.
-use Rattle.std.proofs.Common.{◌≡◌, ℕ, ◌+◌, ◌≤◌, List, [], ◌∷◌, ◌++◌, length, sym, ap, ◌∙◌, subst, arith, inl, inr}
+use Rattle.std.proofs.Common.{◌≡◌, ℕ, ◌+◌, ◌≤◌, List, [], ◌∷◌, ◌++◌, length, sym, ◌∙◌, subst, arith, inl, inr}
 use Rattle.std.specs.Prelude.{◌⊎◌}
 use Rattle.std.specs.List.{Contains}
-use Rattle.std.proofs.lemmas.List.{length_push, nil_from_length}
 use Rattle.std.proofs.lemmas.List.Elements.{Contains-append_left, Contains-append_right}
 use Rattle.iv_types.specs.declared.lock.Want.{Want}
 use Rattle.lock_manager.specs.Table.{HasGained, AddAtMost, AreNew, IsUsed}
@@ -167,15 +166,17 @@ added_new old wants now left after rest x used is out gained h = record {
 
 pub added_last : (old wants now left : List Want) (used : ℕ) → left ≡ [] → AreAdded old wants now left used → HasGained old wants now × AreNew used old wants
 added_last old wants now left used none h =
-    let gained = gaining_last old wants now left h.gaining none in
-    (gained, record {
-      enough = record { new = h.new; few = let n = h.count in omega (arith, n); others = λ w k. (h.are w).0 ((gained w).1 (inr k)) };
-      least = λ m at_most.
-          let n = h.count in
-          let few = at_most.few in
-          let le = no_more h.new at_most.new h.different (λ w k. elim (at_most.others w (h.wanted w k)) [ inl held ↦ absurd (h.not_held w k held) | inr new ↦ new ]) in
-          omega (arith, n, few, le);
-    })
+    let gained = gaining_last old wants now left h.gaining none in (
+      gained,
+      record {
+        enough = record { new = h.new; few = let n = h.count in omega (arith, n); others = λ w k. (h.are w).0 ((gained w).1 (inr k)) };
+        least = λ m at_most.
+            let n = h.count in
+            let few = at_most.few in
+            let le = no_more h.new at_most.new h.different (λ w k. elim (at_most.others w (h.wanted w k)) [ inl held ↦ absurd (h.not_held w k held) | inr new ↦ new ]) in
+            omega (arith, n, few, le);
+      },
+    )
 
 -- ---- what is used of a room
 

@@ -46,12 +46,12 @@ impl SessionPart {
     /// # Errors
     ///
     /// Where there is no memory for them.
-    pub fn reserve(&mut self, more: u32) -> Result<(), NoMemory>
+    pub fn reserve(&mut self, alloc: Global, more: u32) -> Result<(), NoMemory>
         ensures ok { OnOk result (self.new ≡ record self.old { room = max self.old.room more }) }
         ensures err { OnErr result (self.new ≡ self.old) }
     {
         let room = self.room.max(more);
-        self.held.reserve(room as usize)?;
+        self.held.reserve(alloc, room as usize)?;
         self.room = room;
         Ok(())
     }

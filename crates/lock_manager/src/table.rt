@@ -90,7 +90,8 @@ impl LockTable {
         ensures ok { OnOk result (IsReserved self.old self.new session more) }
         ensures err { OnErr result (self.new ≡ self.old) }
     {
-        self.parts[session as usize].reserve(more)
+        let alloc = self.alloc;
+        self.parts[session as usize].reserve(alloc, more)
     }
 
     /// Asks for locks, all or none. The session is 1 to 64, and there is room for those that it does not hold already.

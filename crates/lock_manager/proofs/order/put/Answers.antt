@@ -1,9 +1,9 @@
 use Rattle.std.proofs.Common.{◌∷◌, [], List, ℕ, subst, sym, arith}
 use Rattle.iv_types.specs.declared.lock.Want.{Want}
-use Rattle.lock_manager.specs.Order.{IsCount, AreInOrder, ArePoints, place_of}
+use Rattle.lock_manager.specs.Order.{IsCount, AreInOrder, place_of}
 use Rattle.lock_manager.specs.Table.{HasGained}
 use Rattle.lock_manager.proofs.Gains.{gained_inserted}
-use Rattle.lock_manager.proofs.Places.{count_within, inserted_in_order, points_inserted}
+use Rattle.lock_manager.proofs.Places.{count_within, inserted_in_order}
 use Rattle.lock_manager.proofs.order.put.Goals as goal
 
 pub insert-requires : goal.insert-requires
@@ -13,10 +13,6 @@ pub returns-clause-gained : goal.returns-clause-gained
 returns-clause-gained c =
     let locks = c.args.locks.now.items in
     subst (HasGained locks (c.args.lock ∷ [])) (sym c.in-Ok.ensures.items) (gained_inserted c.args.lock locks c.count_before-at.result)
-
-pub returns-clause-points : goal.returns-clause-points
-returns-clause-points c are is =
-    subst ArePoints (sym c.in-Ok.ensures.items) (points_inserted c.args.lock c.args.locks.now.items c.count_before-at.result are is)
 
 pub returns-clause-order : goal.returns-clause-order
 returns-clause-order c =

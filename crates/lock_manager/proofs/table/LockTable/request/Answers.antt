@@ -1,4 +1,4 @@
-use Rattle.std.proofs.Common.{◌≡◌, sym, ◌∙◌}
+use Rattle.std.proofs.Common.{sym, ◌∙◌}
 use Rattle.lock_manager.proofs.Keys.{true_false}
 use Rattle.lock_manager.proofs.Ways.{free_at}
 use Rattle.lock_manager.proofs.table.LockTable.request.Goals as goal
