@@ -112,6 +112,11 @@ gaining_more old wants now left after rest x h is g w = (
   ],
 )
 
+-- what is left is there already or to come
+pub gaining_left : (old wants now left : List Want) → AreGaining old wants now left → (w : Want) → Contains left w → Contains old w ⊎ Contains wants w
+unfolding AreGaining
+gaining_left old wants now left h w later = (h w).0 (inr later)
+
 pub gaining_last : (old wants now left : List Want) → AreGaining old wants now left → left ≡ [] → HasGained old wants now
 unfolding AreGaining
 gaining_last old wants now left h none w = (

@@ -2,6 +2,9 @@ pub mod Keys
 pub mod Places
 pub mod Searches
 pub mod Gains
+pub mod Counts
+pub mod HeldKeys
+pub mod Walks
 pub mod Ways
 pub mod Cycles
 pub mod Steps

@@ -7,7 +7,7 @@ use Rattle.std.specs.Ordering.{is_lt}
 use Rattle.std.specs.List.{insert}
 use Rattle.std.specs.List.Sorted.{IsPartitionPoint, IsPartitionedBy}
 use Rattle.iv_types.specs.declared.lock.Want.{Want}
-use Rattle.lock_manager.specs.Order.{place_of, is_before, StandFrom, AreInOrder, IsCount, ArePoints, IsPoint}
+use Rattle.lock_manager.specs.Order.{place_of, is_before, StandFrom, AreInOrder, IsCount}
 use Rattle.lock_manager.proofs.Keys.{by_bytes, less_true, not_itself, not_both, below_from, at_most_from}
 
 -- ---- in order
@@ -73,18 +73,6 @@ inserted_in_order lock (other ∷ locks) (suc n) h c = (
   stand_inserted (place_of other) lock locks n h.0 (not_both (place_of other) (place_of lock) (less_true _ c.0)),
   inserted_in_order lock locks n h.1 c.1,
 )
-
--- ---- points
-
-pub point_at : (locks : List Want) (k : ℕ) (d : Want) → ArePoints locks → k < length locks → let lock = slice_index_or locks k d in IsPoint lock.interval
-point_at [] k d h lt = absurd (omega arith)
-point_at (lock ∷ locks) zero d h lt = h.0
-point_at (lock ∷ locks) (suc k) d h lt = point_at locks k d h.1 (omega arith)
-
-pub points_inserted : (lock : Want) (locks : List Want) (n : ℕ) → ArePoints locks → IsPoint lock.interval → ArePoints (insert locks n lock)
-points_inserted lock locks zero h p = (p, h)
-points_inserted lock [] (suc n) h p = (p, tt)
-points_inserted lock (other ∷ locks) (suc n) h p = (h.0, points_inserted lock locks n h.1 p)
 
 -- the bytes of the high end of a point
 pub point_by : (high front low : List ℕ) (last : ℕ) (b : Bool) → high ≡ front ++ last ∷ [] → last ≡ 0 → b ≡ pointwise nat_eq front low

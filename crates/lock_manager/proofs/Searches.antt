@@ -13,10 +13,10 @@ use Rattle.iv_types.specs.declared.lock.Want.{Want}
 use Rattle.iv_types.specs.Intervals.{LiesIn, IsBelow, IsAtMost}
 use Rattle.txn_machine.specs.Locks.{Conflict}
 use Rattle.row_codec.proofs.RangeLaws.{alone}
-use Rattle.lock_manager.specs.Order.{place_of, is_before, is_after, is_past, AreInOrder, IsCount, ArePoints, IsPoint, HasNoneBefore}
+use Rattle.lock_manager.specs.Order.{place_of, is_before, is_after, is_past, AreInOrder, IsCount, IsPoint, HasNoneBefore}
 use Rattle.lock_manager.specs.Table.{HasSome, Covers}
 use Rattle.lock_manager.proofs.Keys.{by_bytes, true_false, less_true, greater_true, not_itself, below_from, below_up_to, at_most_from, at_most_false, same_index, index_at_most, below_nothing}
-use Rattle.lock_manager.proofs.Places.{rises, counted_at, point_at}
+use Rattle.lock_manager.proofs.Places.{rises, counted_at}
 use Rattle.iv_types.proofs.Fitting.{lies_is}
 
 -- ---- any locks
@@ -79,7 +79,7 @@ only_key interval key p lies =
 no_key : (key low high : List ℕ) → IsAtMost low key → IsBelow key high → is_lt (by_bytes low high) ≡ false → ⊥
 no_key key low high from to past = true_false (sym (ap is_lt (below_from low key high (at_most_false low key from) to)) ∙ past)
 
-past_end : (high : Option (List ℕ)) (want x lock : Want) → want.interval.high ≡ high → is_past want.index high x ≡ true → is_before (place_of x) lock ≡ false → ¬ Conflict lock want
+past_end : (high : Option (List ℕ)) (want x lock : Want) → want.interval.high ≡ high → is_past x.index x.interval.low want.index high ≡ true → is_before (place_of x) lock ≡ false → ¬ Conflict lock want
 past_end None want x lock is past up c =
     let lt : want.index < x.index = search (arith, past) in
     let le : x.index ≤ lock.index = index_at_most x.index lock.index x.interval.low lock.interval.low up in
@@ -90,7 +90,7 @@ past_end (Some high) want x lock is past up c =
     let key = c.common_key in
     no_key key.0 lock.interval.low high (lies_is key.0 lock.interval key.1).0 (subst (λ (h : Option (List ℕ)). IfSome h (λ end. IsBelow key.0 end)) is (lies_is key.0 want.interval key.2).1) (low_not_before lock want.index high c.one_index lock_past)
 
-pub past_conflict : (want x lock : Want) → is_past want.index want.interval.high x ≡ true → is_before (place_of x) lock ≡ false → ¬ Conflict lock want
+pub past_conflict : (want x lock : Want) → is_past x.index x.interval.low want.index want.interval.high ≡ true → is_before (place_of x) lock ≡ false → ¬ Conflict lock want
 past_conflict want x lock past up = past_end want.interval.high want x lock refl past up
 
 pub point_conflict : (want lock : Want) → IsPoint lock.interval → is_before (want.index ∷ want.interval.low) lock ≡ true → ¬ Conflict lock want
@@ -99,9 +99,6 @@ point_conflict want lock p before c =
     let is : key.0 ≡ lock.interval.low = only_key lock.interval key.0 p key.1 in
     no_key key.0 want.interval.low want.interval.low (lies_is key.0 want.interval key.2).0
     (subst (λ (k : List ℕ). IsBelow k want.interval.low) (sym is) (low_before lock want.index want.interval.low c.one_index before)) (not_itself want.interval.low)
-
-pub point_conflicts : (want : Want) (locks : List Want) (n : ℕ) → ArePoints locks → IsCount (want.index ∷ want.interval.low) locks n → HasNoneBefore (λ lock. Conflict lock want) locks n
-point_conflicts want locks n points c = none_counted (λ lock. Conflict lock want) (want.index ∷ want.interval.low) locks n c (λ k d lt before. point_conflict want (slice_index_or locks k d) (point_at locks k d points lt) before)
 
 pub range_conflicts : (want : Want) (locks : List Want) (n : ℕ) → IsCount (want.index ∷ []) locks n → HasNoneBefore (λ lock. Conflict lock want) locks n
 range_conflicts want locks n c = none_counted (λ lock. Conflict lock want) (want.index ∷ []) locks n c (λ k d lt before conflict. not_before_index (slice_index_or locks k d) want.index conflict.one_index before)
@@ -115,16 +112,6 @@ module _ (index : ℕ) (key : List ℕ) (mode : LockMode) where
       let lock_after : by_bytes (index ∷ key) (place_of lock) ≡ Less = below_up_to (index ∷ key) (place_of x) (place_of lock) x_after up in
       let back : by_bytes (place_of lock) (index ∷ key) ≡ Greater = nat_list_cmp_total.antisymm (place_of lock) (index ∷ key) ∙ ap ordering_reverse lock_after in
       (lies_is key lock.interval c.has_key).0 (sym (on_index lock index key c.on_index) ∙ back)
-
-  pub point_covers : (lock : Want) → IsPoint lock.interval → Covers index key mode lock → key ≡ lock.interval.low
-  point_covers lock p c = only_key lock.interval key p c.has_key
-
-  pub points_covering : (locks : List Want) (n : ℕ) → ArePoints locks → IsCount (index ∷ key) locks n → HasNoneBefore (Covers index key mode) locks n
-  points_covering locks n points c = none_counted (Covers index key mode) (index ∷ key) locks n c (λ k d lt before covers.
-      let lock = slice_index_or locks k d in
-      let is : key ≡ lock.interval.low = point_covers lock (point_at locks k d points lt) covers in
-      let less : by_bytes lock.interval.low key ≡ Less = low_before lock index key covers.on_index before in
-      true_false (sym (ap is_lt less) ∙ (ap (λ (l : List ℕ). is_lt (by_bytes l key)) (sym is) ∙ not_itself key)))
 
   pub ranges_covering : (locks : List Want) (n : ℕ) → IsCount (index ∷ []) locks n → HasNoneBefore (Covers index key mode) locks n
   ranges_covering locks n c = none_counted (Covers index key mode) (index ∷ []) locks n c (λ k d lt before covers. not_before_index (slice_index_or locks k d) index covers.on_index before)

@@ -8,7 +8,8 @@ use Rattle.iv_types.specs.declared.session.Sessions.{Sessions}
 use Rattle.iv_types.specs.SessionSets.{Has, IsSomebody}
 use Rattle.iv_meaning.specs.Waits.{nobody}
 use Rattle.txn_machine.specs.Locks.{Locks, IsInTheWay, AreInTheWay}
-use Rattle.lock_manager.specs.Table.{Table, SessionLocks, nothing, of_session, locks_of, HasGained, IsGranted, IsFree}
+use Rattle.lock_manager.specs.Table.{Table, SessionLocks, nothing, of_session, locks_of, room_of, HasGained, IsUsed, IsGranted, IsFree}
+use Rattle.lock_manager.proofs.Counts.{room_left}
 use Rattle.iv_types.proofs.Members.{has_members, nobody_there}
 
 -- exactly the sessions before this one that are in the way
@@ -59,12 +60,16 @@ free_at table session wants sessions h none other way = none (other, (has_member
 
 -- a session's part is put in place
 pub granted_at : (old : Table) (session : ℕ) (wants : List Want) (before after : SessionLocks) → session < length old → before ≡ of_session old session
-    → HasGained before.locks wants after.locks → after.waiting ≡ [] → after.room + length wants ≡ before.room → IsGranted old (slice_set old session after) session wants
-granted_at old session wants before after lt is gained waiting room =
-    let here : of_session (slice_set old session after) session ≡ after = get_or-set_same old session after nothing lt in
+    → HasGained before.locks wants after.locks → after.waiting ≡ [] → IsUsed before.locks wants before.room after.room → IsGranted old (slice_set old session after) session wants
+granted_at old session wants before after lt is gained waiting used =
+    let new : Table = slice_set old session after in
+    let here : of_session new session ≡ after = get_or-set_same old session after nothing lt in
     record {
-      locks = subst (λ (s : SessionLocks). HasGained s.locks wants (locks_of (slice_set old session after) session)) is (subst (λ (s : SessionLocks). HasGained before.locks wants s.locks) (sym here) gained);
+      locks = subst (λ (s : SessionLocks). HasGained s.locks wants (locks_of new session)) is (subst (λ (s : SessionLocks). HasGained before.locks wants s.locks) (sym here) gained);
       waiting = ap (λ (s : SessionLocks). s.waiting) here ∙ waiting;
-      room = ap (λ (s : SessionLocks). s.room + length wants) here ∙ (room ∙ ap (λ (s : SessionLocks). s.room) is);
+      used = subst (λ (s : SessionLocks). IsUsed s.locks wants s.room (room_of new session)) is (subst (λ (s : SessionLocks). IsUsed before.locks wants before.room s.room) (sym here) used);
+      room =
+          subst (λ (s : SessionLocks). s.room ≤ room_of new session + length wants) is
+          (subst (λ (s : SessionLocks). before.room ≤ s.room + length wants) (sym here) (room_left before.room after.room before.locks wants used));
       others = λ other ne. get_or-set_other old session other after nothing ne;
     }

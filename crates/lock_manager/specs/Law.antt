@@ -42,7 +42,7 @@ HasNoConflict table = (a b : ℕ) → IsSession a → IsSession b → a ≢ b �
 
 -- ---- calls
 
--- the calls that change a table: a `Grant` is a request that is granted, a `Wait` one that is blocked and recorded
+-- the calls that change a table: a `Grant` is a grant or a request that is granted, a `Wait` one that is blocked and recorded
 pub data Call : Type 0 where
   Reserve : ℕ → ℕ → Call
   Grant : ℕ → List Want → Call

@@ -29,10 +29,10 @@ is_before place lock = is_lt (slice_cmp nat_cmp (place_of lock) place)
 abbrev pub is_after : List ℕ → Want → Bool
 is_after place lock = is_gt (slice_cmp nat_cmp (place_of lock) place)
 
--- a lock from here on has no key before this high end of this index
-abbrev pub is_past : ℕ → Option (List ℕ) → Want → Bool
-is_past index (Some high) lock = not (is_before (index ∷ high) lock)
-is_past index None lock = nat_lt index lock.index
+-- a lock from this low end of this index on has no key before that high end of that index
+abbrev pub is_past : ℕ → List ℕ → ℕ → Option (List ℕ) → Bool
+is_past index low i (Some high) = not (is_lt (slice_cmp nat_cmp (index ∷ low) (i ∷ high)))
+is_past index low i None = nat_lt i index
 
 -- none of these stands before this place
 abbrev pub StandFrom : List ℕ → List Want → Type 0
@@ -51,16 +51,6 @@ IsCount place (lock ∷ locks) zero = is_before place lock ≡ false
 IsCount place (lock ∷ locks) (suc n) = (is_before place lock ≡ true) × IsCount place locks n
 
 -- ---- locks in memory
-
-abbrev pub ArePoints : List Want → Type 0
-ArePoints [] = Unit {0}
-ArePoints (lock ∷ locks) = IsPoint lock.interval × ArePoints locks
-
--- points and other intervals, each in order
-pub record AreKept (points ranges : List Want) : Type 0 where
-  pub all_points : ArePoints points
-  pub points_order : AreInOrder points
-  pub ranges_order : AreInOrder ranges
 
 -- the locks of a session, and for how many more there is room
 pub record HeldLocks : Type 0 where

@@ -1,7 +1,7 @@
 -- No clause of `run` rests on this module: it serves contracts between crates.
 --
 -- The locks of each session, what each waits for, and the room that is left for each.
-use Rattle.std.specs.Prelude.{◌≡◌, ◌≢◌, ℕ, ◌+◌, max, ◌↔◌, ◌⊎◌, List, [], length, slice_index_or, refl}
+use Rattle.std.specs.Prelude.{◌≡◌, ◌≢◌, ℕ, ◌+◌, ◌≤◌, max, ◌↔◌, ◌⊎◌, List, [], length, slice_index_or, refl}
 use Rattle.std.specs.List.{Contains}
 use Rattle.std.specs.Coded.{Coded, coded_ℕ, coded_list, coded×, code_by}
 use Rattle.iv_types.specs.declared.lock.LockMode.{LockMode}
@@ -64,11 +64,27 @@ IsReserved old new session more = ChangesOnly old new session (record (of_sessio
 abbrev pub HasGained : List Want → List Want → List Want → Type 0
 HasGained old wants new = (w : Want) → Contains new w ↔ (Contains old w ⊎ Contains wants w)
 
--- the wants are locks of the session, which has used so much of its room and waits for nothing
+-- at most so many of these wants are new: each other one is among the locks
+pub record AddAtMost (n : ℕ) (locks wants : List Want) : Type 0 where
+  pub new : List Want
+  pub few : length new ≤ n
+  pub others : (w : Want) → Contains wants w → Contains locks w ⊎ Contains new w
+
+-- so many of these wants are new, and no fewer
+pub record AreNew (n : ℕ) (locks wants : List Want) : Type 0 where
+  pub enough : AddAtMost n locks wants
+  pub least : (m : ℕ) → AddAtMost m locks wants → n ≤ m
+
+-- of so much room as much is used as wants are new
+abbrev pub IsUsed : List Want → List Want → ℕ → ℕ → Type 0
+IsUsed locks wants before after = (used : ℕ) × AreNew used locks wants × (after + used ≡ before)
+
+-- the wants are locks of the session, which has used room for those that it did not hold, and waits for nothing
 pub record IsGranted (old new : Table) (session : ℕ) (wants : List Want) : Type 0 where
   pub locks : HasGained (locks_of old session) wants (locks_of new session)
   pub waiting : waiting_of new session ≡ []
-  pub room : room_of new session + length wants ≡ room_of old session
+  pub used : IsUsed (locks_of old session) wants (room_of old session) (room_of new session)
+  pub room : room_of old session ≤ room_of new session + length wants
   pub others : KeepsOthers old new session
 
 -- the session waits for these wants, and for nothing else

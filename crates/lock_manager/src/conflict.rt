@@ -45,8 +45,9 @@ fn is_before_end(key: &[u8], high: &Option<Bytes>) -> bool
     }
 }
 
+/// Whether an interval has the key.
 #[tactic(auto, using(iv_types::proofs::Fitting::lies_is, iv_types::proofs::Fitting::lies_so))]
-fn lies_in(key: &[u8], interval: &Interval) -> bool
+pub fn lies_in(key: &[u8], interval: &Interval) -> bool
     ensures { IsTrue result ↔ LiesIn key.now interval.now }
 {
     interval.low.as_slice().cmp(&key).is_le() && is_before_end(key, &interval.high)

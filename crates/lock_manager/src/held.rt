@@ -1,13 +1,16 @@
 //! The locks that a session holds.
-ghost use Rattle.std.specs.Prelude.{◌≡◌, ◌+◌, ◌<◌, ◌≤◌, ◌↔◌, [], ◌∷◌, length, IsTrue, OnOk};
-ghost use Rattle.std.specs.Vec.{vec_len, vec_capacity};
+ghost use Rattle.std.specs.Prelude.{◌≡◌, ◌+◌, ◌≤◌, ◌↔◌, [], ◌∷◌, IsTrue, OnOk};
+ghost use Rattle.std.specs.List.{Contains};
 ghost use Rattle.txn_machine.specs.Locks.{Conflict, Meet};
-ghost use Rattle.lock_manager.specs.Order.{IsPoint, ArePoints, AreInOrder, HasNoneBefore};
-ghost use Rattle.lock_manager.specs.Table.{Covers, HasSome, HasGained};
+ghost use Rattle.lock_manager.specs.Order.{AreInOrder, HasNoneBefore};
+ghost use Rattle.lock_manager.specs.Table.{Covers, HasSome, HasGained, AddAtMost, AreNew};
 
 use crate::conflict::{conflict, covers, is_same};
-use crate::order::{count_before, is_point, put, stands_after, stands_past};
+use crate::modes::Modes;
+use crate::order::{comes_past, count_before, is_point, put, stands_after};
+use crate::points::{add_point, point_covers, point_has, point_meets};
 use iv_types::{LockMode, NoMemory, Want};
+use spare_map::SpareMap;
 use std::alloc::Global;
 use std::marker::Model;
 
@@ -19,7 +22,7 @@ fn meets_from(locks: &[Want], start: usize, want: &Want) -> bool
 {
     for at in start..locks.len() {
         let lock = &locks[at];
-        if stands_past(lock, want) {
+        if comes_past(lock.index, lock.interval.low.as_slice(), want) {
             return false;
         }
         if conflict(lock, want) {
@@ -47,16 +50,6 @@ fn covers_from(locks: &[Want], start: usize, index: u32, key: &[u8], mode: LockM
     false
 }
 
-// The same of locks of one key. Those of lesser keys are passed over.
-fn point_meets(points: &[Want], want: &Want) -> bool
-    requires points { ArePoints points.now }
-    requires order { AreInOrder points.now }
-    ensures { IsTrue result ↔ HasSome (λ lock. Conflict lock want.now) points.now }
-{
-    let start = count_before(points, want.index, want.interval.low.as_slice());
-    meets_from(points, start, want)
-}
-
 // The same of any locks. Those of lesser indexes are passed over.
 fn range_meets(ranges: &[Want], want: &Want) -> bool
     requires { AreInOrder ranges.now }
@@ -64,15 +57,6 @@ fn range_meets(ranges: &[Want], want: &Want) -> bool
 {
     let start = count_before(ranges, want.index, &[]);
     meets_from(ranges, start, want)
-}
-
-fn point_covers(points: &[Want], index: u32, key: &[u8], mode: LockMode) -> bool
-    requires points { ArePoints points.now }
-    requires order { AreInOrder points.now }
-    ensures { IsTrue result ↔ HasSome (Covers index key.now mode) points.now }
-{
-    let start = count_before(points, index, key);
-    covers_from(points, start, index, key, mode)
 }
 
 fn range_covers(ranges: &[Want], index: u32, key: &[u8], mode: LockMode) -> bool
@@ -110,41 +94,29 @@ fn has(locks: &[Want], want: &Want) -> bool
     has_from(locks, start, want)
 }
 
-// Adds a lock, into room that was made, if it is not there already.
-fn keep(locks: &mut Vec<Want>, want: Want)
-    requires order { AreInOrder locks.old.items }
-    requires room { vec_len locks.old < vec_capacity locks.old }
-    ensures gained { HasGained locks.old.items (want ∷ []) locks.new.items }
-    ensures order { AreInOrder locks.new.items }
-    ensures points { ArePoints locks.old.items → IsPoint want.interval → ArePoints locks.new.items }
-    ensures len { vec_len locks.new ≤ vec_len locks.old + 1 }
-    ensures capacity { vec_capacity locks.old ≤ vec_capacity locks.new }
-{
-    if !has(locks, &want) {
-        put(locks, want);
-    }
-}
-
-/// The locks of a session: those of one key, which are the great majority, apart from those of true ranges, so that a
-/// search begins at the first that can overlap an interval and goes no further than the last.
+/// The locks of a session. Those of one key, which are the great majority, stand in a map by their keys, so that they may
+/// come in any order. Those of true ranges stand in a list in the order of their indexes and low ends. A search begins at
+/// the first that can overlap an interval, of ranges at the first of its index, and goes no further than the last.
 #[derive(Drop)]
 pub struct Held {
-    points: Vec<Want>,
+    points: SpareMap<Modes>,
     ranges: Vec<Want>,
 }
 
 impl Model for Held {
     ghost use Rattle.std.specs.Prelude.{◌-◌, ◌++◌, min};
+    ghost use Rattle.std.specs.FinMap.{entries};
     ghost use Rattle.std.specs.Vec.{vec_len, vec_capacity};
-    ghost use Rattle.lock_manager.specs.Order.{HeldLocks, coded_held, AreKept};
+    ghost use Rattle.lock_manager.specs.Order.{HeldLocks, coded_held, AreInOrder};
+    ghost use Rattle.lock_manager.specs.Points.{points_of};
 
     ghost Value = { HeldLocks };
 
     ghost coded = { coded_held };
 
-    ghost view = { λ h. record { locks = h.points.items ++ h.ranges.items; spare = min (vec_capacity h.points - vec_len h.points) (vec_capacity h.ranges - vec_len h.ranges) } };
+    ghost view = { λ h. record { locks = points_of (entries h.points.entries) ++ h.ranges.items; spare = min h.points.room (vec_capacity h.ranges - vec_len h.ranges) } };
 
-    ghost invariant = { λ h. AreKept h.points.items h.ranges.items };
+    ghost invariant = { λ h. AreInOrder h.ranges.items };
 }
 
 impl Held {
@@ -153,7 +125,7 @@ impl Held {
         ensures { result.locks ≡ [] }
     {
         Held {
-            points: Vec::new(alloc),
+            points: SpareMap::new(),
             ranges: Vec::new(alloc),
         }
     }
@@ -163,46 +135,52 @@ impl Held {
     /// # Errors
     ///
     /// Where there is no memory for them.
-    pub fn reserve(&mut self, more: usize) -> Result<(), NoMemory>
+    pub fn reserve(&mut self, alloc: Global, more: usize) -> Result<(), NoMemory>
         ensures room { OnOk result (more ≤ self.new.spare) }
         ensures locks { self.new.locks ≡ self.old.locks }
         ensures spare { self.old.spare ≤ self.new.spare }
     {
-        self.points.reserve(more)?;
+        self.points.reserve(alloc, more)?;
         self.ranges.reserve(more)?;
         Ok(())
     }
 
-    /// Adds a lock, into room that was made. One that is there already is not kept twice.
+    /// Adds a lock, into room that was made.
     pub fn add(&mut self, want: Want)
         requires { 1 ≤ self.old.spare }
         ensures locks { HasGained self.old.locks (want ∷ []) self.new.locks }
         ensures spare { self.old.spare ≤ self.new.spare + 1 }
     {
         if is_point(&want.interval) {
-            keep(&mut self.points, want);
+            add_point(&mut self.points, want);
         } else {
-            keep(&mut self.ranges, want);
+            put(&mut self.ranges, want);
         }
     }
 
-    /// Adds locks, into room that was made.
-    pub fn add_all(&mut self, wants: Vec<Want>)
-        requires { length wants.items ≤ self.old.spare }
+    /// Adds locks, and tells how many of them are new. Room was made for the new ones; the others use none.
+    pub fn add_all(&mut self, wants: Vec<Want>) -> usize
+        requires { AddAtMost self.old.spare self.old.locks wants.items }
         ensures locks { HasGained self.old.locks wants.items self.new.locks }
-        ensures spare { self.old.spare ≤ self.new.spare + length wants.items }
+        ensures new { AreNew result self.old.locks wants.items }
+        ensures spare { self.old.spare ≤ self.new.spare + result }
     {
         let mut left = wants;
+        let mut used = 0;
         while let Some(want) = left.pop() {
-            self.add(want);
+            if !self.has(&want) {
+                self.add(want);
+                used += 1;
+            }
         }
+        used
     }
 
-    /// Takes all locks away. The memory stays for later ones.
+    /// Takes all locks away. The memory of the list of ranges stays for later ones.
     pub fn clear(&mut self)
         ensures locks { self.new.locks ≡ [] }
     {
-        self.points.clear();
+        self.points = SpareMap::new();
         self.ranges.clear();
     }
 
@@ -217,15 +195,19 @@ impl Held {
     pub fn meets(&self, wants: &[Want]) -> bool
         ensures { IsTrue result ↔ Meet self.now.locks wants.now }
     {
-        if self.points.is_empty() && self.ranges.is_empty() {
-            return false;
-        }
         for want in wants {
             if self.meets_one(want) {
                 return true;
             }
         }
         false
+    }
+
+    /// Whether this very lock is among the locks.
+    pub fn has(&self, want: &Want) -> bool
+        ensures { IsTrue result ↔ Contains self.now.locks want.now }
+    {
+        point_has(&self.points, want) || has(&self.ranges, want)
     }
 
     /// Whether there is a lock of exactly this mode on this index whose interval has the key.

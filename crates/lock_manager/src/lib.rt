@@ -12,7 +12,9 @@ mod answer;
 mod conflict;
 mod held;
 pub mod law;
+mod modes;
 mod order;
+mod points;
 mod session_part;
 mod table;
 

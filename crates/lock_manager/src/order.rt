@@ -1,8 +1,10 @@
 //! Locks in the order of their indexes, and in an index of their low ends.
-ghost use Rattle.std.specs.Prelude.{◌≡◌, ◌+◌, ◌<◌, ◌≤◌, ℕ, ◌∷◌, [], length, not, IsTrue, ◌↔◌};
+ghost use Rattle.std.specs.Prelude.{◌≡◌, ◌+◌, ◌<◌, ◌≤◌, ◌∷◌, [], IsTrue, ◌↔◌};
+ghost use Rattle.std.specs.Ordering.{nat_cmp, is_lt};
+ghost use Rattle.std.specs.Cmp.Lexicographic.{slice_cmp};
 ghost use Rattle.std.specs.Vec.{vec_len, vec_capacity};
-ghost use Rattle.std.specs.List.{insert};
-ghost use Rattle.lock_manager.specs.Order.{IsPoint, IsCount, AreInOrder, is_before, is_after, is_past, place_of};
+ghost use Rattle.lock_manager.specs.Order.{IsPoint, IsCount, AreInOrder, is_before, is_after, is_past};
+ghost use Rattle.lock_manager.specs.Table.{HasGained};
 
 use iv_types::{Interval, Want};
 use std::cmp::Ordering;
@@ -20,15 +22,22 @@ pub fn is_point(interval: &Interval) -> bool
     }
 }
 
+// Whether a low end of an index comes before another one.
+fn comes_before(index: u32, low: &[u8], other_index: u32, other_low: &[u8]) -> bool
+    ensures { result ≡ is_lt (slice_cmp nat_cmp (index ∷ low.now) (other_index ∷ other_low.now)) }
+{
+    match index.cmp(&other_index) {
+        Ordering::Less => true,
+        Ordering::Equal => low.cmp(&other_low).is_lt(),
+        Ordering::Greater => false,
+    }
+}
+
 // Whether a lock stands before this low end of this index.
 fn stands_before(lock: &Want, index: u32, low: &[u8]) -> bool
     ensures { result ≡ is_before (index ∷ low.now) lock.now }
 {
-    match lock.index.cmp(&index) {
-        Ordering::Less => true,
-        Ordering::Equal => lock.interval.low.as_slice().cmp(&low).is_lt(),
-        Ordering::Greater => false,
-    }
+    comes_before(lock.index, lock.interval.low.as_slice(), index, low)
 }
 
 /// Whether a lock stands after this low end of this index.
@@ -42,13 +51,13 @@ pub fn stands_after(lock: &Want, index: u32, low: &[u8]) -> bool
     }
 }
 
-/// Whether a lock stands at the high end of this one's interval or behind it.
-pub fn stands_past(lock: &Want, want: &Want) -> bool
-    ensures { result ≡ is_past want.now.index want.now.interval.high lock.now }
+/// Whether a low end of an index comes at the high end of this lock's interval or behind it.
+pub fn comes_past(index: u32, low: &[u8], want: &Want) -> bool
+    ensures { result ≡ is_past index low.now want.now.index want.now.interval.high }
 {
     match &want.interval.high {
-        None => want.index < lock.index,
-        Some(high) => !stands_before(lock, want.index, high.as_slice()),
+        None => want.index < index,
+        Some(high) => !comes_before(index, low, want.index, high.as_slice()),
     }
 }
 
@@ -64,7 +73,7 @@ pub fn count_before(locks: &[Want], index: u32, low: &[u8]) -> usize
 pub fn put(locks: &mut Vec<Want>, lock: Want)
     requires order { AreInOrder locks.old.items }
     requires room { vec_len locks.old < vec_capacity locks.old }
-    ensures items { (at : ℕ) × (at ≤ length locks.old.items) × (locks.new.items ≡ insert locks.old.items at lock) }
+    ensures gained { HasGained locks.old.items (lock ∷ []) locks.new.items }
     ensures order { AreInOrder locks.new.items }
     ensures len { vec_len locks.new ≡ vec_len locks.old + 1 }
     ensures capacity { vec_capacity locks.old ≤ vec_capacity locks.new }

@@ -1,11 +1,12 @@
 //! What is kept of one session.
-ghost use Rattle.std.specs.Prelude.{◌≡◌, ◌+◌, ◌≤◌, ◌↔◌, [], length, max, IsTrue, OnOk, OnErr};
-ghost use Rattle.lock_manager.specs.Table.{HasGained, nothing};
+ghost use Rattle.std.specs.Prelude.{◌≡◌, [], max, OnOk, OnErr};
+ghost use Rattle.lock_manager.specs.Table.{HasGained, AddAtMost, IsUsed, nothing};
 
 use crate::held::Held;
 use iv_types::{NoMemory, Want, WantList};
 use std::alloc::Global;
 use std::marker::Model;
+use std::mem;
 
 /// The locks of a session, what it waits for, and how many locks more it may be granted.
 #[derive(Drop)]
@@ -45,36 +46,35 @@ impl SessionPart {
     /// # Errors
     ///
     /// Where there is no memory for them.
-    pub fn reserve(&mut self, more: u32) -> Result<(), NoMemory>
+    pub fn reserve(&mut self, alloc: Global, more: u32) -> Result<(), NoMemory>
         ensures ok { OnOk result (self.new ≡ record self.old { room = max self.old.room more }) }
         ensures err { OnErr result (self.new ≡ self.old) }
     {
         let room = self.room.max(more);
-        self.held.reserve(room as usize)?;
+        self.held.reserve(alloc, room as usize)?;
         self.room = room;
         Ok(())
     }
 
-    /// Adds locks, for which there is room. The session waits for nothing then.
+    /// Adds locks. There is room for those that are new, and it is used. The session waits for nothing then.
     pub fn grant(&mut self, alloc: Global, wants: WantList)
-        requires { length wants ≤ self.old.room }
+        requires { AddAtMost self.old.room self.old.locks wants }
         ensures locks { HasGained self.old.locks wants self.new.locks }
         ensures waiting { self.new.waiting ≡ [] }
-        ensures room { self.new.room + length wants ≡ self.old.room }
+        ensures used { IsUsed self.old.locks wants self.old.room self.new.room }
     {
         let room = self.room;
-        let wants = wants.into_vec();
-        self.room = room - wants.len() as u32;
-        self.held.add_all(wants);
-        let none = WantList::new(alloc);
-        self.waiting = none;
+        let used = self.held.add_all(wants.into_vec());
+        self.room = room - used as u32;
+        self.waiting = WantList::new(alloc);
     }
 
-    /// The session waits for these wants and for nothing else.
-    pub fn wait(&mut self, wants: WantList)
-        ensures { self.new ≡ record self.old { waiting = wants } }
+    /// The session waits for these wants and for nothing else. What it waited for before is given back.
+    pub fn wait(&mut self, wants: WantList) -> WantList
+        ensures waits { self.new ≡ record self.old { waiting = wants } }
+        ensures before { result ≡ self.old.waiting }
     {
-        self.waiting = wants;
+        mem::replace(&mut self.waiting, wants)
     }
 
     /// Takes all away.

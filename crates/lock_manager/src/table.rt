@@ -1,9 +1,10 @@
 //! The locks of all sessions.
-ghost use Rattle.std.specs.Prelude.{◌≡◌, ◌≤◌, ◌↔◌, length, IsTrue, IfOk, OnOk, OnErr};
+ghost use Rattle.std.specs.Prelude.{◌≡◌, ◌↔◌, length, IsTrue, IfOk, OnOk, OnErr};
+ghost use Rattle.std.specs.List.{Contains};
 ghost use Rattle.iv_meaning.specs.Escrow.{IsSession};
 ghost use Rattle.txn_machine.specs.Locks.{IsInTheWay, AreInTheWay};
 ghost use Rattle.iv_types.specs.SessionSets.{IsSomebody};
-ghost use Rattle.lock_manager.specs.Table.{Covers, HasSome, IsNew, IsFree, IsReserved, IsGranted, IsRecorded, IsCancelled, IsReleased, OnGranted, IfBlocked, locks_of, waiting_of, room_of};
+ghost use Rattle.lock_manager.specs.Table.{Covers, HasSome, IsNew, IsFree, IsReserved, IsGranted, IsRecorded, IsCancelled, IsReleased, AddAtMost, OnGranted, IfBlocked, locks_of, waiting_of, room_of};
 
 use crate::LockAnswer;
 use crate::session_part::SessionPart;
@@ -89,31 +90,42 @@ impl LockTable {
         ensures ok { OnOk result (IsReserved self.old self.new session more) }
         ensures err { OnErr result (self.new ≡ self.old) }
     {
-        self.parts[session as usize].reserve(more)
+        let alloc = self.alloc;
+        self.parts[session as usize].reserve(alloc, more)
     }
 
-    /// Asks for locks, all or none. The session is 1 to 64, and as many locks are reserved for it as there are wants.
+    /// Asks for locks, all or none. The session is 1 to 64, and there is room for those that it does not hold already.
     ///
-    /// Where no other session holds a lock that conflicts with one of them they become locks of the session, which use
-    /// that much of its room, and it waits for nothing. Else the sessions in the way are answered, nothing is granted,
-    /// and the session waits for these wants and for nothing else.
+    /// Where no other session holds a lock that conflicts with one of them they are granted, as by `grant`. Else the
+    /// sessions in the way are answered, nothing is granted, and the session waits for these wants and for nothing else.
     pub fn request(&mut self, session: u32, wants: WantList) -> LockAnswer
         requires session { IsSession session }
-        requires reserved { length wants ≤ room_of self.old session }
+        requires reserved { AddAtMost (room_of self.old session) (locks_of self.old session) wants }
         ensures free { OnGranted result (IsFree (locks_of self.old) session wants) }
         ensures granted { OnGranted result (IsGranted self.old self.new session wants) }
         ensures in_the_way { IfBlocked result (λ sessions. AreInTheWay (locks_of self.old) session wants sessions) }
         ensures somebody { IfBlocked result (λ sessions. IsSomebody sessions) }
         ensures recorded { IfBlocked result (λ _. IsRecorded self.old self.new session wants) }
     {
-        let sessions = in_the_way(&self.parts, session, wants.as_slice());
-        let alloc = self.alloc;
+        let sessions = self.conflicts(session, &wants);
         if sessions.is_somebody() {
             self.parts[session as usize].wait(wants);
             return LockAnswer::Blocked(sessions);
         }
-        self.parts[session as usize].grant(alloc, wants);
+        self.grant(session, wants);
         LockAnswer::Granted
+    }
+
+    /// Makes these wants locks of the session, 1 to 64, which waits for nothing then. Nobody is in the way of them, as
+    /// `conflicts` tells, and there is room for those that the session does not hold already; the others use none.
+    pub fn grant(&mut self, session: u32, wants: WantList)
+        requires session { IsSession session }
+        requires free { IsFree (locks_of self.old) session wants }
+        requires reserved { AddAtMost (room_of self.old session) (locks_of self.old session) wants }
+        ensures { IsGranted self.old self.new session wants }
+    {
+        let alloc = self.alloc;
+        self.parts[session as usize].grant(alloc, wants);
     }
 
     /// The sessions that would block this request, nobody where it would be granted.
@@ -131,13 +143,14 @@ impl LockTable {
         in_the_way(&self.parts, session, self.parts[session as usize].waiting())
     }
 
-    /// Forgets what the session, 1 to 64, waits for.
-    pub fn cancel(&mut self, session: u32)
+    /// Gives back what the session, 1 to 64, waits for. It waits for nothing then.
+    pub fn cancel(&mut self, session: u32) -> WantList
         requires { IsSession session }
-        ensures { IsCancelled self.old self.new session }
+        ensures cancelled { IsCancelled self.old self.new session }
+        ensures wants { result ≡ waiting_of self.old session }
     {
         let none = WantList::new(self.alloc);
-        self.parts[session as usize].wait(none);
+        self.parts[session as usize].wait(none)
     }
 
     /// Takes away all locks of the session, 1 to 64, what it waits for, and its room.
@@ -155,5 +168,12 @@ impl LockTable {
         ensures { IsTrue result ↔ HasSome (Covers index key.now mode) (locks_of self.now session) }
     {
         self.parts[session as usize].held().holds(index, key, mode)
+    }
+    /// Whether the session, 1 to 64, holds this very lock: a want of it needs no room then.
+    pub fn holds_want(&self, session: u32, want: &Want) -> bool
+        requires { IsSession session }
+        ensures { IsTrue result ↔ Contains (locks_of self.now session) want.now }
+    {
+        self.parts[session as usize].held().has(want)
     }
 }

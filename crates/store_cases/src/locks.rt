@@ -3,11 +3,15 @@
 //! Keys are `a`, an interval from `b` on and before `d` is `b..d`, one with no high end `b..`. `S:1 a, X:2 b..d` is a Share
 //! lock on index 1 and an Exclusive one on index 2, and `I` an Increment one.
 //!
-//! `request SESSION LOCKS` answers `granted`, or `blocked by` the sessions in the way. `conflicts SESSION LOCKS` and
-//! `blocked SESSION` answer sessions, or `nobody`; `holds SESSION MODE:INDEX KEY` answers `yes` or `no`; `cancel SESSION`
-//! and `release SESSION` answer `done`. `modes INTERVAL INTERVAL` answers in which modes a lock of session 1 on the first
-//! and one that session 2 asks for on the second conflict, by the letters of both, or `none`.
+//! `request SESSION LOCKS` answers `granted`, or `blocked by` the sessions in the way. `retry SESSION` requests what the
+//! session waited for, as it is given back. `again SESSION LOCK` requests a lock that the session holds, for which no room
+//! is made, and `grant SESSION LOCKS` grants locks in whose way nobody is. `conflicts SESSION LOCKS` and `blocked SESSION`
+//! answer sessions, or `nobody`; `holds SESSION MODE:INDEX KEY` answers `yes` or `no`; `cancel SESSION` and
+//! `release SESSION` answer `done`. `modes INTERVAL INTERVAL` answers in which modes a lock of session 1 on the first and
+//! one that session 2 asks for on the second conflict, by the letters of both, or `none`.
+ghost use Rattle.std.specs.Prelude.{◌≤◌, length, OnOk};
 ghost use Rattle.iv_meaning.specs.Escrow.{IsSession};
+ghost use Rattle.lock_manager.specs.Table.{AddAtMost, locks_of, room_of};
 
 use crate::sessions::{session_of, write_sessions};
 use anyhow::bail;
@@ -93,29 +97,55 @@ fn wants(alloc: Global, text: &str) -> anyhow::Result<WantList> {
     Ok(wants)
 }
 
+// Makes room for as many locks.
+fn make_room(table: &mut LockTable, session: u32, wants: &WantList) -> anyhow::Result<()>
+    requires { IsSession session }
+    ensures { OnOk result (length wants.now ≤ room_of table.new session) }
+{
+    let count = wants.as_slice().len();
+    if count > 1000 {
+        bail!("too many locks");
+    }
+    table.reserve(session, count as u32)?;
+    Ok(())
+}
+
 // Asks for locks, for which room is made.
 fn ask(table: &mut LockTable, session: u32, wants: WantList) -> anyhow::Result<LockAnswer>
     requires { IsSession session }
 {
-    let count = wants.as_slice().len();
-    if count > 1000 {
-        forget(wants);
-        bail!("too many locks");
-    }
-    table.reserve(session, count as u32)?;
+    make_room(table, session, &wants)?;
     Ok(table.request(session, wants))
 }
 
-fn write_request(
-    alloc: Global,
-    out: &mut String,
-    table: &mut LockTable,
-    session: u32,
-    text: &str,
-) -> anyhow::Result<()>
+// Asks for a lock that is held already, for which no room is made.
+fn ask_again(table: &mut LockTable, session: u32, wants: WantList) -> anyhow::Result<LockAnswer>
     requires { IsSession session }
 {
-    match ask(table, session, wants(alloc, text)?)? {
+    let held = match wants.as_slice() {
+        [want] => table.holds_want(session, want),
+        _ => bail!("one lock was to come"),
+    };
+    if !held {
+        bail!("the lock is not held");
+    }
+    Ok(table.request(session, wants))
+}
+
+// Takes locks in whose way nobody is.
+fn take(table: &mut LockTable, session: u32, wants: WantList) -> anyhow::Result<LockAnswer>
+    requires { IsSession session }
+{
+    make_room(table, session, &wants)?;
+    if table.conflicts(session, &wants).is_somebody() {
+        bail!("somebody is in the way");
+    }
+    table.grant(session, wants);
+    Ok(LockAnswer::Granted)
+}
+
+fn write_answer(out: &mut String, answer: LockAnswer) -> anyhow::Result<()> {
+    match answer {
         LockAnswer::Granted => out.push_str("granted")?,
         LockAnswer::Blocked(sessions) => {
             out.push_str("blocked by ")?;
@@ -158,7 +188,13 @@ fn call_locks(
     let (session, rest) = first_word(rest);
     let session = session_of(session)?;
     match call {
-        "request" => write_request(alloc, out, table, session, rest),
+        "request" => write_answer(out, ask(table, session, wants(alloc, rest)?)?),
+        "again" => write_answer(out, ask_again(table, session, wants(alloc, rest)?)?),
+        "grant" => write_answer(out, take(table, session, wants(alloc, rest)?)?),
+        "retry" => {
+            let wants = table.cancel(session);
+            write_answer(out, ask(table, session, wants)?)
+        }
         "conflicts" => write_conflicts(alloc, out, table, session, rest),
         "blocked" => write_sessions(out, table.blocked_by(session)),
         "holds" => write_holds(out, table, session, rest),

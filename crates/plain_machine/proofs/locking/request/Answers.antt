@@ -21,7 +21,7 @@ returns-in-Some-clause-asked c = λ held waiting a.
     locked_out u c.request.new.self c.cancel.new.self held waiting c.recorded_waits-waits.result c.args.session c.args.wants c.in-Blocked.sessions c.in-Some.cycle
     (same_agrees t u held waiting locks waits a) c.requires
     (λ k is. same_ways (table.locks_of t) (table.locks_of u) locks k (table.waiting_of t k) (table.waiting_of u k) (recorded c.recorded_waits-waits.result k) (waits k) (c.recorded_waits-waits.ensures k is))
-    c.in-Blocked.ensures.in_the_way c.in-Some.ensures.some c.in-Blocked.ensures.recorded c.cancel.ensures
+    c.in-Blocked.ensures.in_the_way c.in-Some.ensures.some c.in-Blocked.ensures.recorded c.cancel.ensures.cancelled
 
 pub returns-in-None-clause-asked : goal.returns-in-None-clause-asked
 returns-in-None-clause-asked c = λ held waiting a.

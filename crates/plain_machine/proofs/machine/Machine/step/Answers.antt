@@ -28,6 +28,6 @@ returns c = λ s st may.
     let same : s.steps ≡ c.args.self.now.steps = sym st.steps in
     let few : s.steps + 1 < most_steps = omega (arith, same) in
     elim c.if-not-is_blocked.branch [
-      | then-not-is_blocked w ↦ stepped_on l c.if-not-is_blocked.self s i a said w.cancel.new.self c.in-Some.steps st.reached st.stop may t w.self-is steps_is w.cancel.ensures (sym w.if-not-is_blocked.ensures) few
+      | then-not-is_blocked w ↦ stepped_on l c.if-not-is_blocked.self s i a said w.cancel.new.self c.in-Some.steps st.reached st.stop may t w.self-is steps_is w.cancel.ensures.cancelled (sym w.if-not-is_blocked.ensures) few
       | else-not-is_blocked w ↦ stepped_wait l c.if-not-is_blocked.self s i a said c.in-Some.steps st.reached st.stop may t w.self-is steps_is (sym w.if-not-is_blocked.ensures) few
     ]
