@@ -30,7 +30,7 @@ struct Asked {
     held: bool,
 }
 
-fn key(alloc: Global, number: u32) -> Result<Bytes, NoMemory> {
+pub fn key(alloc: Global, number: u32) -> Result<Bytes, NoMemory> {
     Ok(Bytes::from_vec(Vec::from_slice(alloc, &number.to_be_bytes())?))
 }
 
@@ -57,7 +57,7 @@ fn lock(alloc: Global, number: u32, first: u32) -> Result<Want, NoMemory> {
 }
 
 /// Whether a request is granted. The room that it takes is made first.
-fn ask(table: &mut LockTable, session: u32, wants: WantList) -> anyhow::Result<bool>
+pub fn ask(table: &mut LockTable, session: u32, wants: WantList) -> anyhow::Result<bool>
     requires { IsSession session }
 {
     let Ok(more) = u32::try_from(wants.as_slice().len()) else {

@@ -203,9 +203,6 @@ module _ (want : Want) where
       meets = λ h. subst Meets (sym (todo_first false (want.index, want.interval.low) (entries points) (entries_sorted points))) (low_first (entries points) h);
     })
 
-    pub walk_ends : IsWalking None → ¬ Meets (entries points)
-    walk_ends w h = let (lock, among, c) = w.meets h in contains_none lock among
-
     module _ (p : Place) (w : IsWalking (Some p)) where
       pub walk_past : is_past p.0 p.1 want.index want.interval.high ≡ true → ¬ Meets (entries points)
       walk_past past h =

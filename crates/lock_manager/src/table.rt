@@ -130,7 +130,8 @@ impl LockTable {
 
     /// The sessions that would block this request, nobody where it would be granted.
     pub fn conflicts(&self, session: u32, wants: &WantList) -> Sessions
-        ensures { AreInTheWay (locks_of self.now) session wants.now result }
+        ensures in_the_way { AreInTheWay (locks_of self.now) session wants.now result }
+        ensures free { ¬ IsSomebody result → IsFree (locks_of self.now) session wants.now }
     {
         in_the_way(&self.parts, session, wants.as_slice())
     }

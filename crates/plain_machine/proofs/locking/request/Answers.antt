@@ -1,7 +1,15 @@
+use Rattle.std.proofs.Common.{length, ap, arith, inr}
 use Rattle.iv_meaning.specs.Waits.{recorded}
 use Rattle.lock_manager.specs.Table as table
+use Rattle.lock_manager.specs.Table.{SessionLocks}
 use Rattle.plain_machine.proofs.Requests.{same_agrees, same_ways, reserved_locks, reserved_waits, granted, waits_for, locked_out}
 use Rattle.plain_machine.proofs.locking.request.Goals as goal
+
+pub request-requires-clause-reserved : goal.request-requires-clause-reserved
+request-requires-clause-reserved c =
+    let room = ap (λ (s : SessionLocks). s.room) c.in_ok-reserve.ensures.ok.changed in
+    let same = ap length c.as_slice.ensures in
+    record { new = c.args.wants; few = omega (arith, room, same, c.in-Ok.ensures); others = λ w h. inr h }
 
 pub returns-in-Granted-clause-asked : goal.returns-in-Granted-clause-asked
 returns-in-Granted-clause-asked c = λ held waiting a.

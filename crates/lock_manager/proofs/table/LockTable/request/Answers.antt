@@ -1,14 +1,11 @@
 use Rattle.std.proofs.Common.{sym, ◌∙◌}
 use Rattle.lock_manager.proofs.Keys.{true_false}
-use Rattle.lock_manager.proofs.Ways.{free_at}
 use Rattle.lock_manager.proofs.table.LockTable.request.Goals as goal
 
 pub grant-requires-clause-free : goal.grant-requires-clause-free
 grant-requires-clause-free c =
-    free_at c.args.self.now c.args.session c.args.wants c.conflicts-sessions.result c.conflicts-sessions.ensures
-    (λ somebody. true_false (sym (c.is_somebody.ensures.1 somebody) ∙ c.if-is_somebody.false))
+    c.conflicts-sessions.ensures.free (λ somebody. true_false (sym (c.is_somebody.ensures.1 somebody) ∙ c.if-is_somebody.false))
 
 pub returns-clause-free : goal.returns-clause-free
 returns-clause-free c =
-    free_at c.args.self.now c.args.session c.args.wants c.conflicts-sessions.result c.conflicts-sessions.ensures
-    (λ somebody. true_false (sym (c.is_somebody.ensures.1 somebody) ∙ c.if-is_somebody.false))
+    c.conflicts-sessions.ensures.free (λ somebody. true_false (sym (c.is_somebody.ensures.1 somebody) ∙ c.if-is_somebody.false))
