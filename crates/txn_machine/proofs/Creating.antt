@@ -285,7 +285,7 @@ module _ (db : Database) (sound : IsSound db) where
       } in
       let first_is : q.first ≡ table first = table_is q.first first e in
       let joins = view_joins db sound w first refl (named_numbered db sound is.there.0.0 (table first) (is.there.0.1 ∙ ap Some first_is)) q.joins is.there.1
-          (subst (λ (o : Object). is_many_to_one o q.joins ≡ true) first_is many) (no_lack (as_table q.first) q first e passed.1.1.1.1.1.1.1.1.1.1.1.1.1.1) in
+      (subst (λ (o : Object). is_many_to_one o q.joins ≡ true) first_is many) (no_lack (as_table q.first) q first e passed.1.1.1.1.1.1.1.1.1.1.1.1.1.1) in
       let kinds_typed = and_both (list_all (λ i. item_typed (kinds_seen db.schema q) i.item) q.items && list_all (λ j. is_truth (family (kinds_seen db.schema q) j.on)) q.joins) (condition_typed (kinds_seen db.schema q) q.condition) typed in
       subst IsMade (of_view w v same) (
         joins,
