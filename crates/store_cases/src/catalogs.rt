@@ -1,10 +1,13 @@
-//! Catalogs of tables.
+//! Catalogs of tables and their indexes.
 //!
 //! A table is its name, the kinds of its columns, `KEY`, and the places of its key's columns, counted from 0, as in `pair
-//! INT TEXT HUGE KEY 1 0`.
+//! INT TEXT HUGE KEY 1 0`. An index is `index`, its name, the number of its table, `KEY`, and the places of its columns, as
+//! in `index second 1 KEY 2 1`.
 use anyhow::bail;
 use case_text::first_word;
-use iv_types::{Bytes, Catalog, ColumnDef, ColumnList, Definition, Kind, Places, TableDef};
+use iv_types::{
+    Bytes, Catalog, ColumnDef, ColumnList, Definition, IndexDef, Kind, Places, TableDef,
+};
 use std::alloc::Global;
 use std::mem::forget;
 
@@ -54,6 +57,22 @@ fn table(alloc: Global, number: u32, text: &str) -> anyhow::Result<TableDef> {
     })
 }
 
+// The index of a text and a number.
+fn index(alloc: Global, number: u32, text: &str) -> anyhow::Result<IndexDef> {
+    let (name, rest) = first_word(text);
+    let Some((table, key)) = rest.split_once(" KEY ") else {
+        bail!("no key")
+    };
+    let name = Bytes::from_vec(Vec::from_slice(alloc, name.as_bytes())?);
+    let columns = places(alloc, key)?;
+    Ok(IndexDef {
+        number,
+        name,
+        table: table.parse::<u32>()?,
+        columns,
+    })
+}
+
 fn add(catalog: &mut Catalog, definition: Definition) -> anyhow::Result<()> {
     let next = catalog.len().checked_add(1);
     if next != Some(definition.number() as usize)
@@ -66,12 +85,20 @@ fn add(catalog: &mut Catalog, definition: Definition) -> anyhow::Result<()> {
     Ok(())
 }
 
-/// Adds the table of a text.
-pub fn add_table(alloc: Global, catalog: &mut Catalog, text: &str) -> anyhow::Result<()> {
+// The table or the index of a text and a number.
+fn definition(alloc: Global, number: u32, text: &str) -> anyhow::Result<Definition> {
+    match text.strip_prefix("index ") {
+        Some(rest) => Ok(Definition::Index(index(alloc, number, rest)?)),
+        None => Ok(Definition::Table(table(alloc, number, text)?)),
+    }
+}
+
+/// Adds the table or the index of a text.
+pub fn add_definition(alloc: Global, catalog: &mut Catalog, text: &str) -> anyhow::Result<()> {
     let count = catalog.len();
     if count >= 64 {
-        bail!("too many tables");
+        bail!("too many definitions");
     }
-    let table = table(alloc, count as u32 + 1, text)?;
-    add(catalog, Definition::Table(table))
+    let definition = definition(alloc, count as u32 + 1, text)?;
+    add(catalog, definition)
 }

@@ -2,7 +2,7 @@
 //!
 //! What is left at the end is forgotten and not dropped: the program is short, and the drop is costly to prove.
 use crate::bounds::Bounds;
-use crate::catalogs::add_table;
+use crate::catalogs::add_definition;
 use crate::locks::Locks;
 use crate::maps::Maps;
 use crate::places::Places;
@@ -107,7 +107,7 @@ impl Cases for Subjects {
     fn give(&mut self, alloc: Global, text: &str) -> anyhow::Result<()> {
         match self.kind {
             Kind::Waits => self.waits.give(text),
-            Kind::Tables | Kind::Deltas => add_table(alloc, &mut self.catalog, text),
+            Kind::Tables | Kind::Deltas => add_definition(alloc, &mut self.catalog, text),
             Kind::Pays => {
                 self.start = String::from_str(alloc, text)?;
                 Ok(())

@@ -1,11 +1,11 @@
 //! Changes of tables over maps in memory, and what is read behind them.
 //!
-//! A line `+ ` adds a table to the catalog (`catalogs`). `change NUMBER: ROW > ROW` changes a row of a table from what it
+//! A line `+ ` adds a table or an index to the catalog (`catalogs`). `change NUMBER: ROW > ROW` changes a row of a table from what it
 //! was to what it is then, `nothing` where there is none, and `back` takes the latest change back that was not taken back
-//! yet; both answer `done`. `entries` answers the entries that the latest change removed and made, with ` > ` between, each
-//! as its index, its key and its value in hexadecimal digits, or `nothing`. `used` answers what all entries count. `read
-//! NUMBER INTERVAL` answers the rows of a table in an interval, whose ends are values of the first columns of its key, or
-//! behind `=` bytes with escapes, with `..` between.
+//! yet; both answer `done`. `entries` answers the entries that the latest change removed and made, with ` > ` between and
+//! commas in each, every one as its index, its key and its value in hexadecimal digits, or `nothing`. `used` answers what all entries count. `read
+//! NUMBER INTERVAL` answers the rows of a table in an interval of its keys or of the keys of one of its indexes, whose ends are
+//! values of the first columns of the table's key or of the index, or behind `=` bytes with escapes, with `..` between.
 //!
 //! For each row all calls of its table are made again from the first on: what a proof knows of the tables behind a call
 //! is not kept from one row to the next.
@@ -13,21 +13,23 @@ ghost use Rattle.std.specs.Prelude.{◌≡◌, Some, IfOk, OnOk};
 ghost use Rattle.iv_meaning.specs.Database.{Rows};
 ghost use Rattle.table_store.specs.Lists.{map_at};
 ghost use Rattle.table_store.specs.Stored as specs;
-ghost use Rattle.table_store.specs.Stored.{Holds};
+ghost use Rattle.table_store.specs.Stored.{Holds, IsIndexOf};
 
 use crate::changed_rows::changed_rows;
-use crate::table_facts::{can_be_taken_back, is_change, key_of, kinds_at, table_of};
+use crate::table_facts::{
+    can_be_taken_back, index_kinds, index_of, is_change, key_of, kinds_at, table_of,
+};
 use anyhow::bail;
 use case_text::{first_word, read_row, unescaped, write_hexadecimal, write_row};
 use iv_types::{
-    Bytes, Catalog, Change, IndexEntry, Interval, Kept, Kind, NoMemory, RowList, SortedMaps,
+    Bytes, Catalog, Change, IndexDef, IndexEntry, Interval, Kept, Kind, NoMemory, RowList,
     TableDef, Value,
 };
 use row_codec::{encode_key, key_fits};
 use std::alloc::Global;
 use std::fmt::Write;
 use std::mem::forget;
-use table_store::{ListMaps, Tables};
+use table_store::{ListMaps, Tables, make_room};
 
 // Tables without rows.
 fn no_rows(alloc: Global, catalog: &Catalog) -> Result<Tables<ListMaps>, NoMemory>
@@ -71,10 +73,10 @@ fn change(
     let Some(table) = table_of(catalog, change.table) else {
         bail!("no table")
     };
-    if !is_change(alloc, table, tables.maps(), &change)? {
+    if !is_change(alloc, catalog, table, tables.maps(), &change)? {
         bail!("no change");
     }
-    Ok(tables.change(catalog, change)?)
+    Ok(tables.change(catalog, change, 0)?)
 }
 
 // Makes the change of a text.
@@ -110,8 +112,8 @@ fn take_back(
     let Some(table) = table_of(catalog, kept.change.table) else {
         bail!("no table")
     };
-    tables.maps_mut().reserve(kept.change.table, 1)?;
-    if !can_be_taken_back(alloc, table, tables.maps(), &kept)? {
+    make_room(tables.maps_mut(), catalog, table, 1)?;
+    if !can_be_taken_back(alloc, catalog, table, tables.maps(), &kept)? {
         bail!("not to be taken back");
     }
     tables.take_back(catalog, kept);
@@ -129,29 +131,28 @@ fn leading_key(alloc: Global, kinds: &[Kind], values: &[Value]) -> anyhow::Resul
     Ok(encode_key(alloc, kinds, values)?)
 }
 
-// An end of an interval of the table's keys.
-fn end(alloc: Global, table: &TableDef, text: &str) -> anyhow::Result<Bytes> {
+// An end of an interval of keys, which begin with columns of these kinds.
+fn end(alloc: Global, kinds: &[Kind], text: &str) -> anyhow::Result<Bytes> {
     if let Some(letters) = text.strip_prefix('=') {
         return Ok(Bytes::from_vec(unescaped(alloc, letters)?));
     }
-    let kinds = kinds_at(alloc, table)?;
     let values = read_row(alloc, text)?;
-    leading_key(alloc, kinds.as_slice(), values.as_slice())
+    leading_key(alloc, kinds, values.as_slice())
 }
 
-fn interval(alloc: Global, table: &TableDef, text: &str) -> anyhow::Result<Interval> {
+fn interval(alloc: Global, kinds: &[Kind], text: &str) -> anyhow::Result<Interval> {
     let Some((low, high)) = text.split_once("..") else {
         bail!("no interval")
     };
     let low = if low.is_empty() {
         Bytes::new(alloc)
     } else {
-        end(alloc, table, low)?
+        end(alloc, kinds, low)?
     };
     let high = if high.is_empty() {
         None
     } else {
-        Some(end(alloc, table, high)?)
+        Some(end(alloc, kinds, high)?)
     };
     Ok(Interval { low, high })
 }
@@ -182,7 +183,45 @@ fn rows_of(
     tables.read(catalog, table.number, interval)
 }
 
-// Writes the rows of a table in an interval.
+// The rows of a table in an interval of the keys of an index.
+fn rows_by_index(
+    catalog: &Catalog,
+    tables: &Tables<ListMaps>,
+    table: &TableDef,
+    index: &IndexDef,
+    interval: &Interval,
+) -> Result<RowList, NoMemory>
+    requires held { (rows : Rows) × Holds catalog.now rows (map_at tables.now) }
+    requires table { specs.table_of catalog.now table.now.number ≡ Some table.now }
+    requires index { IsIndexOf catalog.now table.now index.now }
+{
+    tables.read(catalog, index.number, interval)
+}
+
+// Writes the rows of a table in an interval of the keys of an index.
+fn write_by_index(
+    alloc: Global,
+    out: &mut String,
+    catalog: &Catalog,
+    tables: &Tables<ListMaps>,
+    index: &IndexDef,
+    ends: &str,
+) -> anyhow::Result<()>
+    requires held { (rows : Rows) × Holds catalog.now rows (map_at tables.now) }
+    requires index { specs.index_of catalog.now index.now.number ≡ Some index.now }
+{
+    let Some(table) = table_of(catalog, index.table) else {
+        bail!("no table")
+    };
+    let kinds = index_kinds(alloc, table, index)?;
+    let interval = interval(alloc, kinds.as_slice(), ends)?;
+    let rows = rows_by_index(catalog, tables, table, index, &interval)?;
+    let told = write_rows(out, &rows);
+    forget(rows);
+    told
+}
+
+// Writes the rows of a table in an interval of the keys of one of its indexes.
 fn write_read(
     alloc: Global,
     out: &mut String,
@@ -193,26 +232,42 @@ fn write_read(
     requires { (rows : Rows) × Holds catalog.now rows (map_at tables.now) }
 {
     let (number, ends) = first_word(text);
-    let Some(table) = table_of(catalog, number.parse::<u32>()?) else {
+    let number = number.parse::<u32>()?;
+    if let Some(index) = index_of(catalog, number) {
+        return write_by_index(alloc, out, catalog, tables, index, ends);
+    }
+    let Some(table) = table_of(catalog, number) else {
         bail!("no table")
     };
-    let interval = interval(alloc, table, ends)?;
+    let kinds = kinds_at(alloc, table)?;
+    let interval = interval(alloc, kinds.as_slice(), ends)?;
     let rows = rows_of(catalog, tables, table, &interval)?;
     let told = write_rows(out, &rows);
     forget(rows);
     told
 }
 
+fn write_entry(out: &mut String, entry: &IndexEntry) -> anyhow::Result<()> {
+    let index = entry.index;
+    write!(out, "{index} ")?;
+    write_hexadecimal(out, entry.key.as_slice())?;
+    if entry.value.as_slice().is_empty() {
+        return Ok(());
+    }
+    out.push(' ')?;
+    write_hexadecimal(out, entry.value.as_slice())?;
+    Ok(())
+}
+
 fn write_entries(out: &mut String, entries: &[IndexEntry]) -> anyhow::Result<()> {
     if entries.is_empty() {
         out.push_str("nothing")?;
     }
+    let mut is_first = true;
     for entry in entries {
-        let index = entry.index;
-        write!(out, "{index} ")?;
-        write_hexadecimal(out, entry.key.as_slice())?;
-        out.push(' ')?;
-        write_hexadecimal(out, entry.value.as_slice())?;
+        out.push_str(if is_first { "" } else { ", " })?;
+        is_first = false;
+        write_entry(out, entry)?;
     }
     Ok(())
 }

@@ -1,8 +1,10 @@
 -- Keys of rows in the indexes of their table: rows with one key there have one primary key.
-use Rattle.std.specs.Prelude.{◌≡◌, ℕ, zero, suc, List, [], ◌∷◌, ◌++◌, length, drop, slice_get, Option, Some, None}
+use Rattle.std.specs.Prelude.{◌≡◌, ℕ, zero, suc, ◌<◌, List, [], ◌∷◌, ◌++◌, length, take, drop, slice_get, Option, Some, None}
 use Rattle.std.specs.List.{cons_option}
 use Rattle.std.proofs.lemmas.List.Elements.{filter_map-append}
 use Rattle.std.proofs.Math.Seq.{drop-append_seam}
+use Rattle.std.proofs.Common.{arith, append_assoc}
+use Rattle.std.proofs.lemmas.List.{append-nil}
 use mathlib.Core.Path.{refl, sym, ap, subst, ◌∙◌}
 use Rattle.iv_types.specs.declared.value.Kind.{Kind}
 use Rattle.iv_types.specs.declared.value.Value.{Value}
@@ -14,6 +16,7 @@ use Rattle.iv_meaning.specs.Database.{key_of}
 use Rattle.iv_meaning.specs.View.{index_key}
 use Rattle.row_codec.specs.Laws.{OneSpelling}
 use Rattle.table_store.specs.Stored.{key_at}
+use Rattle.table_store.proofs.Rows.{some_same}
 
 -- a column has both a kind and a value that fits it, or neither
 abbrev pub FitsAt : Option Kind → Option Value → Type 0
@@ -88,3 +91,47 @@ front_none t place places row f is =
     let fits : FitsAt None (slice_get row place) = subst (λ (o : Option Kind). FitsAt o (slice_get row place)) is (fits_at (kinds_of t) row place f) in
     ap (λ (o : Option Kind). key_bytes (cons_option o (items_at (kinds_of t) places)) (cons_option (slice_get row place) (items_at row places))) is
     ∙ none_value (slice_get row place) (items_at (kinds_of t) places) (items_at row places) fits
+
+-- ---- a key by its columns
+
+no_column : (k : Option Kind) (v : Option Value) (ks : List Kind) (vs : List Value) → FitsAt k v → key_bytes (cons_option k ks) (cons_option v vs) ≡ key_bytes (cons_option k []) (cons_option v []) ++ key_bytes ks vs
+no_column None None ks vs f = refl
+no_column None (Some v) ks vs f = absurd f
+no_column (Some k) None ks vs f = absurd f
+no_column (Some k) (Some v) ks vs f = ap (λ (l : List ℕ). l ++ key_bytes ks vs) (sym (append-nil (key_value_bytes k v)))
+
+-- the column of the first place, and then the others
+pub key_next : (t : TableDef) (place : ℕ) (places : List ℕ) (row : List Value) → FitAll (kinds_of t) row → key_at t (place ∷ places) row ≡ key_at t (place ∷ []) row ++ key_at t places row
+key_next t place places row f =
+    no_column (slice_get (kinds_of t) place) (slice_get row place) (items_at (kinds_of t) places) (items_at row places) (fits_at (kinds_of t) row place f)
+
+pub key_append : (t : TableDef) (xs ys : List ℕ) (row : List Value) → FitAll (kinds_of t) row → key_at t (xs ++ ys) row ≡ key_at t xs row ++ key_at t ys row
+key_append t [] ys row f = refl
+key_append t (x ∷ xs) ys row f =
+    key_next t x (xs ++ ys) row f
+    ∙ (ap (λ (l : List ℕ). key_at t (x ∷ []) row ++ l) (key_append t xs ys row f)
+    ∙ (sym (append_assoc (key_at t (x ∷ []) row) (key_at t xs row) (key_at t ys row)) ∙ ap (λ (l : List ℕ). l ++ key_at t ys row) (sym (key_next t x xs row f))))
+
+there_within : {X Y : Type 0} (ks : List X) (vs : List Y) (place : ℕ) (k : X) → length vs ≡ length ks → slice_get ks place ≡ Some k → place < length vs
+there_within [] vs place k e is = absurd (cc)
+there_within (x ∷ ks) [] place k e is = absurd (omega (arith, e))
+there_within (x ∷ ks) (v ∷ vs) zero k e is = omega arith
+there_within (x ∷ ks) (v ∷ vs) (suc place) k e is = omega (arith, there_within ks vs place k (omega (arith, e)) is)
+
+-- a place with a column is one of the row's
+pub place_within : (t : TableDef) (place : ℕ) (row : List Value) (k : Kind) → FitAll (kinds_of t) row → slice_get (kinds_of t) place ≡ Some k → place < length row
+place_within t place row k f is = there_within (kinds_of t) row place k (same_length (kinds_of t) row f) is
+
+one_here : (ks : List Kind) (vs : List Value) (place : ℕ) (k : Kind) → FitAll ks vs → slice_get ks place ≡ Some k
+    → FitAll (k ∷ []) (take 1 (drop place vs)) × (cons_option (slice_get vs place) [] ≡ take 1 (drop place vs))
+one_here [] vs place k f is = absurd (cc)
+one_here (x ∷ ks) [] place k f is = absurd f
+one_here (x ∷ ks) (v ∷ vs) zero k f is = let P : Kind → Type 0 = λ y. Fits y v in ((subst P (some_same x k is) f.0, tt), refl)
+one_here (x ∷ ks) (v ∷ vs) (suc place) k f is = one_here ks vs place k f.1 is
+
+-- the part of the row at the place, as a key of one column
+pub one_column : (t : TableDef) (place : ℕ) (row : List Value) (k : Kind) → FitAll (kinds_of t) row → slice_get (kinds_of t) place ≡ Some k
+    → FitAll (k ∷ []) (take 1 (drop place row)) × (key_bytes (k ∷ []) (take 1 (drop place row)) ≡ key_at t (place ∷ []) row)
+one_column t place row k f is =
+    let o = one_here (kinds_of t) row place k f is in
+    (o.0, ap (key_bytes (k ∷ [])) (sym o.1) ∙ ap (λ (y : Option Kind). key_bytes (cons_option y []) (cons_option (slice_get row place) [])) (sym is))

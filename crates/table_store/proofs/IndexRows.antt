@@ -122,8 +122,8 @@ module _ (rows : Rows) (t : TableDef) (i : IndexDef) (n : Map) (holds : HoldsInd
   same_at q None is None there = refl
   same_at q None is (Some value) there =
       let o = holds.only q value there in
-      absurd (not_missed (index_key t i) t.number o.1.0 o.1.1 (entries rows) (sym (get-entries rows (t.number, o.1.0)) ∙ o.1.2)
-      (ap (λ k. find by_bytes k (keyed_by (index_key t i) (rows_of rows t.number))) (sym o.1.3) ∙ is))
+      absurd (not_missed (index_key t i) t.number o.key o.row (entries rows) (sym (get-entries rows (t.number, o.key)) ∙ o.is_there)
+      (ap (λ k. find by_bytes k (keyed_by (index_key t i) (rows_of rows t.number))) (sym o.at_is) ∙ is))
   same_at q (Some row) is y there =
       let o = found_one (index_key t i) (Is rows t.number) (rows_of rows t.number) q row (each_row rows t.number) is in
       sym there ∙ (ap (get n) o.0 ∙ holds.each o.1.0 row o.1.1)

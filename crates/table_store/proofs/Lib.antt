@@ -9,3 +9,8 @@ pub mod Fresh
 pub mod Staging
 pub mod IndexKeys
 pub mod IndexRows
+pub mod TableIndexes
+pub mod Moves
+pub mod Rooms
+pub mod Exchanges
+pub mod Changing

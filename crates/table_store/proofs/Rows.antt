@@ -1,20 +1,17 @@
 -- Maps that hold the rows of tables, after a row is set.
 use Rattle.std.specs.Prelude.{◌≡◌, ◌≢◌, ℕ, List, Option, Some, IfSome}
 use mathlib.Core.Path.{sym, ap, subst, ◌∙◌}
-use mathlib.Core.Logic.{inl, inr}
-use Rattle.std.proofs.lemmas.Bool.{cases_eq}
 use Rattle.std.specs.FinMap.{get}
 use Rattle.std.specs.Cmp.Lexicographic.{nat_list_cmp_total}
 use Rattle.iv_types.specs.declared.value.Value.{Value}
 use Rattle.iv_types.specs.declared.catalog.TableDef.{TableDef}
-use Rattle.iv_types.specs.Definitions.{Definitions}
 use Rattle.iv_types.specs.Maps.{Map}
 use Rattle.iv_meaning.specs.Database.{Rows, set_row}
 use Rattle.table_laws.specs.Place.{Place}
 use Rattle.table_laws.specs.Table.{write}
 use Rattle.table_laws.proofs.Place.{place_cmp_total, place_cmp-IsAntisymmetric}
 use Rattle.table_laws.proofs.Tables.{by_key, get-write_at, get-write_other}
-use Rattle.table_store.specs.Stored.{stored, table_of, StandsUnder, HoldsTable, SetsRow}
+use Rattle.table_store.specs.Stored.{stored, StandsUnder, HoldsTable}
 use Rattle.table_store.proofs.Maps.{bytes_same}
 
 pub some_same : {A : Type 0} (x y : A) → Some x ≡ Some y → x ≡ y
@@ -24,7 +21,7 @@ of_some : {A : Type 0} (P : A → Type 0) (v : Option A) (x : A) → v ≡ Some 
 of_some P v x e h = subst (λ o. IfSome o P) e h
 
 -- the table in which the row is set
-set_here : (rows : Rows) (t : TableDef) (m new : Map) (key : List ℕ) (row : Option (List Value)) → HoldsTable rows t m
+pub set_here : (rows : Rows) (t : TableDef) (m new : Map) (key : List ℕ) (row : Option (List Value)) → HoldsTable rows t m
     → new ≡ write m key (stored t row) → IfSome row (StandsUnder t key) → HoldsTable (set_row rows t.number key row) t new
 set_here rows t m new key row holds is stands = record {
   same = λ q. ap (λ (x : Map). get x q) is ∙ by_key nat_list_cmp_total bytes_same q key
@@ -40,7 +37,7 @@ set_here rows t m new key row holds is stands = record {
 }
 
 -- another table
-set_there : (rows : Rows) (t : TableDef) (m new : Map) (table : ℕ) (key : List ℕ) (row : Option (List Value)) → HoldsTable rows t m
+pub set_there : (rows : Rows) (t : TableDef) (m new : Map) (table : ℕ) (key : List ℕ) (row : Option (List Value)) → HoldsTable rows t m
     → new ≡ m → t.number ≢ table → HoldsTable (set_row rows table key row) t new
 set_there rows t m new table key row holds is apart = record {
   same = λ q. ap (λ (x : Map). get x q) is ∙ (holds.same q ∙ sym (ap (stored t) (other q)));
@@ -49,15 +46,3 @@ set_there rows t m new table key row holds is apart = record {
   where
     other : (q : List ℕ) → get (set_row rows table key row) (t.number, q) ≡ get rows (t.number, q)
     other q = get-write_other place_cmp_total place_cmp-IsAntisymmetric rows (table, key) row (t.number, q) (λ p. apart (ap (λ (x : Place). x.0) p))
-
-pub sets_row : (ds : Definitions) (table : ℕ) (key : List ℕ) (row : Option (List Value)) (old new : ℕ → Map) (t : TableDef) → table_of ds table ≡ Some t
-    → new table ≡ write (old table) key (stored t row) → ((i : ℕ) → i ≢ table → new i ≡ old i) → IfSome row (StandsUnder t key) → SetsRow ds table key row old new
-sets_row ds table key row old new t is entry others stands rows holds u there = elim (cases_eq u.number table) [
-  | inl e ↦
-      let same : t ≡ u = some_same t u (sym is ∙ (ap (table_of ds) (sym e) ∙ there)) in
-      let written : new u.number ≡ write (old u.number) key (stored u row) =
-      ap new e ∙ (entry ∙ (ap (λ (n : ℕ). write (old n) key (stored t row)) (sym e) ∙ ap (λ (v : TableDef). write (old u.number) key (stored v row)) same)) in
-      subst (λ (n : ℕ). HoldsTable (set_row rows n key row) u (new u.number)) e
-      (set_here rows u (old u.number) (new u.number) key row (holds u there) written (subst (λ (v : TableDef). IfSome row (StandsUnder v key)) same stands))
-  | inr d ↦ set_there rows u (old u.number) (new u.number) table key row (holds u there) (others u.number d) d
-]

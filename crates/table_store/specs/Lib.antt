@@ -1,2 +1,4 @@
 pub mod Lists
 pub mod Stored
+pub mod Entries
+pub mod Changes

@@ -1,27 +1,23 @@
 -- No clause of `run` rests on this module: it serves contracts between crates.
 --
 -- What sorted maps hold of the rows of a database's tables.
-use Rattle.std.specs.Prelude.{◌≡◌, ◌≢◌, ℕ, ◌+◌, ◌≤◌, Bool, true, List, [], ◌∷◌, length, sum_by, Option, Some, None, IsSome, IfSome, is_some, filter, ◌⊎◌, if◌then◌else◌}
+use Rattle.std.specs.Prelude.{◌≡◌, ℕ, ◌+◌, Bool, true, List, [], ◌∷◌, length, sum_by, Option, Some, None, filter, ◌⊎◌}
 use Rattle.std.specs.Option.{option_map, option_map_or, option_or, option_and_then}
 use Rattle.std.specs.Ordering.{nat_cmp, is_lt}
 use Rattle.std.specs.Cmp.Lexicographic.{slice_cmp}
-use Rattle.std.specs.FinMap.{get, insert}
+use Rattle.std.specs.FinMap.{get}
 use Rattle.iv_types.specs.declared.value.Value.{Value}
 use Rattle.iv_types.specs.declared.value.Interval.{Interval}
-use Rattle.iv_types.specs.declared.lock.Change.{Change}
-use Rattle.iv_types.specs.declared.lock.IndexEntry.{IndexEntry}
-use Rattle.iv_types.specs.declared.lock.Kept.{Kept}
 use Rattle.iv_types.specs.declared.catalog.TableDef.{TableDef}
 use Rattle.iv_types.specs.declared.catalog.IndexDef.{IndexDef}
 use Rattle.iv_types.specs.declared.catalog.Definition.{Definition}
 use Rattle.iv_types.specs.declared.catalog.Definition.TheVariants.{Table, Index}
 use Rattle.iv_types.specs.Definitions.{Definitions, numbered}
 use Rattle.iv_types.specs.Encoding.{kinds_of, FitAll, row_bytes, key_bytes, lies_in}
-use Rattle.iv_types.specs.Maps.{Map, Entry, CanHold, IsWithin, used, with_map}
+use Rattle.iv_types.specs.Maps.{Map, Entry}
 use Rattle.iv_meaning.specs.Schema.{items_at}
 use Rattle.iv_meaning.specs.View.{index_key}
 use Rattle.iv_meaning.specs.Database.{Rows, key_of, set_row}
-use Rattle.table_laws.specs.Table.{write}
 
 -- ---- the table of an object number
 
@@ -59,15 +55,33 @@ pub record HoldsTable (rows : Rows) (t : TableDef) (m : Map) : Type 0 where
   pub same : (key : List ℕ) → get m key ≡ stored t (get rows (t.number, key))
   pub fitting : (key : List ℕ) (row : List Value) → get rows (t.number, key) ≡ Some row → StandsUnder t key row
 
+-- the entry of a row in an index that CREATE INDEX made
+pub record IsOfRow (rows : Rows) (t : TableDef) (i : IndexDef) (at value : List ℕ) : Type 0 where
+  pub key : List ℕ
+  pub row : List Value
+  pub is_there : get rows (t.number, key) ≡ Some row
+  pub at_is : at ≡ index_key t i row
+  pub empty : value ≡ []
+
 -- The map of an index that CREATE INDEX made holds the rows of its table: for each an entry under the row's key there with nothing
 -- behind it, and nothing else.
 pub record HoldsIndex (rows : Rows) (t : TableDef) (i : IndexDef) (m : Map) : Type 0 where
   pub each : (key : List ℕ) (row : List Value) → get rows (t.number, key) ≡ Some row → get m (index_key t i row) ≡ Some []
-  pub only : (at value : List ℕ) → get m at ≡ Some value → (value ≡ []) × ((key : List ℕ) × (row : List Value) × (get rows (t.number, key) ≡ Some row) × (at ≡ index_key t i row))
+  pub only : (at value : List ℕ) → get m at ≡ Some value → IsOfRow rows t i at value
+
+-- an index of the table that CREATE INDEX made
+pub record IsIndexOf (definitions : Definitions) (t : TableDef) (i : IndexDef) : Type 0 where
+  pub is : index_of definitions i.number ≡ Some i
+  pub of_table : i.table ≡ t.number
+
+-- the maps hold the rows of a table in its primary index and in all others
+pub record HoldsAll (definitions : Definitions) (rows : Rows) (maps : ℕ → Map) (t : TableDef) : Type 0 where
+  pub primary : HoldsTable rows t (maps t.number)
+  pub others : (i : IndexDef) → IsIndexOf definitions t i → HoldsIndex rows t i (maps i.number)
 
 -- the maps hold the rows of all tables
 abbrev pub Holds : Definitions → Rows → (ℕ → Map) → Type 0
-Holds definitions rows maps = (t : TableDef) → table_of definitions t.number ≡ Some t → HoldsTable rows t (maps t.number)
+Holds definitions rows maps = (t : TableDef) → table_of definitions t.number ≡ Some t → HoldsAll definitions rows maps t
 
 -- each entry is a row of the table under its key
 abbrev pub AreRows : TableDef → Map → Type 0
@@ -116,59 +130,6 @@ noted_entries es = sum_by (λ e. length e.1 + noted_row) es
 -- the rows of a table
 abbrev pub noted_rows : TableDef → List (List Value) → ℕ
 noted_rows t rows = sum_by (λ row. length (row_bytes (kinds_of t) row) + noted_row) rows
-
--- ---- one key
-
--- an entry of an index, or none
-abbrev pub entries_of : ℕ → List ℕ → Option (List ℕ) → List IndexEntry
-entries_of index key None = []
-entries_of index key (Some value) = record { index = index; key = key; value = value } ∷ []
-
--- how many entries there are under a key
-abbrev pub how_many : Option (List ℕ) → ℕ
-how_many value = if is_some value then 1 else 0
-
--- a value can be put under the key: its size, and what all entries count then
-pub record CanPut (maps : ℕ → Map) (limit : Option ℕ) (index : ℕ) (key bytes : List ℕ) : Type 0 where
-  pub held : CanHold index key bytes
-  pub within : IsWithin limit (used (with_map maps index (insert (maps index) key bytes)))
-
--- there is room where an entry is new
-abbrev pub HasRoom : (ℕ → Map) → (ℕ → ℕ) → ℕ → List ℕ → Option (List ℕ) → Type 0
-HasRoom maps spare index key value = IsSome value → get (maps index) key ≡ None → 1 ≤ spare index
-
--- This value or none is put under the key, and all else stays. An entry that is new takes the room of one at most, and
--- one that goes gives it back.
-pub record Sets (index : ℕ) (key : List ℕ) (value : Option (List ℕ)) (old new : ℕ → Map) (spare_old spare_new : ℕ → ℕ) : Type 0 where
-  pub entry : new index ≡ write (old index) key value
-  pub others : (i : ℕ) → i ≢ index → new i ≡ old i
-  pub spare : spare_old index + how_many (get (old index) key) ≤ spare_new index + how_many value
-  pub other_spares : (i : ℕ) → i ≢ index → spare_old i ≤ spare_new i
-
--- ---- a change of a row
-
--- The change is one of the table: its rows stand under its key and differ, and the row before is the one that is there.
-pub record IsChange (change : Change) (maps : ℕ → Map) (limit : Option ℕ) (t : TableDef) : Type 0 where
-  pub is_there : get (maps change.table) change.key ≡ stored t change.before
-  pub row_before : IfSome change.before (StandsUnder t change.key)
-  pub row_after : IfSome change.after (StandsUnder t change.key)
-  pub differ : change.before ≢ change.after
-  pub can : IfSome (stored t change.after) (CanPut maps limit change.table change.key)
-
--- the change, with the entries that it removed and made
-pub record IsKept (change : Change) (kept : Kept) (t : TableDef) : Type 0 where
-  pub change_is : kept.change ≡ change
-  pub removed : kept.gone ≡ entries_of change.table change.key (stored t change.before)
-  pub made : kept.made ≡ entries_of change.table change.key (stored t change.after)
-
--- The change can be taken back: it was kept so, its row after is the one that is there, and where it took an entry away
--- there is room for it.
-pub record CanTakeBack (kept : Kept) (maps : ℕ → Map) (spare : ℕ → ℕ) (limit : Option ℕ) (t : TableDef) : Type 0 where
-  pub is_kept : IsKept kept.change kept t
-  pub is_there : get (maps kept.change.table) kept.change.key ≡ stored t kept.change.after
-  pub row_before : IfSome kept.change.before (StandsUnder t kept.change.key)
-  pub can : IfSome (stored t kept.change.before) (CanPut maps limit kept.change.table kept.change.key)
-  pub room : HasRoom maps spare kept.change.table kept.change.key (stored t kept.change.before)
 
 -- ---- by the number of a table
 

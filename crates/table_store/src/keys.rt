@@ -9,7 +9,7 @@ use iv_types::{Kind, TableDef};
 use row_codec::after_column;
 
 // The kind of the column of this place of the table, if it has one.
-fn kind_at(table: &TableDef, place: u32) -> Option<Kind>
+pub fn kind_at(table: &TableDef, place: u32) -> Option<Kind>
     ensures { result ≡ slice_get (kinds_of table.now) place }
 {
     match table.columns.as_slice().get(place as usize) {

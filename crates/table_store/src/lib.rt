@@ -2,10 +2,14 @@
 #![tactic(auto)]
 
 mod entry_list;
+mod exchange;
 mod keys;
 mod list_maps;
+mod row_entries;
 mod stored;
 mod tables;
 
+pub use exchange::make_room;
 pub use list_maps::ListMaps;
+pub use row_entries::own_entries;
 pub use tables::Tables;

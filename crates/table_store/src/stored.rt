@@ -1,13 +1,12 @@
-//! Rows of a table as entries of its primary index.
+//! Tables by their numbers, rows of their bytes, and copies.
 ghost use Rattle.std.specs.Prelude.{◌≡◌, List, Some, None, IsSome, IfOk, IfSome};
 ghost use Rattle.std.specs.Option.{option_copied};
 ghost use Rattle.iv_types.specs.declared.value.Value.{Value};
 ghost use Rattle.iv_types.specs.Encoding.{kinds_of, FitAll, row_bytes};
 ghost use Rattle.table_store.specs.Stored as specs;
-ghost use Rattle.table_store.specs.Stored.{stored, entries_of};
 
 use iv_types::{Bytes, Catalog, Definition, IndexEntry, IndexEntryList, NoMemory, Row, TableDef};
-use row_codec::{RowFault, decode_row, encode_row};
+use row_codec::{RowFault, decode_row};
 use std::alloc::Global;
 
 /// The table of an object number that is a table's.
@@ -38,52 +37,6 @@ pub fn row_of(alloc: Global, table: &TableDef, bytes: &[u8]) -> Result<Row, NoMe
     }
 }
 
-/// The bytes of a row, or none.
-///
-/// # Errors
-///
-/// Where there is no memory for them.
-pub fn bytes_of(
-    alloc: Global,
-    table: &TableDef,
-    row: &Option<Row>,
-) -> Result<Option<Bytes>, NoMemory>
-    requires { IfSome row.now (λ values. FitAll (kinds_of table.now) values) }
-    ensures { IfOk result (λ bytes. bytes ≡ stored table.now row.now) }
-{
-    match row {
-        Some(row) => Ok(Some(encode_row(alloc, table, row)?)),
-        None => Ok(None),
-    }
-}
-
-/// The entry of the primary index in which a row is stored, or none.
-///
-/// # Errors
-///
-/// Where there is no memory for it.
-pub fn entry_of(
-    alloc: Global,
-    table: &TableDef,
-    key: &Bytes,
-    row: &Option<Row>,
-) -> Result<IndexEntryList, NoMemory>
-    requires { IfSome row.now (λ values. FitAll (kinds_of table.now) values) }
-    ensures { IfOk result (λ list. list ≡ entries_of table.now.number key.now (stored table.now row.now)) }
-{
-    let mut entries = IndexEntryList::new(alloc);
-    if let Some(row) = row {
-        let value = encode_row(alloc, table, row)?;
-        let key = copy_of(alloc, key)?;
-        entries.push(IndexEntry {
-            index: table.number,
-            key,
-            value,
-        })?;
-    }
-    Ok(entries)
-}
-
 /// The same bytes again.
 ///
 /// # Errors
@@ -93,4 +46,30 @@ pub fn copy_of(alloc: Global, bytes: &Bytes) -> Result<Bytes, NoMemory>
     ensures { IfOk result (λ copy. copy ≡ bytes.now) }
 {
     Ok(Bytes::from_vec(Vec::from_slice(alloc, bytes.as_slice())?))
+}
+
+// The same entry again.
+fn copy_of_entry(alloc: Global, entry: &IndexEntry) -> Result<IndexEntry, NoMemory>
+    ensures { IfOk result (λ copy. copy ≡ entry.now) }
+{
+    Ok(IndexEntry {
+        index: entry.index,
+        key: copy_of(alloc, &entry.key)?,
+        value: copy_of(alloc, &entry.value)?,
+    })
+}
+
+/// The same entries again.
+///
+/// # Errors
+///
+/// Where there is no memory for them.
+pub fn copies_of(alloc: Global, entries: &[IndexEntry]) -> Result<IndexEntryList, NoMemory>
+    ensures { IfOk result (λ copies. copies ≡ entries.now) }
+{
+    let mut copies = IndexEntryList::new(alloc);
+    for entry in entries {
+        copies.push(copy_of_entry(alloc, entry)?)?;
+    }
+    Ok(copies)
 }

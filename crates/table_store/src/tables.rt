@@ -1,5 +1,5 @@
 //! Tables over sorted maps.
-ghost use Rattle.std.specs.Prelude.{◌≡◌, ℕ, ◌+◌, ◌-◌, ◌^◌, ◌≤◌, min, length, List, Some, IfOk, IfSome, OnOk, OnErr};
+ghost use Rattle.std.specs.Prelude.{◌≡◌, ℕ, ◌+◌, ◌-◌, ◌^◌, ◌<◌, ◌≤◌, min, length, List, Some, IfOk, IfSome, OnOk, OnErr};
 ghost use Rattle.std.specs.FinMap as map;
 ghost use Rattle.std.specs.Borrow.{Lends, sem};
 ghost use Rattle.iv_types.specs.Encoding.{kinds_of, row_bytes};
@@ -9,13 +9,16 @@ ghost use Rattle.iv_types.specs.declared.value.Value.{Value};
 ghost use Rattle.iv_types.specs.declared.catalog.TableDef.{TableDef};
 ghost use Rattle.iv_meaning.specs.Database.{Database, Rows};
 ghost use Rattle.iv_meaning.specs.View as view;
-ghost use Rattle.table_store.specs.Stored.{stored, entries_of, StandsUnder, HoldsTable, HoldsRead, CanRead, IsEntryOf, AreEntries, Follow, AreRows, noted_row, noted_entries, noted_rows, listed_table, Decode, between, before, CanPut, HasRoom, Sets, IsChange, IsKept, CanTakeBack, IsTableAnd, OfTable, SetsRow};
+ghost use Rattle.table_store.specs.Stored.{stored, StandsUnder, HoldsTable, HoldsRead, CanRead, IsEntryOf, AreEntries, Follow, AreRows, noted_row, noted_entries, noted_rows, listed_table, Decode, between, before, IsTableAnd, OfTable};
+ghost use Rattle.table_store.specs.Changes.{Sets, SetsRow, IsChange, IsKept, KeepsRoom, TakesRoom, CanTakeBack};
 
+use crate::exchange::{exchange, make_room};
 use crate::keys::primary_part;
-use crate::stored::{bytes_of, copy_of, entry_of, row_of, table_of};
+use crate::row_entries::own_entries;
+use crate::stored::{copies_of, row_of, table_of};
 use iv_types::{
-    Bytes, Catalog, Change, Definition, IndexDef, IndexEntry, Interval, Kept, NoMemory, Row,
-    RowList, SortedMaps, TableDef,
+    Bytes, Catalog, Change, Definition, IndexDef, Interval, Kept, NoMemory, Row, RowList,
+    SortedMaps, TableDef,
 };
 use row_codec::{key_law, row_law};
 use std::alloc::Global;
@@ -151,32 +154,9 @@ fn noted_by_index<M: SortedMaps>(
     size
 }
 
-// Puts a value or none under a key.
-fn set_entry<M: SortedMaps>(maps: &mut M, index: u32, key: Bytes, value: Option<Bytes>)
-    requires put { IfSome value (CanPut (M.maps maps.old) (M.limit maps.old) index key) }
-    requires room { HasRoom (M.maps maps.old) (M.spare maps.old) index key value }
-    ensures set { Sets index key value (M.maps maps.old) (M.maps maps.new) (M.spare maps.old) (M.spare maps.new) }
-    ensures limit { M.limit maps.new ≡ M.limit maps.old }
-{
-    let there = maps.get(index, key.as_slice()).is_some();
-    match value {
-        Some(value) => {
-            if there {
-                maps.replace(index, key.as_slice(), value);
-            } else {
-                maps.insert(index, key, value);
-            }
-        }
-        None => {
-            if there {
-                maps.remove(index, key.as_slice());
-            }
-        }
-    }
-}
-
 /// The tables of a database over sorted maps: under a table's number an entry for each of its rows, with the encoded
-/// primary key as its key and the row's bytes as its value. Contracts see the maps.
+/// primary key as its key and the row's bytes as its value, and under the number of an index that CREATE INDEX made an entry
+/// for each row of its table, with the row's key there and nothing behind it. Contracts see the maps.
 #[derive(Drop)]
 pub struct Tables<M: SortedMaps> {
     alloc: Global,
@@ -272,44 +252,65 @@ impl<M: SortedMaps> Tables<M> {
         }
     }
 
-    /// Changes one row of a table, and all entries that belong to it. An `Err` changes none.
+    /// Changes one row of a table, and all entries that belong to it. An index in which the row keeps its key is left as it is.
+    /// Then each index of the table has room for `room` entries more, and for one more where an entry went. An `Err` changes
+    /// no entry and takes no room away.
     ///
     /// # Errors
     ///
     /// Where there is no memory for it.
-    pub fn change(&mut self, catalog: &Catalog, change: Change) -> Result<Kept, NoMemory>
-        requires { IsTableAnd catalog.now change.table (IsChange change (M.maps self.old) (M.limit self.old)) }
-        ensures kept { IfOk result (λ kept. OfTable catalog.now change.table (IsKept change kept)) }
-        ensures set { OnOk result (OfTable catalog.now change.table (λ t. Sets change.table change.key (stored t change.after) (M.maps self.old) (M.maps self.new) (M.spare self.old) (M.spare self.new))) }
+    pub fn change(&mut self, catalog: &Catalog, change: Change, room: u32) -> Result<Kept, NoMemory>
+        requires change { IsTableAnd catalog.now change.table (IsChange catalog.now change (M.maps self.old) (M.limit self.old)) }
+        requires room { room < 2 ^ 32 - 1 }
+        ensures kept { IfOk result (λ kept. OfTable catalog.now change.table (IsKept catalog.now change kept)) }
+        ensures set { OnOk result (OfTable catalog.now change.table (Sets catalog.now change.key change.before change.after (M.maps self.old) (M.maps self.new))) }
         ensures rows { OnOk result (SetsRow catalog.now change.table change.key change.after (M.maps self.old) (M.maps self.new)) }
+        ensures room { IfOk result (λ kept. OfTable catalog.now change.table (KeepsRoom catalog.now room kept.gone (M.spare self.new))) }
+        ensures spare { IfOk result (λ kept. TakesRoom (M.spare self.old) (M.spare self.new) kept.gone kept.made) }
         ensures err { OnErr result ((i : ℕ) → (M.maps self.new i ≡ M.maps self.old i) × (M.spare self.old i ≤ M.spare self.new i)) }
         ensures limit { M.limit self.new ≡ M.limit self.old }
     {
+        row_law();
+        key_law();
+        catalog.number_law();
         let table = table_of(catalog, change.table);
-        let gone = entry_of(self.alloc, table, &change.key, &change.before)?;
-        let made = entry_of(self.alloc, table, &change.key, &change.after)?;
-        let key = copy_of(self.alloc, &change.key)?;
-        let value = bytes_of(self.alloc, table, &change.after)?;
-        self.maps.reserve(change.table, 1)?;
-        set_entry(&mut self.maps, change.table, key, value);
+        let key = &change.key;
+        let gone = own_entries(
+            self.alloc,
+            catalog,
+            table,
+            key,
+            &change.before,
+            &change.after,
+        )?;
+        let made = own_entries(
+            self.alloc,
+            catalog,
+            table,
+            key,
+            &change.after,
+            &change.before,
+        )?;
+        let coming = copies_of(self.alloc, made.as_slice())?;
+        make_room(&mut self.maps, catalog, table, room + 1)?;
+        exchange(&mut self.maps, gone.as_slice(), coming);
         Ok(Kept { change, gone, made })
     }
 
     /// Takes a change back that `change` made with this catalog, where its row is still the one that is there. Takes no
     /// memory.
     pub fn take_back(&mut self, catalog: &Catalog, kept: Kept)
-        requires { IsTableAnd catalog.now kept.change.table (CanTakeBack kept (M.maps self.old) (M.spare self.old) (M.limit self.old)) }
-        ensures set { OfTable catalog.now kept.change.table (λ t. Sets kept.change.table kept.change.key (stored t kept.change.before) (M.maps self.old) (M.maps self.new) (M.spare self.old) (M.spare self.new)) }
+        requires { IsTableAnd catalog.now kept.change.table (CanTakeBack catalog.now kept (M.maps self.old) (M.spare self.old) (M.limit self.old)) }
+        ensures set { OfTable catalog.now kept.change.table (Sets catalog.now kept.change.key kept.change.after kept.change.before (M.maps self.old) (M.maps self.new)) }
         ensures rows { SetsRow catalog.now kept.change.table kept.change.key kept.change.before (M.maps self.old) (M.maps self.new) }
+        ensures spare { TakesRoom (M.spare self.old) (M.spare self.new) kept.made kept.gone }
         ensures limit { M.limit self.new ≡ M.limit self.old }
     {
-        let Kept { change, gone, .. } = kept;
-        match gone.into_vec().pop() {
-            Some(IndexEntry { index, key, value }) => {
-                set_entry(&mut self.maps, index, key, Some(value));
-            }
-            None => set_entry(&mut self.maps, change.table, change.key, None),
-        }
+        row_law();
+        key_law();
+        catalog.number_law();
+        let Kept { gone, made, .. } = kept;
+        exchange(&mut self.maps, made.as_slice(), gone);
     }
 
     /// What all entries of the maps count, each the bytes of its key and of its value, and 8. A sum that does not fit stands
