@@ -1,5 +1,5 @@
 -- A row in place of another: that the entries of one can go and those of the other come, and what the maps hold then.
-use Rattle.std.specs.Prelude.{◌≡◌, ◌≢◌, ℕ, ◌+◌, ◌-◌, ◌≤◌, Bool, true, false, cond, List, [], ◌∷◌, ◌++◌, Option, Some, None, IfSome}
+use Rattle.std.specs.Prelude.{◌≡◌, ◌≢◌, ℕ, ◌+◌, ◌-◌, ◌≤◌, Bool, true, false, cond, List, [], ◌∷◌, Option, Some, None, IfSome}
 use Rattle.std.specs.List.{AllByRecursion, flat_map}
 use Rattle.std.specs.Str.{bytes_eq}
 use Rattle.std.proofs.Common.{arith}
@@ -20,7 +20,7 @@ use Rattle.iv_meaning.specs.Objects.{schema_of}
 use Rattle.iv_meaning.specs.Database.{Rows, set_row}
 use Rattle.iv_meaning.specs.View.{index_key}
 use Rattle.row_codec.specs.Laws.{OneSpelling}
-use Rattle.table_store.specs.Stored.{stored, table_of, StandsUnder, IsIndexOf, HoldsAll, Holds}
+use Rattle.table_store.specs.Stored.{stored, table_of, StandsUnder, IsIndexOf, Holds}
 use Rattle.table_store.specs.Entries.{AreApart, HavePlaces}
 use Rattle.table_store.specs.Changes.{has_key, entry_in, own_entries, sizes, how_many, CanHoldEach, CanExchange, Exchanges, gone_by, made_by, IsChange, IsThere, CanTakeBack, Sets, SetsRow, KeepsRoom, TakesRoom}
 use Rattle.table_store.proofs.Exchanges.{AreHeld}
@@ -43,9 +43,6 @@ there_stands ds key (Some row) maps t there = there.held.primary.fitting key row
 
 pub there_fits : (ds : Definitions) (key : List ℕ) (row : Option Row) (maps : ℕ → Map) (t : TableDef) → IsThere ds key row maps t → IfSome row (FitAll (kinds_of t))
 there_fits ds key row maps t there = fits_one t key row (there_stands ds key row maps t there)
-
-pub stands_fits : (t : TableDef) (key : List ℕ) (row : Option Row) → IfSome row (StandsUnder t key) → IfSome row (FitAll (kinds_of t))
-stands_fits t key row st = fits_one t key row st
 
 -- ---- the entries that go are of indexes that those are of that come
 

@@ -16,6 +16,7 @@ use Rattle.iv_meaning.specs.Database.{key_of}
 use Rattle.iv_meaning.specs.View.{index_key}
 use Rattle.row_codec.specs.Laws.{OneSpelling}
 use Rattle.table_store.specs.Stored.{key_at}
+use Rattle.table_store.proofs.Rows.{some_same}
 
 same_some : {A : Type 0} (x y : A) → Some x ≡ Some y → x ≡ y
 same_some x y e = cc
@@ -128,7 +129,7 @@ one_here : (ks : List Kind) (vs : List Value) (place : ℕ) (k : Kind) → FitAl
     → FitAll (k ∷ []) (take 1 (drop place vs)) × (cons_option (slice_get vs place) [] ≡ take 1 (drop place vs))
 one_here [] vs place k f is = absurd (cc)
 one_here (x ∷ ks) [] place k f is = absurd f
-one_here (x ∷ ks) (v ∷ vs) zero k f is = let P : Kind → Type 0 = λ y. Fits y v in ((subst P (same_some x k is) f.0, tt), refl)
+one_here (x ∷ ks) (v ∷ vs) zero k f is = let P : Kind → Type 0 = λ y. Fits y v in ((subst P (some_same x k is) f.0, tt), refl)
 one_here (x ∷ ks) (v ∷ vs) (suc place) k f is = one_here ks vs place k f.1 is
 
 -- the part of the row at the place, as a key of one column

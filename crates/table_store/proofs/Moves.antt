@@ -1,7 +1,6 @@
 -- A row in place of another: what its entries do to maps that hold the rows of a table.
-use Rattle.std.specs.Prelude.{◌≡◌, ◌≢◌, ℕ, Bool, true, false, cond, List, [], ◌∷◌, ◌++◌, Option, Some, None, IsSome, IfSome}
+use Rattle.std.specs.Prelude.{◌≡◌, ◌≢◌, ℕ, true, false, cond, List, [], ◌∷◌, ◌++◌, Option, Some, None, IfSome}
 use Rattle.std.specs.List.{AllByRecursion, flat_map}
-use Rattle.std.proofs.Common.{arith}
 use Rattle.std.proofs.lemmas.Bool.{cases_eq}
 use Rattle.std.proofs.lemmas.Grind.{flat_map-append}
 use Rattle.std.proofs.lemmas.Slice.Eq.{bytes_eq-Decides}
@@ -15,31 +14,27 @@ use Rattle.iv_types.specs.declared.lock.IndexEntry.{IndexEntry}
 use Rattle.iv_types.specs.declared.catalog.TableDef.{TableDef}
 use Rattle.iv_types.specs.declared.catalog.IndexDef.{IndexDef}
 use Rattle.iv_types.specs.Definitions.{Definitions, AreNumbered}
-use Rattle.iv_types.specs.Encoding.{kinds_of, FitAll, key_value_bytes, row_bytes}
+use Rattle.iv_types.specs.Encoding.{kinds_of, key_value_bytes, row_bytes}
 use Rattle.iv_types.specs.Maps.{Map}
 use Rattle.iv_meaning.specs.Schema.{indexes_of}
 use Rattle.iv_meaning.specs.Objects.{schema_of}
 use Rattle.iv_meaning.specs.Database.{Rows, key_of, set_row}
 use Rattle.iv_meaning.specs.View.{index_key}
 use Rattle.row_codec.specs.Laws.{OneSpelling}
-use Rattle.table_laws.specs.Place.{Place, place_cmp}
+use Rattle.table_laws.specs.Place.{Place}
 use Rattle.table_laws.specs.Table.{write}
 use Rattle.table_laws.proofs.Place.{place_cmp_total, place_cmp-IsAntisymmetric}
 use Rattle.table_laws.proofs.Tables.{by_bool, by_key, get-write_at, get-write_other, write_twice, write_there}
 use Rattle.table_store.specs.Stored.{stored, table_of, StandsUnder, IsOfRow, IsIndexOf, HoldsTable, HoldsIndex, HoldsAll, Holds}
 use Rattle.table_store.specs.Changes.{has_key, entry_in, own_entries, without_row, with_row, Sets}
 use Rattle.table_store.specs.Entries.{Off, AreApart, AreThere, AreAbsent, TakesOut, PutsIn}
-use Rattle.table_store.proofs.Edits.{not_some}
 use Rattle.table_store.proofs.Maps.{bytes_same}
-use Rattle.table_store.proofs.Rows.{set_here, set_there}
+use Rattle.table_store.proofs.Rows.{some_same, set_here, set_there}
 use Rattle.table_store.proofs.IndexKeys.{one_key}
-use Rattle.table_store.proofs.TableIndexes.{each_to, each_append, each_first, each_last, each_flat, Indexes, Split, NumbersApart, indexes_are, table_is_not_index, one_index}
+use Rattle.table_store.proofs.TableIndexes.{each_to, each_append, each_first, each_last, each_flat, Indexes, NumbersApart, indexes_are, table_is_not_index, one_index}
 
 abbrev Row : Type 0
 Row = List Value
-
-same_some : {A : Type 0} (x y : A) → Some x ≡ Some y → x ≡ y
-same_some x y e = cc
 
 -- ---- the test of two keys
 
@@ -274,7 +269,7 @@ module _ (spelling : OneSpelling key_value_bytes) (rows : Rows) (t : TableDef) (
 
     put_there : (o : Option Row) (row : Row) → o ≡ Some row → get (with_row t i o mid) (index_key t i row) ≡ Some []
     put_there None row e = absurd (cc)
-    put_there (Some r) row e = get-write_at nat_list_cmp_total bytes_same mid (index_key t i r) (Some []) (index_key t i row) (ap (index_key t i) (sym (same_some r row e)))
+    put_there (Some r) row e = get-write_at nat_list_cmp_total bytes_same mid (index_key t i r) (Some []) (index_key t i row) (ap (index_key t i) (sym (some_same r row e)))
 
     -- a row under another key has another key in the index
     apart : (q : List ℕ) (row r : Row) → q ≢ key → StandsUnder t q row → StandsUnder t key r → index_key t i row ≢ index_key t i r
@@ -319,7 +314,7 @@ module _ (spelling : OneSpelling key_value_bytes) (rows : Rows) (t : TableDef) (
     without_still None e at value there = still at value (λ r e'. let no : None ≡ Some r = e ∙ e' in absurd (cc)) there
     without_still (Some w) e at value there = by_key nat_list_cmp_total bytes_same at (index_key t i w)
         (λ e'. let no : None ≡ Some value = sym (get-write_at nat_list_cmp_total bytes_same m (index_key t i w) None at e') ∙ there in absurd (cc))
-        (λ d. still at value (λ r e' e''. d (e'' ∙ ap (index_key t i) (sym (same_some w r (e ∙ e')))))
+        (λ d. still at value (λ r e' e''. d (e'' ∙ ap (index_key t i) (sym (some_same w r (e ∙ e')))))
         (sym (get-write_other nat_list_cmp_total bytes_same m (index_key t i w) None at d) ∙ there))
 
     only_after : (o : Option Row) → o ≡ other → (at value : List ℕ) → get (with_row t i o mid) at ≡ Some value → IsOfRow after t i at value
@@ -330,7 +325,7 @@ module _ (spelling : OneSpelling key_value_bytes) (rows : Rows) (t : TableDef) (
           row = r;
           is_there = get_here key refl ∙ sym e;
           at_is = e';
-          empty = same_some value [] (sym there ∙ get-write_at nat_list_cmp_total bytes_same mid (index_key t i r) (Some []) at e');
+          empty = some_same value [] (sym there ∙ get-write_at nat_list_cmp_total bytes_same mid (index_key t i r) (Some []) at e');
         })
         (λ d. without_still one refl at value (sym (get-write_other nat_list_cmp_total bytes_same mid (index_key t i r) (Some []) at d) ∙ there))
 
@@ -353,7 +348,7 @@ pub sets_rows : (ds : Definitions) (t : TableDef) → table_of ds t.number ≡ S
     → IfSome other (StandsUnder t key) → (rows : Rows) → get rows (t.number, key) ≡ one → Holds ds rows old → Holds ds (set_row rows t.number key other) new
 sets_rows ds t is_table spelling key one other old new set stands rows is holds u there = elim (cases_eq u.number t.number) [
   | inl e ↦
-      let same : t ≡ u = same_some t u (sym is_table ∙ (ap (table_of ds) (sym e) ∙ there)) in
+      let same : t ≡ u = some_same t u (sym is_table ∙ (ap (table_of ds) (sym e) ∙ there)) in
       let mine : HoldsAll ds rows old t = holds t is_table in
       let done : HoldsAll ds (set_row rows t.number key other) new t = record {
         primary = set_here rows t (old t.number) (new t.number) key other mine.primary set.primary stands;

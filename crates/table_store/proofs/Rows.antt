@@ -1,20 +1,17 @@
 -- Maps that hold the rows of tables, after a row is set.
 use Rattle.std.specs.Prelude.{◌≡◌, ◌≢◌, ℕ, List, Option, Some, IfSome}
 use mathlib.Core.Path.{sym, ap, subst, ◌∙◌}
-use mathlib.Core.Logic.{inl, inr}
-use Rattle.std.proofs.lemmas.Bool.{cases_eq}
 use Rattle.std.specs.FinMap.{get}
 use Rattle.std.specs.Cmp.Lexicographic.{nat_list_cmp_total}
 use Rattle.iv_types.specs.declared.value.Value.{Value}
 use Rattle.iv_types.specs.declared.catalog.TableDef.{TableDef}
-use Rattle.iv_types.specs.Definitions.{Definitions}
 use Rattle.iv_types.specs.Maps.{Map}
 use Rattle.iv_meaning.specs.Database.{Rows, set_row}
 use Rattle.table_laws.specs.Place.{Place}
 use Rattle.table_laws.specs.Table.{write}
 use Rattle.table_laws.proofs.Place.{place_cmp_total, place_cmp-IsAntisymmetric}
 use Rattle.table_laws.proofs.Tables.{by_key, get-write_at, get-write_other}
-use Rattle.table_store.specs.Stored.{stored, table_of, StandsUnder, HoldsTable}
+use Rattle.table_store.specs.Stored.{stored, StandsUnder, HoldsTable}
 use Rattle.table_store.proofs.Maps.{bytes_same}
 
 pub some_same : {A : Type 0} (x y : A) → Some x ≡ Some y → x ≡ y

@@ -1,12 +1,10 @@
 -- The indexes of a table among the definitions of a catalog.
-use Rattle.std.specs.Prelude.{◌≡◌, ◌≢◌, ℕ, zero, suc, ◌+◌, ◌<◌, ◌==◌, Bool, true, false, cond, List, [], ◌∷◌, ◌++◌, length, slice_get, Option, Some, None}
+use Rattle.std.specs.Prelude.{◌≡◌, ◌≢◌, ℕ, zero, suc, ◌+◌, ◌<◌, ◌==◌, true, false, cond, List, [], ◌∷◌, ◌++◌, length, slice_get, Option, Some, None}
 use Rattle.std.specs.List.{AllByRecursion, flat_map}
 use Rattle.std.proofs.Common.{arith}
 use Rattle.std.proofs.lemmas.Bool.Decides.{nat_tests}
-use Rattle.std.proofs.lemmas.Bool.{eq-eqb, ne_eqb}
-use Rattle.std.proofs.lemmas.List.{append-nil}
-use mathlib.Core.Path.{refl, sym, ap, subst, ◌∙◌}
-use Rattle.iv_types.specs.declared.lock.IndexEntry.{IndexEntry}
+use Rattle.std.proofs.lemmas.Bool.{eq-eqb}
+use mathlib.Core.Path.{refl, sym, ap, ◌∙◌}
 use Rattle.iv_types.specs.declared.catalog.TableDef.{TableDef}
 use Rattle.iv_types.specs.declared.catalog.IndexDef.{IndexDef}
 use Rattle.iv_types.specs.declared.catalog.Definition.{Definition}
@@ -15,9 +13,7 @@ use Rattle.iv_types.specs.Definitions.{Definitions, AreNumbered, number_of, numb
 use Rattle.iv_meaning.specs.Schema.{indexes_of}
 use Rattle.iv_meaning.specs.Objects.{schema_of}
 use Rattle.table_store.specs.Stored.{as_table, as_index, table_of, IsIndexOf}
-
-same_some : {A : Type 0} (x y : A) → Some x ≡ Some y → x ≡ y
-same_some x y e = cc
+use Rattle.table_store.proofs.Rows.{some_same}
 
 pub each_to : {X : Type 0} (P Q : X → Type 0) → ((x : X) → P x → Q x) → (xs : List X) → AllByRecursion P xs → AllByRecursion Q xs
 each_to P Q f [] h = tt
@@ -87,7 +83,7 @@ split_more is i j ne s = record { before = j ∷ s.before; after = s.after; whol
 split_at : (k : ℕ) (ds : Definitions) (n : ℕ) (i : IndexDef) (at : ℕ) → From k ds → slice_get ds at ≡ Some (Index i) → i.table ≡ n → Split (listed ds n) i
 split_at k [] n i at f is of = absurd (cc)
 split_at k (d ∷ ds) n i zero f is of =
-    let here : d ≡ Index i = same_some d (Index i) is in
+    let here : d ≡ Index i = some_same d (Index i) is in
     let number : i.number ≡ suc k = f 0 (Index i) is ∙ omega arith in
     let one : listed (Index i ∷ ds) n ≡ i ∷ listed ds n = ap (λ b. cond b (i ∷ listed ds n) (listed ds n)) (eq-eqb i.table n of) in
     record {
@@ -138,7 +134,7 @@ index_at ds n i is = elim (numbered ds n) as (λ o. as_index o ≡ Some i → o 
   | Some d ↦ elim d as (λ x. as_index (Some x) ≡ Some i → Some x ≡ Some (Index i)) [
     | Table t ↦ λ e. absurd (cc)
     | View v ↦ λ e. absurd (cc)
-    | Index j ↦ λ e. ap (λ (y : IndexDef). Some (Index y)) (same_some j i e)
+    | Index j ↦ λ e. ap (λ (y : IndexDef). Some (Index y)) (some_same j i e)
   ]
 ] is
 
@@ -173,7 +169,7 @@ table_is_not_index ds t u i is one e =
 
 -- indexes with one number are one
 pub one_index : (ds : Definitions) (t u : TableDef) (i j : IndexDef) → IsIndexOf ds t i → IsIndexOf ds u j → i.number ≡ j.number → i ≡ j
-one_index ds t u i j a b e = same_some i j (sym a.is ∙ (ap (λ n. as_index (numbered ds n)) e ∙ b.is))
+one_index ds t u i j a b e = some_same i j (sym a.is ∙ (ap (λ n. as_index (numbered ds n)) e ∙ b.is))
 
 within_list : {X : Type 0} (xs : List X) (p : ℕ) (x : X) → slice_get xs p ≡ Some x → p < length xs
 within_list [] p x is = absurd (cc)
@@ -194,30 +190,9 @@ stands_at ds t i one =
 -- the number of a table is the one that it is found by
 number_at : (d : Option Definition) (n : ℕ) (t : TableDef) → ((e : Definition) → d ≡ Some e → number_of e ≡ n) → as_table d ≡ Some t → t.number ≡ n
 number_at None n t h is = absurd (cc)
-number_at (Some (Table u)) n t h is = ap (λ (x : TableDef). x.number) (sym (same_some u t is)) ∙ h (Table u) refl
+number_at (Some (Table u)) n t h is = ap (λ (x : TableDef). x.number) (sym (some_same u t is)) ∙ h (Table u) refl
 number_at (Some (Index i)) n t h is = absurd (cc)
 number_at (Some (View v)) n t h is = absurd (cc)
 
 pub table_number : (ds : Definitions) (n : ℕ) (t : TableDef) → AreNumbered ds → table_of ds n ≡ Some t → t.number ≡ n
 table_number ds n t h is = number_at (numbered ds n) n t (h n) is
-
--- ---- lists that are made of the indexes of a table
-
-module _ {X : Type 0} (f : IndexDef → List X) (n : ℕ) where
-  -- those of the first definition, and then those of the others
-  pub first_index : (d : Definition) (ds : Definitions) → flat_map f (listed (d ∷ ds) n) ≡ flat_map f (listed (d ∷ []) n) ++ flat_map f (listed ds n)
-  first_index (Table t) ds = refl
-  first_index (View v) ds = refl
-  first_index (Index i) ds = elim (i.table == n) as (λ b. flat_map f (cond b (i ∷ listed ds n) (listed ds n)) ≡ flat_map f (cond b (i ∷ []) []) ++ flat_map f (listed ds n)) [
-    | true ↦ ap (λ (l : List X). l ++ flat_map f (listed ds n)) (sym (append-nil (f i)))
-    | false ↦ refl
-  ]
-
-  pub index_alone : (i : IndexDef) → i.table ≡ n → flat_map f (listed (Index i ∷ []) n) ≡ f i
-  index_alone i e = ap (λ b. flat_map f (cond b (i ∷ []) [])) (eq-eqb i.table n e) ∙ append-nil (f i)
-
-  -- a definition that is not that of an index of the table
-  pub no_index : (d : Definition) → ((i : IndexDef) → d ≡ Index i → i.table ≢ n) → flat_map f (listed (d ∷ []) n) ≡ []
-  no_index (Table t) h = refl
-  no_index (View v) h = refl
-  no_index (Index i) h = ap (λ b. flat_map f (cond b (i ∷ []) [])) (ne_eqb i.table n (h i refl))

@@ -1,27 +1,23 @@
 -- No clause of `run` rests on this module: it serves contracts between crates.
 --
 -- What sorted maps hold of the rows of a database's tables.
-use Rattle.std.specs.Prelude.{◌≡◌, ◌≢◌, ℕ, ◌+◌, ◌≤◌, Bool, true, List, [], ◌∷◌, length, sum_by, Option, Some, None, IsSome, IfSome, is_some, filter, ◌⊎◌, if◌then◌else◌}
+use Rattle.std.specs.Prelude.{◌≡◌, ℕ, ◌+◌, Bool, true, List, [], ◌∷◌, length, sum_by, Option, Some, None, filter, ◌⊎◌}
 use Rattle.std.specs.Option.{option_map, option_map_or, option_or, option_and_then}
 use Rattle.std.specs.Ordering.{nat_cmp, is_lt}
 use Rattle.std.specs.Cmp.Lexicographic.{slice_cmp}
-use Rattle.std.specs.FinMap.{get, insert}
+use Rattle.std.specs.FinMap.{get}
 use Rattle.iv_types.specs.declared.value.Value.{Value}
 use Rattle.iv_types.specs.declared.value.Interval.{Interval}
-use Rattle.iv_types.specs.declared.lock.Change.{Change}
-use Rattle.iv_types.specs.declared.lock.IndexEntry.{IndexEntry}
-use Rattle.iv_types.specs.declared.lock.Kept.{Kept}
 use Rattle.iv_types.specs.declared.catalog.TableDef.{TableDef}
 use Rattle.iv_types.specs.declared.catalog.IndexDef.{IndexDef}
 use Rattle.iv_types.specs.declared.catalog.Definition.{Definition}
 use Rattle.iv_types.specs.declared.catalog.Definition.TheVariants.{Table, Index}
 use Rattle.iv_types.specs.Definitions.{Definitions, numbered}
 use Rattle.iv_types.specs.Encoding.{kinds_of, FitAll, row_bytes, key_bytes, lies_in}
-use Rattle.iv_types.specs.Maps.{Map, Entry, CanHold, IsWithin, used, with_map}
+use Rattle.iv_types.specs.Maps.{Map, Entry}
 use Rattle.iv_meaning.specs.Schema.{items_at}
 use Rattle.iv_meaning.specs.View.{index_key}
 use Rattle.iv_meaning.specs.Database.{Rows, key_of, set_row}
-use Rattle.table_laws.specs.Table.{write}
 
 -- ---- the table of an object number
 

@@ -1,4 +1,4 @@
-use Rattle.std.proofs.Common.{ℕ, ◌+◌, ◌≤◌}
+use Rattle.std.proofs.Common.{◌+◌}
 use Rattle.table_store.specs.Changes.{how_many}
 use Rattle.table_store.proofs.Rooms.{places_more}
 use Rattle.table_store.proofs.exchange.exchange.Goals as goal

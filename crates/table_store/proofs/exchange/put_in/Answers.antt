@@ -1,4 +1,4 @@
-use Rattle.std.proofs.Common.{◌≡◌, ◌+◌, ◌∷◌, ◌++◌, [], ℕ, List, Option, sym, ap, subst, ◌∙◌, rules, arith}
+use Rattle.std.proofs.Common.{◌≡◌, [], ℕ, List, Option, sym, subst, ◌∙◌, rules}
 use Rattle.std.specs.FinMap.{insert}
 use Rattle.iv_types.specs.Maps.{IsWithin, used, with_map}
 use Rattle.iv_types.specs.declared.lock.IndexEntry.{IndexEntry}

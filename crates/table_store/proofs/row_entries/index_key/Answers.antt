@@ -1,4 +1,4 @@
-use Rattle.std.proofs.Common.{◌≡◌, ◌++◌, [], ℕ, List, sym, ap, ◌∙◌}
+use Rattle.std.proofs.Common.{◌≡◌, ◌++◌, ℕ, List, sym, ap, ◌∙◌}
 use Rattle.table_store.specs.Stored.{key_at}
 use Rattle.table_store.proofs.IndexKeys.{key_append}
 use Rattle.table_store.proofs.row_entries.index_key.Goals as goal

@@ -1,8 +1,6 @@
-use Rattle.std.proofs.Common.{◌≡◌, ◌+◌, ◌-◌, ◌≤◌, ◌<◌, ◌++◌, ◌∷◌, [], ℕ, List, take, drop, length, rules, arith, sym, ap, subst, ◌∙◌}
+use Rattle.std.proofs.Common.{◌≡◌, ◌+◌, ◌-◌, ◌<◌, ◌++◌, ◌∷◌, [], ℕ, List, take, drop, length, rules, arith, sym, ap, subst, ◌∙◌}
 use Rattle.iv_types.specs.declared.value.Value.{Value}
-use Rattle.iv_types.specs.declared.value.Kind.{Kind}
-use Rattle.iv_types.specs.Encoding.{kinds_of, FitAll, key_bytes}
-use Rattle.table_store.specs.Stored.{key_at}
+use Rattle.iv_types.specs.Encoding.{FitAll, key_bytes}
 use Rattle.table_store.proofs.IndexKeys.{place_within, one_column}
 use Rattle.table_store.proofs.row_entries.put_place.Goals as goal
 

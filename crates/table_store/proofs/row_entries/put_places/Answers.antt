@@ -1,5 +1,5 @@
 use Rattle.std.proofs.Common.{◌≡◌, ◌+◌, ◌++◌, ◌∷◌, [], ℕ, List, drop, get_or, sym, ap, ◌∙◌, append_assoc}
-use Rattle.std.proofs.lemmas.List.{drop_more, drop_all}
+use Rattle.std.proofs.lemmas.List.{drop_more}
 use Rattle.table_store.specs.Stored.{key_at}
 use Rattle.table_store.proofs.IndexKeys.{key_next}
 use Rattle.table_store.proofs.row_entries.put_places.Goals as goal

@@ -1,10 +1,8 @@
-use Rattle.std.proofs.Common.{◌≡◌, ◌+◌, ◌≤◌, ℕ, List, Some, Option, arith, rules, refl, sym, ap, subst, ◌∙◌}
+use Rattle.std.proofs.Common.{◌≡◌, ℕ, List, Option, arith, sym, ap, subst, ◌∙◌}
 use Rattle.iv_types.specs.declared.lock.IndexEntry.{IndexEntry}
 use Rattle.iv_types.specs.declared.catalog.TableDef.{TableDef}
-use Rattle.iv_types.specs.declared.catalog.IndexDef.{IndexDef}
 use Rattle.iv_types.specs.Maps.{Map}
-use Rattle.table_store.specs.Stored.{table_of, IsIndexOf}
-use Rattle.table_store.specs.Changes.{gone_by, made_by, IsChange, CanExchange, Exchanges, Sets, SetsRow, KeepsRoom, TakesRoom}
+use Rattle.table_store.specs.Changes.{gone_by, made_by, IsChange, CanExchange, Exchanges, Sets, KeepsRoom, TakesRoom}
 use Rattle.table_store.proofs.Rows.{some_same}
 use Rattle.table_store.proofs.Changing.{can_change, same_exchanges, exchanged_sets, exchanged_rows, keeps_room}
 use Rattle.table_store.proofs.tables.Tables.change.Goals as goal
