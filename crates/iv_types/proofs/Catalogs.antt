@@ -1,6 +1,9 @@
 -- A catalog's definitions are found by number and by name.
-use Rattle.std.proofs.Common.{◌≡◌, ℕ, zero, suc, ◌+◌, ◌-◌, ◌<◌, List, [], ◌∷◌, ◌++◌, length, slice_get, Option, None, Some, Vec, refl, sym, ap, ◌∙◌, arith}
-use Rattle.std.proofs.lemmas.List.{map-append}
+use Rattle.std.proofs.Common.{◌≡◌, ℕ, zero, suc, ◌+◌, ◌-◌, ◌<◌, ◌≤◌, Bool, true, false, cond, List, [], ◌∷◌, ◌++◌, length, slice_get, Option, None, Some, Vec, refl, sym, ap, ◌∙◌, arith}
+use mathlib.Core.Path.{subst}
+use Rattle.std.specs.Option.{option_to_list}
+use Rattle.std.proofs.lemmas.List.{map-append, append-nil}
+use Rattle.std.proofs.lemmas.List.Sums.{sum_by-append, sum_by-cons}
 use Rattle.std.proofs.lemmas.Option.{slice_get-map}
 use Rattle.std.specs.Option.{option_map}
 use Rattle.indexmap.specs.IndexMap.{IndexMap, insert_entry}
@@ -8,7 +11,9 @@ use Rattle.indexmap.proofs.CallerLemmas.{insert_entry-new}
 use Rattle.std.specs.Str.{bytes_eq}
 use Rattle.std.specs.Map.{lookup, values_of}
 use Rattle.iv_types.specs.declared.catalog.Definition.{Definition}
-use Rattle.iv_types.specs.Definitions.{number_of, name_of, numbered, named, AreKept, AreNumbered}
+use Rattle.iv_types.specs.declared.catalog.Definition.TheVariants.{Table, Index, View}
+use Rattle.iv_types.specs.declared.limit.TheConstants.{MOST_OBJECTS}
+use Rattle.iv_types.specs.Definitions.{Definitions, number_of, name_of, numbered, named, AreKept, AreNumbered, are_alike, how_many_alike, AreFew}
 
 -- the second half of what stands at a place
 second_of : {X Y : Type 0} (e : X × Y) (x : X) (y : Y) → Some e ≡ Some (x, y) → e.1 ≡ y
@@ -53,3 +58,69 @@ module _ {A : Type 0} where
 
   pub values_added : (es : List (Vec ℕ A × Definition)) (k : Vec ℕ A) (d : Definition) → values_of (es ++ (k, d) ∷ []) ≡ values_of es ++ d ∷ []
   values_added es k d = map-append (λ e. e.1) es ((k, d) ∷ [])
+
+  -- without the last they are kept as they were
+  pub kept_less : (n : ℕ) (es : List (Vec ℕ A × Definition)) (e : Vec ℕ A × Definition) → AreKept n (es ++ e ∷ []) → AreKept n es
+  kept_less n [] e kept = tt
+  kept_less n (d ∷ es) e kept = (kept.0, kept.1, kept_less (suc n) es e kept.2)
+
+-- ---- how many there are of each kind
+
+abbrev one : Bool → ℕ
+one b = cond b 1 0
+
+alike_cons : (d e : Definition) (ds : Definitions) → how_many_alike d (e ∷ ds) ≡ one (are_alike d e) + how_many_alike d ds
+alike_cons d e ds = sum_by-cons (λ x. one (are_alike d x)) e ds
+
+alike_more : (d e : Definition) (ds : Definitions) → how_many_alike d (ds ++ e ∷ []) ≡ how_many_alike d ds + one (are_alike d e)
+alike_more d e ds = sum_by-append (λ x. one (are_alike d x)) ds (e ∷ []) ∙ ap (λ n. how_many_alike d ds + n) (alike_cons d e []) ∙ omega arith
+
+-- definitions of one kind are as many
+same_kind : (d e : Definition) → are_alike d e ≡ true → (ds : Definitions) → how_many_alike d ds ≡ how_many_alike e ds
+same_kind (Table a) (Table b) same ds = refl
+same_kind (Index a) (Index b) same ds = refl
+same_kind (View a) (View b) same ds = refl
+same_kind (Table a) (Index b) same ds = absurd cc
+same_kind (Table a) (View b) same ds = absurd cc
+same_kind (Index a) (Table b) same ds = absurd cc
+same_kind (Index a) (View b) same ds = absurd cc
+same_kind (View a) (Table b) same ds = absurd cc
+same_kind (View a) (Index b) same ds = absurd cc
+
+pub few_more : (ds : Definitions) (e : Definition) → AreFew ds → how_many_alike e ds < MOST_OBJECTS → AreFew (ds ++ e ∷ [])
+few_more ds e few room d = by (are_alike d e) refl
+  where
+    by : (b : Bool) → are_alike d e ≡ b → how_many_alike d (ds ++ e ∷ []) ≤ MOST_OBJECTS
+    by true is = omega (arith, alike_more d e ds, ap {B = ℕ} (λ b. cond b 1 0) is, same_kind d e is ds, room)
+    by false is = omega (arith, alike_more d e ds, ap {B = ℕ} (λ b. cond b 1 0) is, few d)
+
+pub few_less : (ds : Definitions) (e : Definition) → AreFew (ds ++ e ∷ []) → AreFew ds
+few_less ds e few d = omega (arith, alike_more d e ds, few d)
+
+abbrev a_table : Definition
+a_table = Table (record { number = 0; name = []; columns = []; primary = [] })
+
+abbrev an_index : Definition
+an_index = Index (record { number = 0; name = []; table = 0; columns = [] })
+
+abbrev a_view : Definition
+a_view = View (record { number = 0; name = []; names = []; first = 0; second = None; condition = None; group = []; sums = [] })
+
+-- each is of one kind
+counted : (ds : Definitions) → length ds ≡ how_many_alike a_table ds + how_many_alike an_index ds + how_many_alike a_view ds
+counted [] = refl
+counted (Table t ∷ ds) = omega (arith, counted ds, alike_cons a_table (Table t) ds, alike_cons an_index (Table t) ds, alike_cons a_view (Table t) ds)
+counted (Index i ∷ ds) = omega (arith, counted ds, alike_cons a_table (Index i) ds, alike_cons an_index (Index i) ds, alike_cons a_view (Index i) ds)
+counted (View v ∷ ds) = omega (arith, counted ds, alike_cons a_table (View v) ds, alike_cons an_index (View v) ds, alike_cons a_view (View v) ds)
+
+pub few_all : (ds : Definitions) → AreFew ds → length ds ≤ 192
+few_all ds few = omega (arith, counted ds, few a_table, few an_index, few a_view)
+
+module _ {A : Type 0} where
+  abbrev Both : List (Vec ℕ A × Definition) → Type 0
+  Both es = AreKept 0 es × AreFew (values_of es)
+
+  -- what is left without the last, if there is one
+  pub without_last : (new : List (Vec ℕ A × Definition)) (last : Option (Vec ℕ A × Definition)) → Both (new ++ option_to_list last) → Both new
+  without_last new None both = subst Both (append-nil new) both
+  without_last new (Some e) both = (kept_less 0 new e both.0, few_less (values_of new) e.1 (subst AreFew (values_added new e.0 e.1) both.1))

@@ -1,8 +1,7 @@
 -- What the tests of numbers, values and keys tell.
-use Rattle.std.specs.Prelude.{◌≡◌, ◌≢◌, ℕ, ◌-◌, ◌^◌, ◌<◌, ◌≤◌, ◌&&◌, nat_le, not, ℤ, pos, negsuc, Bool, true, false, IsTrue, List, length, IfSome, Option, Some, None}
+use Rattle.std.specs.Prelude.{◌≡◌, ◌≢◌, ℕ, ◌-◌, ◌^◌, ◌<◌, ◌≤◌, ◌&&◌, nat_le, not, ℤ, pos, negsuc, Bool, true, false, List, length, IfSome, Option, Some, None}
 use Rattle.std.specs.Option.{option_map_or}
 use mathlib.Core.Path.{refl, ap}
-use mathlib.Core.Logic.{inl, inr}
 use Rattle.std.proofs.Common.{arith, leb-true, le-leb}
 use Rattle.std.proofs.lemmas.Str.{IsUtf8-from_is_utf8, is_utf8-from_IsUtf8}
 use Rattle.std.specs.Int.{w64}
@@ -12,10 +11,10 @@ use Rattle.std.specs.declared.cmp.Ordering.{Ordering}
 use Rattle.std.specs.declared.cmp.Ordering.TheVariants.{Less, Equal, Greater}
 use Rattle.std.specs.Ordering.{nat_cmp, is_gt, is_lt}
 use Rattle.std.specs.Cmp.Lexicographic.{slice_cmp}
-use Rattle.iv_types.specs.declared.value.Kind.TheVariants.{Int, Huge, Text}
+use Rattle.iv_types.specs.declared.value.Kind.TheVariants.{Int, Text}
 use Rattle.iv_types.specs.declared.value.Value.TheVariants.{Number, Word}
 use Rattle.iv_types.specs.declared.value.Interval.{Interval}
-use Rattle.iv_types.specs.Encoding.{IsHuge, is_huge, Fits, longest_text, lies_in}
+use Rattle.iv_types.specs.Encoding.{IsHuge, is_huge, Fits, longest_text}
 use Rattle.iv_types.specs.Intervals.{IsBelow, IsAtMost, LiesIn}
 
 pub first_true : (a b : Bool) → a && b ≡ true → a ≡ true

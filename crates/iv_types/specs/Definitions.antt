@@ -1,9 +1,10 @@
 -- No clause of `run` rests on this module: it serves contracts between crates.
 --
 -- The definitions of a database: its tables, indexes and views in the order in which they were made.
-use Rattle.std.specs.Prelude.{◌≡◌, ℕ, suc, List, [], ◌∷◌, Option, Some, Vec}
+use Rattle.std.specs.Prelude.{◌≡◌, ℕ, suc, ◌+◌, ◌<◌, ◌≤◌, Bool, true, false, List, [], ◌∷◌, length, count_by, Option, Some, None, Vec}
 use Rattle.iv_types.specs.declared.catalog.Definition.{Definition}
 use Rattle.iv_types.specs.declared.catalog.Definition.TheVariants.{Table, Index, View}
+use Rattle.iv_types.specs.declared.limit.TheConstants.{MOST_OBJECTS}
 use Rattle.iv_types.specs.Naming.{of_number, of_name}
 
 abbrev pub Definitions : Type 0
@@ -35,3 +36,24 @@ named ds name = of_name name_of ds name
 abbrev pub AreKept : {A : Type 0} → ℕ → List (Vec ℕ A × Definition) → Type 0
 AreKept n [] = Unit {0}
 AreKept n (e ∷ es) = (e.0.items ≡ name_of e.1) × (number_of e.1 ≡ suc n) × AreKept (suc n) es
+
+-- two tables, two indexes or two views
+abbrev pub are_alike : Definition → Definition → Bool
+are_alike (Table a) (Table b) = true
+are_alike (Index a) (Index b) = true
+are_alike (View a) (View b) = true
+are_alike _ _ = false
+
+-- how many definitions are of the kind of this one
+abbrev pub how_many_alike : Definition → Definitions → ℕ
+how_many_alike d ds = count_by (are_alike d) ds
+
+-- no more tables, indexes or views than a database may have
+abbrev pub AreFew : Definitions → Type 0
+AreFew ds = (d : Definition) → how_many_alike d ds ≤ MOST_OBJECTS
+
+-- the definition can be made: it has the next number and a name of its own, and there is room for one more of its kind
+pub record CanAdd (ds : Definitions) (d : Definition) : Type 0 where
+  pub number : number_of d ≡ length ds + 1
+  pub name : named ds (name_of d) ≡ None
+  pub room : how_many_alike d ds < MOST_OBJECTS

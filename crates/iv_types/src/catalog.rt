@@ -1,9 +1,9 @@
 //! What a database defines: tables, indexes and views.
-ghost use Rattle.std.specs.Prelude.{◌≡◌, ◌+◌, ◌++◌, [], ◌∷◌, length, None, IfSome, IfOk, OnOk, OnErr};
+ghost use Rattle.std.specs.Prelude.{◌≡◌, ◌+◌, ◌≤◌, ◌++◌, ◌↔◌, [], ◌∷◌, length, None, IsTrue, IfSome, IfOk, OnOk, OnErr};
 ghost use Rattle.std.specs.Option.{option_copied};
-ghost use Rattle.iv_types.specs.Definitions.{AreNumbered, number_of, name_of, numbered, named};
+ghost use Rattle.iv_types.specs.Definitions.{AreNumbered, AreFew, CanAdd, are_alike, how_many_alike, number_of, name_of, numbered, named};
 
-use crate::{Bytes, ColumnAtList, ColumnList, Expr, NameList, NoMemory, Places};
+use crate::{Bytes, ColumnAtList, ColumnList, Expr, MOST_OBJECTS, NameList, NoMemory, Places};
 use indexmap::IndexMap;
 use std::alloc::Global;
 use std::marker::Model;
@@ -81,6 +81,28 @@ impl Definition {
             Definition::View(view) => &view.name,
         }
     }
+
+    // Whether both are tables, indexes or views.
+    fn is_alike(&self, other: &Definition) -> bool
+        ensures { result ≡ are_alike self.now other.now }
+    {
+        match (self, other) {
+            (Definition::Table(_), Definition::Table(_)) => true,
+            (Definition::Index(_), Definition::Index(_)) => true,
+            (Definition::View(_), Definition::View(_)) => true,
+            _ => false,
+        }
+    }
+}
+
+// How many definitions are of the kind of this one.
+fn how_many_alike(definition: &Definition, definitions: &[Definition]) -> usize
+    ensures { result ≡ how_many_alike definition.now definitions.now }
+{
+    definitions
+        .iter()
+        .filter(|other| definition.is_alike(other))
+        .count()
 }
 
 // A definition's name, as its key in a catalog.
@@ -96,7 +118,7 @@ fn let_go_replaced(replaced: Option<Definition>) {
 }
 
 /// The definitions of a database, in the order in which they were made, and their names. No two have one name, and the
-/// object numbers count them from 1.
+/// object numbers count them from 1. There are at most 64 tables, 64 indexes that CREATE INDEX made and 64 views.
 #[derive(Drop)]
 pub struct Catalog {
     named: IndexMap<Vec<u8>, Definition>,
@@ -104,7 +126,7 @@ pub struct Catalog {
 
 impl Model for Catalog {
     ghost use Rattle.indexmap.specs.IndexMap.{values};
-    ghost use Rattle.iv_types.specs.Definitions.{Definitions, AreKept};
+    ghost use Rattle.iv_types.specs.Definitions.{Definitions, AreFew, AreKept};
     ghost use Rattle.iv_types.specs.contracts.expression.Expr as expr;
     ghost use Rattle.std.specs.Coded.{codes};
 
@@ -114,7 +136,7 @@ impl Model for Catalog {
 
     ghost view = { λ c. values c.named };
 
-    ghost invariant = { λ c. AreKept 0 c.named.entries };
+    ghost invariant = { λ c. AreKept 0 c.named.entries × AreFew (values c.named) };
 }
 
 impl Catalog {
@@ -169,10 +191,38 @@ impl Catalog {
         self.named.get(name)
     }
 
-    /// Adds a definition that has the next object number and a name of its own.
+    /// The object number of the next definition.
+    pub fn next_number(&self) -> u32
+        ensures { result ≡ length self.now + 1 }
+    {
+        self.named.len() as u32 + 1
+    }
+
+    /// That there are at most 64 definitions of each kind, and so at most 192. It does nothing.
+    pub fn few_law(&self)
+        ensures few { AreFew self.now }
+        ensures all { length self.now ≤ 192 }
+    {
+        let _count = self.named.len();
+    }
+
+    /// Whether a definition can be added: it has the next object number and a name of its own, and there are fewer than 64
+    /// of its kind.
+    pub fn can_add(&self, definition: &Definition) -> bool
+        ensures { IsTrue result ↔ CanAdd self.now definition.now }
+    {
+        definition.number() == self.next_number()
+            && self.find(definition.name().as_slice()).is_none()
+            && how_many_alike(definition, self.definitions()) < MOST_OBJECTS as usize
+    }
+
+    /// Adds a definition.
+    ///
+    /// # Errors
+    ///
+    /// Where there is no memory for it.
     pub fn add(&mut self, definition: Definition) -> Result<(), NoMemory>
-        requires number { number_of definition ≡ length self.old + 1 }
-        requires name { named self.old (name_of definition) ≡ None }
+        requires { CanAdd self.old definition }
         ensures ok { OnOk result (self.new ≡ self.old ++ definition ∷ []) }
         ensures err { OnErr result (self.new ≡ self.old) }
     {
@@ -186,6 +236,17 @@ impl Catalog {
                 definition.let_go();
                 Err(error)
             }
+        }
+    }
+
+    /// Takes the last definition away again, and gives it.
+    pub fn remove_last(&mut self) -> Option<Definition>
+        ensures some { IfSome result (λ d. self.old ≡ self.new ++ d ∷ []) }
+        ensures none { result ≡ None → (self.old ≡ []) × (self.new ≡ self.old) }
+    {
+        match self.named.pop() {
+            Some((_, definition)) => Some(definition),
+            None => None,
         }
     }
 }

@@ -90,10 +90,14 @@ pub struct Kept {
 /// A step of a transaction that can be taken back, with the number of its log record.
 #[derive(Drop)]
 pub enum KeptStep {
+    /// A change, and the bytes that its transaction counted before it: for its own limit, and for the history's.
     Put {
         kept: Kept,
+        txn_bytes: u64,
+        history_bytes: u64,
         number: u64,
     },
+    /// A delta that was paid, and the session's prefixes on its row before it.
     Pay {
         delta: GroupDelta,
         before: PrefixList,

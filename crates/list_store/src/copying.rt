@@ -97,7 +97,7 @@ fn copied_definition(alloc: Global, definition: &Definition) -> Result<Definitio
     }
 }
 
-/// Adds a definition that has the next number and a name of its own.
+/// Adds a definition that can be added.
 ///
 /// # Errors
 ///
@@ -106,12 +106,8 @@ pub fn add(catalog: &mut Catalog, definition: Definition) -> Result<(), NoMemory
     ensures ok { OnOk result (catalog.new ≡ catalog.old ++ definition ∷ []) }
     ensures err { OnErr result (catalog.new ≡ catalog.old) }
 {
-    // Binding makes sure of both.
-    let next = catalog.len().checked_add(1);
-    if next != Some(definition.number() as usize) {
-        return Err(NoMemory);
-    }
-    if catalog.find(definition.name().as_slice()).is_some() {
+    // Binding makes sure of it.
+    if !catalog.can_add(&definition) {
         return Err(NoMemory);
     }
     catalog.add(definition)

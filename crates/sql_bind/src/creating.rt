@@ -1,5 +1,5 @@
 //! What CREATE statements are bound to.
-ghost use Rattle.std.specs.Prelude.{◌≡◌, ◌+◌, length, map, IfOk};
+ghost use Rattle.std.specs.Prelude.{◌≡◌, map, IfOk};
 ghost use Rattle.std.specs.List.{filter_map};
 ghost use Rattle.std.specs.Option.{option_map};
 ghost use Rattle.iv_types.specs.Trees.{perhaps_tree};
@@ -21,16 +21,6 @@ use iv_types::{
 };
 use std::alloc::Global;
 
-// The number of a new object. A catalog that has each number of 32 bits has no room for one more.
-fn next_number(catalog: &Catalog) -> Result<u32, NoMemory>
-    ensures { IfOk result (λ number. number ≡ length (schema_of catalog.now) + 1) }
-{
-    if catalog.len() >= u32::MAX as usize {
-        return Err(NoMemory);
-    }
-    Ok(catalog.len() as u32 + 1)
-}
-
 /// What a CREATE TABLE is bound to.
 ///
 /// # Errors
@@ -45,7 +35,7 @@ pub fn table(
 ) -> Result<Bound, NoMemory>
     ensures { IfOk result (λ b. bound_tree b ≡ meant.bound_of (schema_of catalog.now) (resolved.table name.now columns.now primary)) }
 {
-    let number = next_number(catalog)?;
+    let number = catalog.next_number();
     let name = copied(alloc, name)?;
     let columns = copied_columns(alloc, columns)?;
     Ok(Bound::Table(TableDef {
@@ -70,7 +60,7 @@ pub fn index(
 ) -> Result<Bound, NoMemory>
     ensures { IfOk result (λ b. bound_tree b ≡ meant.bound_of (schema_of catalog.now) (resolved.index name.now (object_of target.now) columns)) }
 {
-    let number = next_number(catalog)?;
+    let number = catalog.next_number();
     let name = copied(alloc, name)?;
     Ok(Bound::Index(IndexDef {
         number,
@@ -138,7 +128,7 @@ fn made_view(
 {
     let items = query.items.as_slice();
     Ok(ViewDef {
-        number: next_number(catalog)?,
+        number: catalog.next_number(),
         name: copied(alloc, name)?,
         names: names_of(alloc, items)?,
         first: first.number,

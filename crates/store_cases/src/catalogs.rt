@@ -74,12 +74,9 @@ fn index(alloc: Global, number: u32, text: &str) -> anyhow::Result<IndexDef> {
 }
 
 fn add(catalog: &mut Catalog, definition: Definition) -> anyhow::Result<()> {
-    let next = catalog.len().checked_add(1);
-    if next != Some(definition.number() as usize)
-        || catalog.find(definition.name().as_slice()).is_some()
-    {
+    if !catalog.can_add(&definition) {
         forget(definition);
-        bail!("a number or a name that is not new");
+        bail!("a number or a name that is not new, or no room");
     }
     catalog.add(definition)?;
     Ok(())

@@ -3,3 +3,4 @@ pub mod Tables
 pub mod Sums
 pub mod Kept
 pub mod Stored
+pub mod SetPlaces

@@ -12,7 +12,7 @@ returns-in-Some-clause-value c =
 -- src/catalog.rt:127:5
 pub returns-in-Some-clause-number : goal.returns-in-Some-clause-number
 returns-in-Some-clause-number c =
-    kept_number 0 (c.args.number - 1) c.self.inside.named.entries c.in-Some.field-0-0.now c.in-Some.definition.now c.self.invariant (sym c.in-Some.ensures.entry)
+    kept_number 0 (c.args.number - 1) c.self.inside.named.entries c.in-Some.field-0-0.now c.in-Some.definition.now c.self.invariant.0 (sym c.in-Some.ensures.entry)
     ∙ omega arith
 
 -- src/catalog.rt:127:5
