@@ -128,6 +128,14 @@ impl LockTable {
         self.parts[session as usize].grant(alloc, wants);
     }
 
+    /// The session, 1 to 64, waits for these wants, and for nothing else.
+    pub fn wait(&mut self, session: u32, wants: WantList)
+        requires { IsSession session }
+        ensures { IsRecorded self.old self.new session wants }
+    {
+        self.parts[session as usize].wait(wants);
+    }
+
     /// The sessions that would block this request, nobody where it would be granted.
     pub fn conflicts(&self, session: u32, wants: &WantList) -> Sessions
         ensures in_the_way { AreInTheWay (locks_of self.now) session wants.now result }
@@ -170,6 +178,7 @@ impl LockTable {
     {
         self.parts[session as usize].held().holds(index, key, mode)
     }
+
     /// Whether the session, 1 to 64, holds this very lock: a want of it needs no room then.
     pub fn holds_want(&self, session: u32, want: &Want) -> bool
         requires { IsSession session }

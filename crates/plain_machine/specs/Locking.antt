@@ -1,28 +1,18 @@
 -- No clause of `run` rests on this module: it serves contracts between crates.
 --
 -- Which locks are granted, whom a step waits for, and deadlocks.
-use Rattle.std.specs.Prelude.{◌≡◌, ◌≢◌, ◌↔◌, ℕ, List, [], ◌++◌}
-use Rattle.std.specs.List.{Contains}
+use Rattle.std.specs.Prelude.{◌≡◌, ◌≢◌, ℕ, List, [], ◌++◌}
 use Rattle.iv_types.specs.declared.lock.Want.{Want}
 use Rattle.iv_types.specs.declared.session.Sessions.{Sessions}
 use Rattle.iv_types.specs.Replies.{members}
-use Rattle.iv_meaning.specs.Escrow.{IsSession}
 use Rattle.iv_meaning.specs.Waits.{sessions_of}
 use Rattle.lock_manager.specs.Table as table
 use Rattle.lock_manager.specs.Table.{Table}
 use Rattle.txn_machine.specs.Locks.{Locks, with_one, IsInTheWay, AreInTheWay, IsDeadlock}
 use Rattle.txn_machine.specs.Waiting.{WaitsOn, IsRing}
+pub use Rattle.lock_desk.specs.Asking.{HasLocks, Agrees}
 use Rattle.plain_machine.specs.declared.locking.Asked.{Asked}
 use Rattle.plain_machine.specs.declared.locking.Asked.TheVariants.{Granted, Blocked, Deadlock}
-
--- the same locks, each once or more
-abbrev pub HasLocks : List Want → List Want → Type 0
-HasLocks held locks = (w : Want) → Contains held w ↔ Contains locks w
-
--- the table has these locks of the sessions, and what they wait for
-pub record Agrees (t : Table) (held waited : Locks) : Type 0 where
-  pub locks : (session : ℕ) → IsSession session → HasLocks (table.locks_of t session) (held session)
-  pub waiting : (session : ℕ) → IsSession session → table.waiting_of t session ≡ waited session
 
 -- the wants are locks of the session, since nobody was in the way
 pub record IsGranted (held : Locks) (session : ℕ) (wants : List Want) (after : Table) : Type 0 where

@@ -3,7 +3,7 @@ use Rattle.std.proofs.Math.ListN.{length-set}
 use Rattle.iv_types.specs.declared.session.Sessions.{Sessions}
 use Rattle.txn_machine.specs.Locks.{AreInTheWay}
 use Rattle.lock_manager.specs.Table.{locks_of, waiting_of}
-use Rattle.plain_machine.proofs.Requests.{set_next}
+use Rattle.lock_desk.proofs.Requests.{set_next}
 use Rattle.plain_machine.proofs.locking.recorded_waits.Goals as goal
 
 pub loop-at-preserved : goal.loop-at-preserved
