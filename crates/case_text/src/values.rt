@@ -5,11 +5,9 @@
 //! stands between rows, and `nothing` is no row.
 use crate::escapes::{unescaped, write_escaped};
 use anyhow::bail;
-use iv_types::{Bytes, Row, RowList, Value};
+use iv_types::{Bytes, GREATEST_HUGE, Row, RowList, Value};
 use std::alloc::Global;
 use std::fmt::Write;
-
-const GREATEST: i128 = 170_141_183_460_469_231_731_687_303_715_884_105_727;
 
 /// The value of a text.
 ///
@@ -24,8 +22,8 @@ pub fn read_value(alloc: Global, text: &str) -> anyhow::Result<Value> {
         return Ok(Value::Word(Bytes::from_vec(unescaped(alloc, content)?)));
     }
     match text {
-        "max" => Ok(Value::Number(GREATEST)),
-        "-max" => Ok(Value::Number(-GREATEST)),
+        "max" => Ok(Value::Number(GREATEST_HUGE)),
+        "-max" => Ok(Value::Number(-GREATEST_HUGE)),
         _ => Ok(Value::Number(text.parse::<i128>()?)),
     }
 }
@@ -63,7 +61,7 @@ pub fn read_rows(alloc: Global, text: &str) -> anyhow::Result<RowList> {
 /// Writes a value as `read_value` reads it.
 pub fn write_value(out: &mut String, value: &Value) -> anyhow::Result<()> {
     match value {
-        Value::Number(GREATEST) => out.push_str("max")?,
+        Value::Number(GREATEST_HUGE) => out.push_str("max")?,
         Value::Number(number) => write!(out, "{number}")?,
         Value::Word(word) => {
             out.push('\'')?;

@@ -3,6 +3,8 @@ ghost use Rattle.std.specs.Prelude.{◌≡◌, ◌+ℤ◌, ◌-ℤ◌, ◌↔◌
 ghost use Rattle.std.specs.Int.{w128};
 ghost use Rattle.iv_types.specs.Encoding.{IsHuge};
 
+use iv_types::GREATEST_HUGE;
+
 /// The least and the greatest value of a column.
 #[derive(Clone, Copy)]
 struct Bounds {
@@ -12,8 +14,8 @@ struct Bounds {
 
 /// The HUGE range.
 const HUGE: Bounds = Bounds {
-    least: -i128::MAX,
-    most: i128::MAX,
+    least: -GREATEST_HUGE,
+    most: GREATEST_HUGE,
 };
 
 /// A number, if there is one and it lies in the column's range.

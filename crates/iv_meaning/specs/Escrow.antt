@@ -5,6 +5,7 @@
 use Rattle.std.specs.Prelude.{◌≡◌, ℕ, ◌≤◌, ◌==◌, ℤ, pos, ◌+ℤ◌, List, [], ◌∷◌, ◌++◌, if◌then◌else◌}
 use Rattle.std.specs.Int.{int_min, int_max}
 use Rattle.table_laws.specs.Sums.{sum_to}
+use Rattle.iv_types.specs.declared.limit.TheConstants.{MOST_SESSIONS}
 use Rattle.iv_types.specs.declared.lock.Prefix.{Prefix}
 use Rattle.iv_types.specs.Encoding.{IsHuge}
 
@@ -36,15 +37,15 @@ pub record Account : Type 0 where
 
 -- the sessions that there are
 abbrev pub IsSession : ℕ → Type 0
-IsSession s = (1 ≤ s) × (s ≤ 64)
+IsSession s = (1 ≤ s) × (s ≤ MOST_SESSIONS)
 
 -- with no open transaction
 abbrev pub untouched : ℤ → Account
 untouched committed = record { committed = committed; kept = λ s. [] }
 
--- over the sessions 1 to 64
+-- over all sessions
 unfoldable pub over_sessions : (ℕ → ℤ) → ℤ
-over_sessions f = sum_to 64 f
+over_sessions f = sum_to MOST_SESSIONS f
 
 abbrev pub inf : Account → ℤ
 inf a = a.committed +ℤ over_sessions (λ s. lo (a.kept s))

@@ -1,6 +1,7 @@
 -- What a line of a script says.
 use Rattle.std.specs.Prelude.{◌≡◌, ◌≢◌, ◌⊎◌, ◌≤◌, ◌<◌, ℕ, Bool, true, false, IsTrue, List, [], ◌++◌, length, Result, Ok, Err, codes, decimal, IsUtf8}
 use Rattle.std.specs.List.{All}
+use Rattle.iv_types.specs.declared.limit.TheConstants.{MOST_SESSIONS}
 use Rattle.iv_types.specs.declared.refusal.Refusal.{Refusal}
 use Rattle.iv_types.specs.Syntax.{StatementTree}
 use Rattle.iv_types.specs.Grammar.{Spells}
@@ -36,7 +37,7 @@ IsRemark line = (line ≡ []) ⊎ ((rest : List ℕ) × (line ≡ codes "#" ++ r
 -- stands before the text is ASCII, so this is to say that the line is UTF-8.
 pub record IsMarked (mark : List ℕ) (session : ℕ) (text line : List ℕ) : Type 0 where
   pub first : 1 ≤ session
-  pub last : session ≤ 64
+  pub last : session ≤ MOST_SESSIONS
   pub spaces : List ℕ
   pub only_spaces : All (λ b. b ≡ 32) spaces
   pub written : line ≡ decimal session ++ (mark ++ (spaces ++ text))
@@ -51,7 +52,7 @@ IsLoading = IsMarked (codes "/")
 
 pub record IsStepping (session : ℕ) (line : List ℕ) : Type 0 where
   pub first : 1 ≤ session
-  pub last : session ≤ 64
+  pub last : session ≤ MOST_SESSIONS
   pub written : line ≡ decimal session ++ codes "+"
 
 -- the forms of a line

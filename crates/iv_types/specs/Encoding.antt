@@ -9,7 +9,7 @@ use Rattle.std.specs.declared.cmp.Ordering.{Ordering}
 use Rattle.std.specs.declared.cmp.Ordering.TheVariants.{Less, Greater}
 use Rattle.std.specs.Ordering.{int_cmp, nat_cmp, is_gt, is_lt}
 use Rattle.std.specs.Cmp.Lexicographic.{slice_cmp}
-use Rattle.iv_types.specs.declared.limit.TheConstants.{LONGEST_TEXT}
+use Rattle.iv_types.specs.declared.limit.TheConstants.{LONGEST_TEXT, LEAST_INT, GREATEST_INT, GREATEST_HUGE}
 use Rattle.iv_types.specs.declared.catalog.TableDef.{TableDef}
 use Rattle.iv_types.specs.declared.value.Kind.{Kind}
 use Rattle.iv_types.specs.declared.value.Kind.TheVariants.{Int, Huge, Text}
@@ -32,11 +32,11 @@ abbrev pub IsHuge : ℤ → Type 0
 IsHuge n = FitsSigned w128 n × (n ≢ neg_ℤ (pos (2 ^ 127)))
 
 abbrev pub is_huge : ℤ → Bool
-is_huge n = int_le (neg_ℤ (pos (2 ^ 127 - 1))) n && int_le n (pos (2 ^ 127 - 1))
+is_huge n = int_le (neg_ℤ GREATEST_HUGE) n && int_le n GREATEST_HUGE
 
 -- the value is of the type's family and inside it
 abbrev pub fits : Kind → Value → Bool
-fits Int (Number n) = int_le (neg_ℤ (pos (2 ^ 63))) n && int_le n (pos (2 ^ 63 - 1))
+fits Int (Number n) = int_le LEAST_INT n && int_le n GREATEST_INT
 fits Huge (Number n) = is_huge n
 fits Text (Word bytes) = nat_le (length bytes) longest_text && is_utf8 bytes
 fits _ _ = false

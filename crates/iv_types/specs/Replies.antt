@@ -2,6 +2,7 @@
 use Rattle.std.specs.Prelude.{ℕ, pos, zero, suc, ◌==◌, ◌%◌, ◌/◌, List, [], ◌∷◌, ◌++◌, take, Option, Some, None, if◌then◌else◌, codes, decimal}
 use Rattle.std.specs.List.{flat_map}
 use Rattle.std.specs.Fmt.{signed_decimal}
+use Rattle.iv_types.specs.declared.limit.TheConstants.{MOST_SESSIONS}
 use Rattle.iv_types.specs.declared.value.Value.{Value}
 use Rattle.iv_types.specs.declared.value.Value.TheVariants as value
 use Rattle.iv_types.specs.declared.session.Sessions.{Sessions}
@@ -33,7 +34,7 @@ members_from zero session bits = []
 members_from (suc n) session bits = if bits % 2 == 1 then session ∷ members_from n (suc session) (bits / 2) else members_from n (suc session) (bits / 2)
 
 abbrev pub members : Sessions → List ℕ
-members sessions = members_from 64 1 sessions.bits
+members sessions = members_from MOST_SESSIONS 1 sessions.bits
 
 -- a refusal's code, its name and its values
 abbrev pub refusal_text : Refusal → List ℕ

@@ -6,7 +6,7 @@ ghost use Rattle.iv_types.specs.Limits as limits;
 pub const LONGEST_NAME: usize = 64;
 
 /// The greatest value of a number literal, which is the end of the HUGE range.
-pub const GREATEST_NUMBER: u128 = 170_141_183_460_469_231_731_687_303_715_884_105_727;
+pub const GREATEST_NUMBER: u128 = GREATEST_HUGE as u128;
 
 /// The most bytes of a text literal, and of a value of TEXT.
 pub const LONGEST_TEXT: usize = 200;
@@ -49,6 +49,24 @@ pub const MOST_ITEMS: usize = 64;
 
 /// The most operations of one expression.
 pub const MOST_OPERATIONS: u32 = 1024;
+
+/// The least INT.
+pub const LEAST_INT: i128 = -9_223_372_036_854_775_808;
+
+/// The greatest INT.
+pub const GREATEST_INT: i128 = 9_223_372_036_854_775_807;
+
+/// The greatest HUGE. The least is its negation.
+pub const GREATEST_HUGE: i128 = 170_141_183_460_469_231_731_687_303_715_884_105_727;
+
+/// The most sessions. They are numbered from 1.
+pub const MOST_SESSIONS: u32 = 64;
+
+/// The places of a list that has session k's at place k.
+pub const SEATS: usize = MOST_SESSIONS as usize + 1;
+
+/// The most bytes of a stored view row: 16 for its count and for each of its sums.
+pub const VIEW_ROW_BYTES: usize = 16 * (1 + MOST_SUMS as usize);
 
 /// What is counted of statements, in the order of the numbers by which refusals name them, from 1.
 #[derive(Clone, Copy, Debug, PartialEq, Eq)]

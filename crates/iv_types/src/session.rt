@@ -1,6 +1,9 @@
 //! Sessions, sets of them, and what they wait for.
 ghost use Rattle.std.specs.Prelude.{◌≡◌, ℕ, ◌≤◌, ◌↔◌, ◌⊎◌, IsTrue};
+ghost use Rattle.iv_types.specs.declared.limit.TheConstants.{MOST_SESSIONS};
 ghost use Rattle.iv_types.specs.SessionSets.{Has, IsSomebody, HaveCommon, IsFirstCommon};
+
+use crate::MOST_SESSIONS;
 
 /// A set of sessions. Bit k - 1 stands for session k, from 1 to 64.
 #[derive(Clone, Copy, PartialEq, Eq)]
@@ -15,7 +18,7 @@ impl Sessions {
     /// Whether a session, from 1 to 64, is in the set.
     pub fn has(self, session: u32) -> bool
         requires from_1 { 1 ≤ session }
-        requires to_64 { session ≤ 64 }
+        requires to_64 { session ≤ MOST_SESSIONS }
         ensures { IsTrue result ↔ Has self session }
     {
         (self.bits >> (session - 1)) & 1 == 1
@@ -24,7 +27,7 @@ impl Sessions {
     /// The set and one more session, from 1 to 64.
     pub fn with(self, session: u32) -> Sessions
         requires from_1 { 1 ≤ session }
-        requires to_64 { session ≤ 64 }
+        requires to_64 { session ≤ MOST_SESSIONS }
         ensures { (other : ℕ) → Has result other ↔ (Has self other ⊎ (other ≡ session)) }
     {
         Sessions {
@@ -51,7 +54,7 @@ impl Sessions {
         requires { HaveCommon self other }
         ensures first { IsFirstCommon self other result }
         ensures from_1 { 1 ≤ result }
-        ensures to_64 { result ≤ 64 }
+        ensures to_64 { result ≤ MOST_SESSIONS }
     {
         (self.bits & other.bits).trailing_zeros() + 1
     }
@@ -61,5 +64,5 @@ impl Sessions {
 #[derive(Clone, Copy, Debug, PartialEq, Eq)]
 pub struct Cycle {
     pub length: u32,
-    pub members: [u8; 64],
+    pub members: [u8; MOST_SESSIONS as usize],
 }

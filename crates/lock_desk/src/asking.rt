@@ -6,7 +6,7 @@ ghost use Rattle.txn_machine.specs.Locks.{Locks, AreInTheWay};
 ghost use Rattle.lock_manager.specs.Table.{locks_of, waiting_of};
 ghost use Rattle.lock_desk.specs.Asking.{Agrees, IsAsked};
 
-use iv_types::{Cycle, NOBODY, Sessions, WantList};
+use iv_types::{Cycle, MOST_SESSIONS, NOBODY, Sessions, WantList};
 use lock_manager::LockTable;
 use wait_graph::would_close;
 
@@ -22,11 +22,11 @@ pub enum Asked {
 }
 
 // Whom each session waits for.
-fn recorded_waits(locks: &LockTable) -> [Sessions; 64]
+fn recorded_waits(locks: &LockTable) -> [Sessions; MOST_SESSIONS as usize]
     ensures { (k : ℕ) → IsSession k → AreInTheWay (locks_of locks.now) k (waiting_of locks.now k) (recorded result k) }
 {
-    let mut waits = [NOBODY; 64];
-    for at in 0..64u32 {
+    let mut waits = [NOBODY; MOST_SESSIONS as usize];
+    for at in 0..MOST_SESSIONS {
         waits[at as usize] = locks.blocked_by(at + 1);
     }
     waits

@@ -1,6 +1,7 @@
 //! The locks of all sessions.
 ghost use Rattle.std.specs.Prelude.{◌≡◌, ◌↔◌, length, IsTrue, IfOk, OnOk, OnErr};
 ghost use Rattle.std.specs.List.{Contains};
+ghost use Rattle.iv_types.specs.declared.limit.TheConstants.{SEATS};
 ghost use Rattle.iv_meaning.specs.Escrow.{IsSession};
 ghost use Rattle.txn_machine.specs.Locks.{IsInTheWay, AreInTheWay};
 ghost use Rattle.iv_types.specs.SessionSets.{IsSomebody};
@@ -8,16 +9,13 @@ ghost use Rattle.lock_manager.specs.Table.{Covers, HasSome, IsNew, IsFree, IsRes
 
 use crate::LockAnswer;
 use crate::session_part::SessionPart;
-use iv_types::{LockMode, NOBODY, NoMemory, Sessions, Want, WantList};
+use iv_types::{LockMode, NOBODY, NoMemory, SEATS, Sessions, Want, WantList};
 use std::alloc::Global;
 use std::marker::Model;
 
-// Session k's part stands at place k, from 1 to 64.
-const PARTS: usize = 65;
-
 // Whether another session is in the way of these wants.
 fn is_in_the_way(parts: &[SessionPart], session: u32, wants: &[Want], other: u32) -> bool
-    requires parts { length parts.now ≡ 65 }
+    requires parts { length parts.now ≡ SEATS }
     requires other { IsSession other }
     ensures { IsTrue result ↔ IsInTheWay (locks_of parts.now) session wants.now other }
 {
@@ -26,11 +24,11 @@ fn is_in_the_way(parts: &[SessionPart], session: u32, wants: &[Want], other: u32
 
 // The sessions that are in the way of these wants.
 fn in_the_way(parts: &[SessionPart], session: u32, wants: &[Want]) -> Sessions
-    requires { length parts.now ≡ 65 }
+    requires { length parts.now ≡ SEATS }
     ensures { AreInTheWay (locks_of parts.now) session wants.now result }
 {
     let mut sessions = NOBODY;
-    for other in 1..65 {
+    for other in 1..SEATS as u32 {
         if is_in_the_way(parts, session, wants, other) {
             sessions = sessions.with(other);
         }
@@ -46,6 +44,7 @@ fn in_the_way(parts: &[SessionPart], session: u32, wants: &[Want]) -> Sessions
 #[derive(Drop)]
 pub struct LockTable {
     alloc: Global,
+    // Session k's part stands at place k.
     parts: Vec<SessionPart>,
 }
 
@@ -60,7 +59,7 @@ impl Model for LockTable {
 
     ghost view = { λ t. t.parts.items };
 
-    ghost invariant = { λ t. length t.parts.items ≡ 65 };
+    ghost invariant = { λ t. length t.parts.items ≡ SEATS };
 }
 
 impl LockTable {
@@ -73,7 +72,7 @@ impl LockTable {
         ensures { IfOk result (λ table. IsNew table) }
     {
         let mut parts = Vec::new(alloc);
-        for _ in 0..PARTS {
+        for _ in 0..SEATS {
             parts.push(SessionPart::new(alloc))?;
         }
         Ok(LockTable { alloc, parts })

@@ -1,9 +1,9 @@
 //! Runs of a shop's sales, by hand: a table of sales and a view of them by shop, whose statements are the steps that they
 //! take.
 use iv_types::{
-    Bytes, Catalog, ColumnDef, ColumnList, EngineRefusal, Expr, Interval, Item, ItemList, JoinList,
-    Kind, LockMode, Mode, NameList, NoMemory, Query, Ref, RefList, Refusal, Relation, Row, RowList,
-    Statement, Value,
+    Bytes, Catalog, ColumnDef, ColumnList, EngineRefusal, Expr, GREATEST_HUGE, Interval, Item,
+    ItemList, JoinList, Kind, LockMode, Mode, NameList, NoMemory, Query, Ref, RefList, Refusal,
+    Relation, Row, RowList, Statement, Value,
 };
 use plain_machine::Machine;
 use row_codec::{encode_key, point};
@@ -11,8 +11,6 @@ use std::alloc::Global;
 use std::process::Abort;
 use std::test::Fail;
 use txn_book::{Act, Answer};
-
-const MOST: i128 = 170_141_183_460_469_231_731_687_303_715_884_105_727;
 
 /// A sale: its number, its shop and its amount.
 type Sale = (i128, i128, i128);
@@ -489,7 +487,7 @@ fn a_deleted_row_comes_back(rt: HostRuntime) -> Result<(), Fail> {
 fn bounds_cover_what_undo_passes_through(rt: HostRuntime) -> Result<(), Fail> {
     let steps = [
         (1, Do::Begin, Seen::Begun(2)),
-        (1, Do::Insert((1, 7, MOST - 10)), Seen::Done),
+        (1, Do::Insert((1, 7, GREATEST_HUGE - 10)), Seen::Done),
         (1, Do::Commit, Seen::Committed(3)),
         (1, Do::Begin, Seen::Begun(3)),
         (1, Do::Insert((2, 7, 8)), Seen::Done),
@@ -498,7 +496,7 @@ fn bounds_cover_what_undo_passes_through(rt: HostRuntime) -> Result<(), Fail> {
         (
             2,
             Do::Insert((3, 7, 5)),
-            Seen::OutOfRange(1, MOST - 10, MOST - 2),
+            Seen::OutOfRange(1, GREATEST_HUGE - 10, GREATEST_HUGE - 2),
         ),
         (1, Do::Commit, Seen::Committed(4)),
         (2, Do::RollBack, Seen::Done),
@@ -620,12 +618,12 @@ fn a_view_is_made_of_the_rows_that_are_there(rt: HostRuntime) -> Result<(), Fail
 fn a_view_out_of_range_is_refused(rt: HostRuntime) -> Result<(), Fail> {
     let steps = [
         (1, Do::Begin, Seen::Begun(2)),
-        (1, Do::Insert((1, 7, MOST)), Seen::Done),
-        (1, Do::Insert((2, 9, MOST)), Seen::Done),
+        (1, Do::Insert((1, 7, GREATEST_HUGE)), Seen::Done),
+        (1, Do::Insert((2, 9, GREATEST_HUGE)), Seen::Done),
         (1, Do::Commit, Seen::Committed(3)),
         (1, Do::Create(Made::ByAmount), Seen::Refused),
         (1, Do::Begin, Seen::Begun(3)),
-        (1, Do::View, Seen::Rows(2, 9, 1, MOST)),
+        (1, Do::View, Seen::Rows(2, 9, 1, GREATEST_HUGE)),
         (1, Do::Commit, Seen::Committed(3)),
     ];
     trial(&rt, rt.alloc(), &steps)

@@ -14,14 +14,14 @@ ghost use Rattle.row_codec.specs.Columns.{Blames, Gives, IsBroken, IsStop};
 use crate::RowFault;
 use crate::text::is_utf8;
 use byteorder::{BigEndian, ByteOrder};
-use iv_types::{Bytes, Kind, LONGEST_TEXT, NoMemory, Row, Value};
+use iv_types::{Bytes, GREATEST_NUMBER, Kind, LEAST_INT, LONGEST_TEXT, NoMemory, Row, Value};
 use std::alloc::Global;
 
 // Half of what 8 bytes can count.
-const HALF_INT: i128 = 9_223_372_036_854_775_808;
+const HALF_INT: i128 = -LEAST_INT;
 
 // Half of what 16 bytes can count.
-const HALF_HUGE: u128 = 170_141_183_460_469_231_731_687_303_715_884_105_728;
+const HALF_HUGE: u128 = GREATEST_NUMBER + 1;
 
 fn put_int(out: &mut Vec<u8>, number: i128) -> Result<(), NoMemory>
     requires { FitsSigned w64 number }

@@ -8,11 +8,10 @@ use crate::bytes::{
     push_bytes, push_number, push_numbers, push_quoted, push_signed, push_spaced,
     push_spaced_number, push_spaced_signed,
 };
-use iv_types::{Bytes, Cycle, Limit, NoMemory, Refusal, Reply, Row, Sessions, Value};
+use iv_types::{
+    Bytes, Cycle, Limit, MOST_SESSIONS, NoMemory, Refusal, Reply, Row, Sessions, Value,
+};
 use std::alloc::Global;
-
-// The most sessions.
-const MOST_SESSIONS: usize = 64;
 
 fn push_value(text: &mut Vec<u8>, value: &Value) -> Result<(), NoMemory>
     ensures { OnOk result (text.new.items ≡ text.old.items ++ spaced (value_text value.now)) }
@@ -50,13 +49,13 @@ fn push_members(text: &mut Vec<u8>, count: usize, bits: u64) -> Result<(), NoMem
 fn push_sessions(text: &mut Vec<u8>, sessions: Sessions) -> Result<(), NoMemory>
     ensures { OnOk result (text.new.items ≡ text.old.items ++ numbers_text (members sessions)) }
 {
-    push_members(text, MOST_SESSIONS, sessions.bits)
+    push_members(text, MOST_SESSIONS as usize, sessions.bits)
 }
 
 fn push_cycle(text: &mut Vec<u8>, cycle: &Cycle) -> Result<(), NoMemory>
     ensures { OnOk result (text.new.items ≡ text.old.items ++ numbers_text (take cycle.now.length cycle.now.members)) }
 {
-    let length = (cycle.length as usize).min(MOST_SESSIONS);
+    let length = (cycle.length as usize).min(MOST_SESSIONS as usize);
     for session in &cycle.members[..length] {
         push_spaced_number(text, *session as u64)?;
     }

@@ -1,6 +1,7 @@
 //! A token of a text, and what it stands for.
 ghost use Rattle.std.specs.Prelude.{◌≡◌, ◌-◌, ◌^◌, ◌≤◌, ◌↔◌, length, pos, IsSome, IfSome, IfOk};
 ghost use Rattle.std.specs.Str.{str_to_ascii_lowercase};
+ghost use Rattle.iv_types.specs.declared.limit.TheConstants.{GREATEST_NUMBER};
 ghost use Rattle.iv_types.specs.Tokens.{value_of};
 ghost use Rattle.sql_tokens.specs.View.{piece, content};
 
@@ -70,7 +71,7 @@ fn value(digits: &[u8]) -> Option<u128>
 /// The number that the token's digits write. `None` where it is above 2^127 - 1, however many digits there are.
 pub fn number(text: &[u8], token: Token) -> Option<i128>
     ensures some { IfSome result (λ n. n ≡ pos (value_of (piece text.now token))) }
-    ensures fits { IsSome result ↔ (value_of (piece text.now token) ≤ 2 ^ 127 - 1) }
+    ensures fits { IsSome result ↔ (value_of (piece text.now token) ≤ GREATEST_NUMBER) }
 {
     let value = value(piece(text, token))?;
     i128::try_from(value).ok()

@@ -3,17 +3,16 @@ ghost use Rattle.std.specs.Prelude.{IfOk};
 ghost use Rattle.iv_types.specs.Encoding.{IsHuge};
 
 use anyhow::bail;
+use iv_types::GREATEST_HUGE;
 use std::fmt::Write;
-
-const MOST: i128 = i128::MAX;
 
 /// The number of a text.
 pub fn number_of(text: &str) -> anyhow::Result<i128>
     ensures { IfOk result IsHuge }
 {
     match text {
-        "max" => Ok(MOST),
-        "-max" => Ok(-MOST),
+        "max" => Ok(GREATEST_HUGE),
+        "-max" => Ok(-GREATEST_HUGE),
         _ => {
             let number = text.parse::<i128>()?;
             if number == i128::MIN {
@@ -27,9 +26,9 @@ pub fn number_of(text: &str) -> anyhow::Result<i128>
 /// Writes a number as `number_of` reads it.
 pub fn write_number(out: &mut String, number: i128) -> anyhow::Result<()> {
     match number {
-        MOST => out.push_str("max")?,
+        GREATEST_HUGE => out.push_str("max")?,
         _ => {
-            if number == -MOST {
+            if number == -GREATEST_HUGE {
                 out.push_str("-max")?;
             } else {
                 write!(out, "{number}")?;

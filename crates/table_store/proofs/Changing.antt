@@ -32,9 +32,9 @@ use Rattle.table_store.proofs.TableIndexes.{each_first, each_last, each_append, 
 abbrev Row : Type 0
 Row = List Value
 
-fits_one : (t : TableDef) (key : List ℕ) (row : Option Row) → IfSome row (StandsUnder t key) → IfSome row (FitAll (kinds_of t))
-fits_one t key None st = tt
-fits_one t key (Some row) st = st.0
+pub stands_fits : (t : TableDef) (key : List ℕ) (row : Option Row) → IfSome row (StandsUnder t key) → IfSome row (FitAll (kinds_of t))
+stands_fits t key None st = tt
+stands_fits t key (Some row) st = st.0
 
 -- the row that is there stands under its key
 pub there_stands : (ds : Definitions) (key : List ℕ) (row : Option Row) (maps : ℕ → Map) (t : TableDef) → IsThere ds key row maps t → IfSome row (StandsUnder t key)
@@ -42,7 +42,7 @@ there_stands ds key None maps t there = tt
 there_stands ds key (Some row) maps t there = there.held.primary.fitting key row there.is
 
 pub there_fits : (ds : Definitions) (key : List ℕ) (row : Option Row) (maps : ℕ → Map) (t : TableDef) → IsThere ds key row maps t → IfSome row (FitAll (kinds_of t))
-there_fits ds key row maps t there = fits_one t key row (there_stands ds key row maps t there)
+there_fits ds key row maps t there = stands_fits t key row (there_stands ds key row maps t there)
 
 -- ---- the entries that go are of indexes that those are of that come
 
@@ -170,7 +170,7 @@ keeps_room ds number t numbered_are found change room mid new takes primary seco
 pub found_there : (ds : Definitions) (rows : Rows) (maps : ℕ → Map) (t : TableDef) (key : List ℕ) (row : Option Row) → OneSpelling value_bytes → table_of ds t.number ≡ Some t → Holds ds rows maps
     → get (maps t.number) key ≡ stored t row → IfSome row (StandsUnder t key) → IsThere ds key row maps t
 found_there ds rows maps t key row one is_table holds there stands =
-    record { rows = rows; held = holds t is_table; is = row_is one rows t (maps t.number) (holds t is_table).primary key row (fits_one t key row stands) there }
+    record { rows = rows; held = holds t is_table; is = row_is one rows t (maps t.number) (holds t is_table).primary key row (stands_fits t key row stands) there }
 
 -- where each index of the table has a place, there is room for the entries of a row
 pub places_for : (ds : Definitions) (t : TableDef) → AreNumbered ds → table_of ds t.number ≡ Some t → (key : List ℕ) (one other : Option Row) (spare : ℕ → ℕ) → 1 ≤ spare t.number

@@ -2,3 +2,4 @@ pub mod Lists
 pub mod Stored
 pub mod Entries
 pub mod Changes
+pub mod Readying

@@ -12,4 +12,4 @@ mod tables;
 pub use exchange::make_room;
 pub use list_maps::ListMaps;
 pub use row_entries::own_entries;
-pub use tables::Tables;
+pub use tables::{Ready, Tables, entry_bytes};

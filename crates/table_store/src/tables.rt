@@ -1,5 +1,5 @@
 //! Tables over sorted maps.
-ghost use Rattle.std.specs.Prelude.{◌≡◌, ℕ, ◌+◌, ◌-◌, ◌^◌, ◌<◌, ◌≤◌, min, length, List, Some, IfOk, IfSome, OnOk, OnErr};
+ghost use Rattle.std.specs.Prelude.{◌≡◌, ℕ, ◌+◌, ◌-◌, ◌^◌, ◌<◌, ◌≤◌, min, length, List, Some, ⊤, IfOk, IfSome, OnOk, OnErr};
 ghost use Rattle.std.specs.FinMap as map;
 ghost use Rattle.std.specs.Borrow.{Lends, sem};
 ghost use Rattle.iv_types.specs.Encoding.{kinds_of, row_bytes};
@@ -10,20 +10,24 @@ ghost use Rattle.iv_types.specs.declared.catalog.TableDef.{TableDef};
 ghost use Rattle.iv_meaning.specs.Database.{Database, Rows};
 ghost use Rattle.iv_meaning.specs.View as view;
 ghost use Rattle.table_store.specs.Stored.{stored, StandsUnder, HoldsTable, HoldsRead, CanRead, IsEntryOf, AreEntries, Follow, AreRows, noted_row, noted_entries, noted_rows, listed_table, Decode, between, before, IsTableAnd, OfTable};
-ghost use Rattle.table_store.specs.Changes.{Sets, SetsRow, IsChange, IsKept, KeepsRoom, TakesRoom, CanTakeBack};
+ghost use Rattle.table_store.specs.Changes.{Sets, SetsRow, IsChange, IsKept, KeepsRoom, TakesRoom, CanTakeBack, sizes};
+ghost use Rattle.table_store.specs.Readying.{RowsFit, HasPlaces, IsReady};
 
 use crate::exchange::{exchange, make_room};
 use crate::keys::primary_part;
 use crate::row_entries::own_entries;
 use crate::stored::{copies_of, row_of, table_of};
 use iv_types::{
-    Bytes, Catalog, Change, Definition, IndexDef, Interval, Kept, NoMemory, Row, RowList,
-    SortedMaps, TableDef,
+    Bytes, Catalog, Change, Definition, IndexDef, IndexEntry, IndexEntryList, Interval, Kept,
+    NoMemory, Row, RowList, SortedMaps, TableDef,
 };
 use row_codec::{key_law, row_law};
 use std::alloc::Global;
 use std::cmp::Ordering;
 use std::marker::Model;
+
+// What an entry counts, besides the bytes of its key and of its value.
+const ENTRY_BYTES: u64 = 8;
 
 // What a row counts in a note, besides its bytes.
 const NOTED_ROW: u64 = 16;
@@ -154,6 +158,28 @@ fn noted_by_index<M: SortedMaps>(
     size
 }
 
+/// A change that is ready to be made: what is kept of it, and the entries that it puts in.
+#[derive(Drop)]
+pub struct Ready {
+    pub kept: Kept,
+    pub coming: IndexEntryList,
+}
+
+/// What entries count, each the bytes of its key and of its value, and 8. A sum that does not fit stands still at the end of
+/// a `u64`.
+pub fn entry_bytes(entries: &[IndexEntry]) -> u64
+    ensures { result ≡ min (sizes entries.now) (2 ^ 64 - 1) }
+{
+    let mut sum: u64 = 0;
+    for entry in entries {
+        sum = sum
+            .saturating_add(entry.key.as_slice().len() as u64)
+            .saturating_add(entry.value.as_slice().len() as u64)
+            .saturating_add(ENTRY_BYTES);
+    }
+    sum
+}
+
 /// The tables of a database over sorted maps: under a table's number an entry for each of its rows, with the encoded
 /// primary key as its key and the row's bytes as its value, and under the number of an index that CREATE INDEX made an entry
 /// for each row of its table, with the row's key there and nothing behind it. Contracts see the maps.
@@ -252,27 +278,17 @@ impl<M: SortedMaps> Tables<M> {
         }
     }
 
-    /// Changes one row of a table, and all entries that belong to it. An index in which the row keeps its key is left as it is.
-    /// Then each index of the table has room for `room` entries more, and for one more where an entry went. An `Err` changes
-    /// no entry and takes no room away.
+    /// Makes a change of one row of a table ready: the entries that it takes away and makes. Its rows fit the table. It changes
+    /// nothing.
     ///
     /// # Errors
     ///
     /// Where there is no memory for it.
-    pub fn change(&mut self, catalog: &Catalog, change: Change, room: u32) -> Result<Kept, NoMemory>
-        requires change { IsTableAnd catalog.now change.table (IsChange catalog.now change (M.maps self.old) (M.limit self.old)) }
-        requires room { room < 2 ^ 32 - 1 }
-        ensures kept { IfOk result (λ kept. OfTable catalog.now change.table (IsKept catalog.now change kept)) }
-        ensures set { OnOk result (OfTable catalog.now change.table (Sets catalog.now change.key change.before change.after (M.maps self.old) (M.maps self.new))) }
-        ensures rows { OnOk result (SetsRow catalog.now change.table change.key change.after (M.maps self.old) (M.maps self.new)) }
-        ensures room { IfOk result (λ kept. OfTable catalog.now change.table (KeepsRoom catalog.now room kept.gone (M.spare self.new))) }
-        ensures spare { IfOk result (λ kept. TakesRoom (M.spare self.old) (M.spare self.new) kept.gone kept.made) }
-        ensures err { OnErr result ((i : ℕ) → (M.maps self.new i ≡ M.maps self.old i) × (M.spare self.old i ≤ M.spare self.new i)) }
-        ensures limit { M.limit self.new ≡ M.limit self.old }
+    pub fn prepare(&self, catalog: &Catalog, change: Change) -> Result<Ready, NoMemory>
+        requires { IsTableAnd catalog.now change.table (RowsFit change) }
+        ensures kept { IfOk result (λ ready. OfTable catalog.now change.table (IsKept catalog.now change ready.kept)) }
+        ensures coming { IfOk result (λ ready. ready.coming ≡ ready.kept.made) }
     {
-        row_law();
-        key_law();
-        catalog.number_law();
         let table = table_of(catalog, change.table);
         let key = &change.key;
         let gone = own_entries(
@@ -292,9 +308,67 @@ impl<M: SortedMaps> Tables<M> {
             &change.before,
         )?;
         let coming = copies_of(self.alloc, made.as_slice())?;
-        make_room(&mut self.maps, catalog, table, room + 1)?;
-        exchange(&mut self.maps, gone.as_slice(), coming);
-        Ok(Kept { change, gone, made })
+        let kept = Kept { change, gone, made };
+        Ok(Ready { kept, coming })
+    }
+
+    /// Makes room for that many entries more in each index of a table. An `Err` takes no room away.
+    ///
+    /// # Errors
+    ///
+    /// Where there is no memory for them.
+    pub fn reserve(&mut self, catalog: &Catalog, table: u32, more: u32) -> Result<(), NoMemory>
+        requires { IsTableAnd catalog.now table (λ t. ⊤) }
+        ensures room { OnOk result (OfTable catalog.now table (HasPlaces catalog.now more (M.spare self.new))) }
+        ensures maps { (n : ℕ) → M.maps self.new n ≡ M.maps self.old n }
+        ensures spare { (n : ℕ) → M.spare self.old n ≤ M.spare self.new n }
+        ensures limit { M.limit self.new ≡ M.limit self.old }
+    {
+        let table = table_of(catalog, table);
+        make_room(&mut self.maps, catalog, table, more)
+    }
+
+    /// Makes a change that is ready, into room that was made, and gives what is kept of it. An index in which the row keeps
+    /// its key is left as it is. Takes no memory.
+    pub fn apply(&mut self, catalog: &Catalog, ready: Ready) -> Kept
+        requires { IsTableAnd catalog.now ready.kept.change.table (IsReady catalog.now ready (M.maps self.old) (M.spare self.old) (M.limit self.old)) }
+        ensures kept { result ≡ ready.kept }
+        ensures set { OfTable catalog.now ready.kept.change.table (Sets catalog.now ready.kept.change.key ready.kept.change.before ready.kept.change.after (M.maps self.old) (M.maps self.new)) }
+        ensures rows { SetsRow catalog.now ready.kept.change.table ready.kept.change.key ready.kept.change.after (M.maps self.old) (M.maps self.new) }
+        ensures spare { TakesRoom (M.spare self.old) (M.spare self.new) ready.kept.gone ready.kept.made }
+        ensures limit { M.limit self.new ≡ M.limit self.old }
+    {
+        row_law();
+        key_law();
+        catalog.number_law();
+        let Ready { kept, coming } = ready;
+        exchange(&mut self.maps, kept.gone.as_slice(), coming);
+        kept
+    }
+
+    /// Changes one row of a table, and all entries that belong to it. An index in which the row keeps its key is left as it is.
+    /// Then each index of the table has room for `room` entries more, and for one more where an entry went. An `Err` changes
+    /// no entry and takes no room away.
+    ///
+    /// # Errors
+    ///
+    /// Where there is no memory for it.
+    pub fn change(&mut self, catalog: &Catalog, change: Change, room: u32) -> Result<Kept, NoMemory>
+        requires change { IsTableAnd catalog.now change.table (IsChange catalog.now change (M.maps self.old) (M.limit self.old)) }
+        requires room { room < 2 ^ 32 - 1 }
+        ensures kept { IfOk result (λ kept. OfTable catalog.now change.table (IsKept catalog.now change kept)) }
+        ensures set { OnOk result (OfTable catalog.now change.table (Sets catalog.now change.key change.before change.after (M.maps self.old) (M.maps self.new))) }
+        ensures rows { OnOk result (SetsRow catalog.now change.table change.key change.after (M.maps self.old) (M.maps self.new)) }
+        ensures room { IfOk result (λ kept. OfTable catalog.now change.table (KeepsRoom catalog.now room kept.gone (M.spare self.new))) }
+        ensures spare { IfOk result (λ kept. TakesRoom (M.spare self.old) (M.spare self.new) kept.gone kept.made) }
+        ensures err { OnErr result ((i : ℕ) → (M.maps self.new i ≡ M.maps self.old i) × (M.spare self.old i ≤ M.spare self.new i)) }
+        ensures limit { M.limit self.new ≡ M.limit self.old }
+    {
+        catalog.number_law();
+        let table = change.table;
+        let ready = self.prepare(catalog, change)?;
+        self.reserve(catalog, table, room + 1)?;
+        Ok(self.apply(catalog, ready))
     }
 
     /// Takes a change back that `change` made with this catalog, where its row is still the one that is there. Takes no

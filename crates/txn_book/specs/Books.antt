@@ -3,6 +3,7 @@
 -- The book of an opening: its open and its committed transactions.
 use Rattle.std.specs.Prelude.{◌≡◌, ℕ, zero, suc, ◌+◌, ◌≤◌, ◌<◌, ◌^◌, nat_le, List, [], ◌∷◌, ◌++◌, reverse, length, slice_set, sum_by, count_by, is_some, Option, None, Some, IsSome, refl, if◌then◌else◌}
 use Rattle.std.specs.Coded.{Coded, coded_ℕ, coded×, coded_list, coded_option, code_by}
+use Rattle.iv_types.specs.declared.limit.TheConstants.{MOST_SESSIONS, SEATS}
 use Rattle.iv_types.specs.declared.statement.Mode.TheVariants.{Serial, Snapshot}
 use Rattle.iv_types.specs.declared.lock.Change.{Change}
 use Rattle.txn_book.specs.declared.open_table.Open.{Open}
@@ -56,7 +57,7 @@ how_many_open opens = count_by is_some opens
 
 pub record IsBook (b : Books) : Type 0 where
   pub opened : b.opened < 2 ^ 63
-  pub places : length b.opens ≡ 65
+  pub places : length b.opens ≡ SEATS
   pub roomy : (session : ℕ) (o : Open) → open_at b.opens session ≡ Some o → IsRoomy o
   pub fits : total_bytes b < 2 ^ 64
   -- each open transaction can become an entry
@@ -121,9 +122,9 @@ pub record CanKeep (b : Books) (deltas more more_history : ℕ) (o : Open) : Typ
 
 -- the least session from 1 to 64 that has a transaction
 abbrev pub IsLeastOpen : List (Option Open) → Option ℕ → Type 0
-IsLeastOpen opens None = (session : ℕ) → 1 ≤ session → session ≤ 64 → open_at opens session ≡ None
+IsLeastOpen opens None = (session : ℕ) → 1 ≤ session → session ≤ MOST_SESSIONS → open_at opens session ≡ None
 IsLeastOpen opens (Some session) =
-    (1 ≤ session) × (session ≤ 64) × IsSome (open_at opens session)
+    (1 ≤ session) × (session ≤ MOST_SESSIONS) × IsSome (open_at opens session)
     × ((other : ℕ) → 1 ≤ other → other < session → open_at opens other ≡ None)
 
 -- the least number of the snapshots of the sessions 1 to n, or this one

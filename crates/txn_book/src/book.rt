@@ -1,6 +1,7 @@
 //! The book of an engine's transactions: those that are open and those that are committed.
 ghost use Rattle.std.specs.Prelude.{◌≡◌, ◌≢◌, ◌+◌, ◌≤◌, ◌<◌, ◌^◌, ℕ, List, [], ◌∷◌, length, reverse, suc, ⊤, Option, Some, None, IfOk, OnOk, OnErr};
 ghost use Rattle.std.specs.Option.{option_copied};
+ghost use Rattle.iv_types.specs.declared.limit.TheConstants.{MOST_SESSIONS, SEATS};
 ghost use Rattle.iv_types.specs.declared.lock.GroupDelta.{GroupDelta as Delta};
 ghost use Rattle.iv_types.specs.declared.lock.KeptStep.{KeptStep as Step};
 ghost use Rattle.txn_book.specs.declared.open_table.Open.{Open as Transaction};
@@ -9,13 +10,10 @@ ghost use Rattle.txn_book.specs.Txns.{HasRoomFor, IsRoomy, txn_of, entry_size, b
 ghost use Rattle.txn_book.specs.Books.{CanKeep, Changes, Committed, Defined, IsLeastOpen, IsOpenAnd, IsSame, OfOpen, Seats, bytes_of, how_many_open, least_snapshot, number_of, total_bytes};
 
 use crate::kept_steps::{Owing, changes_of, keep, make_room, pay, undo};
-use crate::open_table::{Open, OpenTable, PLACES};
-use iv_types::{ChangeList, Kept, Mode, NoMemory, PrefixList};
+use crate::open_table::{Open, OpenTable};
+use iv_types::{ChangeList, Kept, MOST_SESSIONS, Mode, NoMemory, PrefixList, SEATS};
 use std::alloc::Global;
 use std::marker::Model;
-
-/// The most sessions.
-const MOST_SESSIONS: u32 = 64;
 
 /// What a serial transaction counts in the history, besides its changes.
 pub const ENTRY_BYTES: u64 = 256;
@@ -147,7 +145,7 @@ impl Book {
         ensures { result ≡ total_bytes self.now }
     {
         let mut sum = self.entry_bytes;
-        for session in 0..PLACES as u32 {
+        for session in 0..SEATS as u32 {
             sum += bytes_of(self.opens.get(session));
         }
         sum
@@ -157,7 +155,7 @@ impl Book {
     pub fn least_open(&self) -> Option<u32>
         ensures { IsLeastOpen self.now.opens result }
     {
-        for session in 1..PLACES as u32 {
+        for session in 1..SEATS as u32 {
             if self.opens.get(session).is_some() {
                 return Some(session);
             }
@@ -171,7 +169,7 @@ impl Book {
     ///
     /// Where there is no memory for it.
     pub fn begin(&mut self, session: u32, mode: Mode, id: u64) -> Result<(), NoMemory>
-        requires session { session ≤ 64 }
+        requires session { session ≤ MOST_SESSIONS }
         requires none { open_at self.old.opens session ≡ None }
         requires fits { total_bytes self.old + entry_size mode < 2 ^ 64 }
         ensures ok { OnOk result (Changes self.old self.new session (begun mode (number_of self.old) id)) }
@@ -190,7 +188,7 @@ impl Book {
         ensures taken { open_at self.old.opens session ≡ Some result }
         ensures left { Seats self.old self.new session None }
         ensures roomy { IsRoomy result }
-        ensures place { session < 65 }
+        ensures place { session < SEATS }
         ensures none { open_at self.new.opens session ≡ None }
         ensures bytes { total_bytes self.new + result.history_bytes ≡ total_bytes self.old }
         ensures fits { total_bytes self.old < 2 ^ 64 }
@@ -202,7 +200,7 @@ impl Book {
 
     // Puts a session's transaction in.
     fn put(&mut self, session: u32, txn: Open)
-        requires place { session < 65 }
+        requires place { session < SEATS }
         requires none { open_at self.old.opens session ≡ None }
         requires roomy { IsRoomy txn }
         requires fits { total_bytes self.old + txn.history_bytes < 2 ^ 64 }
@@ -215,7 +213,7 @@ impl Book {
 
     /// The least number of an open snapshot, or the greatest commit number where there is none.
     pub fn least_snapshot(&self) -> u64
-        ensures { result ≡ least_snapshot self.now.opens 64 (number_of self.now) }
+        ensures { result ≡ least_snapshot self.now.opens MOST_SESSIONS (number_of self.now) }
     {
         let mut least = self.number();
         for done in 0..MOST_SESSIONS {
@@ -233,7 +231,7 @@ impl Book {
         ensures same { IsSame self.old self.new }
         ensures room { OnOk result (how_many_open self.new.opens + 1 ≤ self.new.room) }
     {
-        Ok(self.history.reserve(PLACES + 1)?)
+        Ok(self.history.reserve(SEATS + 1)?)
     }
 
     /// Makes room for one more change of a session's transaction that owes so many deltas, for their pays, for taking all of

@@ -1,15 +1,13 @@
 //! An open transaction, and the open transactions of all sessions.
 ghost use Rattle.std.specs.Prelude.{◌≡◌, ◌+◌, ◌≤◌, ◌<◌, ℕ, [], length, slice_set, Some, None, IsSome, IfOk, OnOk};
 ghost use Rattle.std.specs.Option.{option_copied};
+ghost use Rattle.iv_types.specs.declared.limit.TheConstants.{SEATS};
 ghost use Rattle.txn_book.specs.Opens.{Seats, open_at};
 
-use iv_types::{Change, GroupDelta, KeptStep, Mode, NoMemory};
+use iv_types::{Change, GroupDelta, KeptStep, Mode, NoMemory, SEATS};
 use slab::Slab;
 use std::alloc::Global;
 use std::marker::Model;
-
-/// The sessions are 1 to 64; place 0 stays empty.
-pub const PLACES: usize = 65;
 
 /// An open transaction.
 #[derive(Drop)]
@@ -67,7 +65,7 @@ impl Model for OpenTable {
 
     ghost view = { λ t. record { opens = map (at_key t.opens) t.seats.items; room = t.opens.capacity - slab_len t.opens } };
 
-    ghost invariant = { λ t. AreSeated t.opens t.seats.items × (length t.seats.items ≡ 65) };
+    ghost invariant = { λ t. AreSeated t.opens t.seats.items × (length t.seats.items ≡ SEATS) };
 }
 
 impl OpenTable {
@@ -78,10 +76,10 @@ impl OpenTable {
     /// Where there is no memory for their places.
     pub fn new(alloc: Global) -> Result<OpenTable, NoMemory>
         ensures none { IfOk result (λ t. (session : ℕ) → open_at t.opens session ≡ None) }
-        ensures places { IfOk result (λ t. length t.opens ≡ 65) }
+        ensures places { IfOk result (λ t. length t.opens ≡ SEATS) }
     {
-        let mut seats = Vec::with_capacity(alloc, PLACES)?;
-        for _ in 0..PLACES {
+        let mut seats = Vec::with_capacity(alloc, SEATS)?;
+        for _ in 0..SEATS {
             seats.push(None)?;
         }
         Ok(OpenTable {

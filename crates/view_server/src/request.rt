@@ -10,6 +10,7 @@ ghost use Rattle.view_server.specs.Spaces.{IsBehindSpaces};
 ghost use Rattle.view_server.specs.Request.{AsksFor, HasNoForm};
 
 use crate::asked::Request;
+use iv_types::MOST_SESSIONS;
 use crate::built_forms::built;
 use sql_parse::parse;
 use std::alloc::Global;
@@ -107,7 +108,7 @@ pub fn session_text(line: &[u8]) -> Option<(u32, &str)>
     ensures sound { IfSome result (λ x. IsOfSession x.0 x.1.now line.now) }
     ensures complete { IfNone result (HasNoForm line.now) }
 {
-    let (session, rest) = natural(line, 64)?;
+    let (session, rest) = natural(line, MOST_SESSIONS as u64)?;
     if session == 0 {
         return None;
     }
