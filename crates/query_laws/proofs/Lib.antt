@@ -15,3 +15,5 @@ pub mod Asking
 pub mod Bound
 pub mod SoundLemmas
 pub mod CreatingLemmas
+pub mod LimitedLemmas
+pub mod Widths

@@ -2,6 +2,7 @@
 //! contract.
 #![tactic(auto)]
 
+pub mod limited;
 pub mod rows;
 pub mod select;
 pub mod sound;
