@@ -1,5 +1,7 @@
 -- A catalog's definitions are found by number and by name.
-use Rattle.std.proofs.Common.{◌≡◌, ℕ, zero, suc, ◌+◌, ◌-◌, ◌<◌, ◌≤◌, Bool, true, false, cond, List, [], ◌∷◌, ◌++◌, length, slice_get, Option, None, Some, Vec, refl, sym, ap, ◌∙◌, arith}
+use Rattle.std.proofs.Common.{◌≡◌, ℕ, zero, suc, ◌+◌, ◌-◌, ◌<◌, ◌≤◌, Bool, true, false, cond, List, [], ◌∷◌, ◌++◌, length, slice_get, Option, None, Some, Vec, refl, sym, ap, ◌∙◌, arith, inl, inr}
+use Rattle.std.proofs.lemmas.Bool.{cases_lt}
+use Rattle.std.proofs.lemmas.Option.{slice_get_within}
 use mathlib.Core.Path.{subst}
 use Rattle.std.specs.Option.{option_to_list}
 use Rattle.std.proofs.lemmas.List.{map-append, append-nil}
@@ -9,11 +11,12 @@ use Rattle.std.specs.Option.{option_map}
 use Rattle.indexmap.specs.IndexMap.{IndexMap, insert_entry}
 use Rattle.indexmap.proofs.CallerLemmas.{insert_entry-new}
 use Rattle.std.specs.Str.{bytes_eq}
+use Rattle.std.proofs.lemmas.Slice.Eq.{bytes_eq-Decides}
 use Rattle.std.specs.Map.{lookup, values_of}
 use Rattle.iv_types.specs.declared.catalog.Definition.{Definition}
 use Rattle.iv_types.specs.declared.catalog.Definition.TheVariants.{Table, Index, View}
 use Rattle.iv_types.specs.declared.limit.TheConstants.{MOST_OBJECTS}
-use Rattle.iv_types.specs.Definitions.{Definitions, number_of, name_of, numbered, named, AreKept, AreNumbered, are_alike, how_many_alike, AreFew}
+use Rattle.iv_types.specs.Definitions.{Definitions, number_of, name_of, numbered, named, AreKept, AreNumbered, are_alike, how_many_alike, AreFew, AreNamed}
 
 -- the second half of what stands at a place
 second_of : {X Y : Type 0} (e : X × Y) (x : X) (y : Y) → Some e ≡ Some (x, y) → e.1 ≡ y
@@ -116,11 +119,86 @@ counted (View v ∷ ds) = omega (arith, counted ds, alike_cons a_table (View v) 
 pub few_all : (ds : Definitions) → AreFew ds → length ds ≤ 192
 few_all ds few = omega (arith, counted ds, few a_table, few an_index, few a_view)
 
+-- ---- names
+
+pub named_self : (d : Definition) → bytes_eq (name_of d) (name_of d) ≡ true
+named_self d = (bytes_eq-Decides (name_of d) (name_of d)).1 refl
+
+-- what is found by a name among the first ones is found among all
+pub named_front : (ds es : Definitions) (name : List ℕ) (d : Definition) → named ds name ≡ Some d → named (ds ++ es) name ≡ Some d
+named_front [] es name d e = absurd cc
+named_front (x ∷ ds) es name d e = by (bytes_eq name (name_of x)) (named_front ds es name d) e
+  where
+    by : (b : Bool) → (named ds name ≡ Some d → named (ds ++ es) name ≡ Some d) → cond b (Some x) (named ds name) ≡ Some d → cond b (Some x) (named (ds ++ es) name) ≡ Some d
+    by true rest f = f
+    by false rest f = rest f
+
+-- and else it is the one behind them that is found
+named_behind : (ds : Definitions) (e : Definition) (name : List ℕ) → named ds name ≡ None → named (ds ++ e ∷ []) name ≡ named (e ∷ []) name
+named_behind [] e name none = refl
+named_behind (x ∷ ds) e name none = by (bytes_eq name (name_of x)) (named_behind ds e name) none
+  where
+    by : (b : Bool) → (named ds name ≡ None → named (ds ++ e ∷ []) name ≡ named (e ∷ []) name) → cond b (Some x) (named ds name) ≡ None → cond b (Some x) (named (ds ++ e ∷ []) name) ≡ named (e ∷ []) name
+    by true rest f = absurd cc
+    by false rest f = rest f
+
+-- a definition that is there is found by its name, or one before it is
+named_some : (ds : Definitions) (i : ℕ) (d : Definition) → slice_get ds i ≡ Some d → named ds (name_of d) ≡ None → ⊥
+named_some [] i d at none = absurd cc
+named_some (x ∷ ds) zero d at none =
+    let same : x ≡ d = some_defined x d at in
+    let here : bytes_eq (name_of d) (name_of x) ≡ true = ap (λ y. bytes_eq (name_of d) (name_of y)) same ∙ named_self d in
+    let found : named (x ∷ ds) (name_of d) ≡ Some x = ap (λ b. cond b (Some x) (named ds (name_of d))) here in
+    absurd cc
+  where
+    some_defined : (a b : Definition) → Some a ≡ Some b → a ≡ b
+    some_defined a b e = cc
+named_some (x ∷ ds) (suc i) d at none = by (bytes_eq (name_of d) (name_of x)) (named_some ds i d at) none
+  where
+    by : (b : Bool) → (named ds (name_of d) ≡ None → ⊥) → cond b (Some x) (named ds (name_of d)) ≡ None → ⊥
+    by true rest f = absurd cc
+    by false rest f = rest f
+
+get_front : (ds es : Definitions) (i : ℕ) → i < length ds → slice_get (ds ++ es) i ≡ slice_get ds i
+get_front [] es i lt = absurd (omega arith)
+get_front (x ∷ ds) es zero lt = refl
+get_front (x ∷ ds) es (suc i) lt = get_front ds es i (omega arith)
+
+-- one that stands behind all but the last is the last
+is_last : (ds : Definitions) (e : Definition) (i : ℕ) (d : Definition) → length ds ≤ i → slice_get (ds ++ e ∷ []) i ≡ Some d → e ≡ d
+is_last [] e zero d le at = cc
+is_last [] e (suc i) d le at = absurd cc
+is_last (x ∷ ds) e zero d le at = absurd (omega arith)
+is_last (x ∷ ds) e (suc i) d le at = is_last ds e i d (omega arith) at
+
+-- each keeps its name where one is added that has another
+pub named_more : (ds : Definitions) (e : Definition) → AreNamed ds → named ds (name_of e) ≡ None → AreNamed (ds ++ e ∷ [])
+named_more ds e names none zero d at = absurd cc
+named_more ds e names none (suc i) d at = elim (cases_lt i (length ds)) [
+  | inl lt ↦ named_front ds (e ∷ []) (name_of d) d (names (suc i) d (sym (get_front ds (e ∷ []) i lt) ∙ at))
+  | inr le ↦
+      let last : e ≡ d = is_last ds e i d le at in
+      named_behind ds e (name_of d) (ap (λ x. named ds (name_of x)) (sym last) ∙ none)
+      ∙ (ap (λ b. cond b (Some e) None) (ap (λ x. bytes_eq (name_of d) (name_of x)) last ∙ named_self d) ∙ ap Some last)
+]
+
+-- and where the last one goes
+pub named_less : (ds : Definitions) (e : Definition) → AreNamed (ds ++ e ∷ []) → AreNamed ds
+named_less ds e names zero d at = absurd cc
+named_less ds e names (suc i) d at = by (named ds (name_of d)) refl
+  where
+    all : named (ds ++ e ∷ []) (name_of d) ≡ Some d
+    all = names (suc i) d (get_front ds (e ∷ []) i (slice_get_within ds i d at) ∙ at)
+
+    by : (r : Option Definition) → named ds (name_of d) ≡ r → named ds (name_of d) ≡ Some d
+    by None none = absurd (named_some ds i d at none)
+    by (Some x) some = some ∙ (sym (named_front ds (e ∷ []) (name_of d) x some) ∙ all)
+
 module _ {A : Type 0} where
   abbrev Both : List (Vec ℕ A × Definition) → Type 0
-  Both es = AreKept 0 es × AreFew (values_of es)
+  Both es = AreKept 0 es × AreFew (values_of es) × AreNamed (values_of es)
 
   -- what is left without the last, if there is one
   pub without_last : (new : List (Vec ℕ A × Definition)) (last : Option (Vec ℕ A × Definition)) → Both (new ++ option_to_list last) → Both new
   without_last new None both = subst Both (append-nil new) both
-  without_last new (Some e) both = (kept_less 0 new e both.0, few_less (values_of new) e.1 (subst AreFew (values_added new e.0 e.1) both.1))
+  without_last new (Some e) both = (kept_less 0 new e both.0, few_less (values_of new) e.1 (subst AreFew (values_added new e.0 e.1) both.1), named_less (values_of new) e.1 (subst AreNamed (values_added new e.0 e.1) both.2))

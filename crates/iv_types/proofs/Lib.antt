@@ -6,3 +6,4 @@ pub mod ByteNumbers
 pub mod Fitting
 pub mod Spellings
 pub mod MapSizes
+pub mod Copies

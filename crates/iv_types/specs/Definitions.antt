@@ -2,10 +2,13 @@
 --
 -- The definitions of a database: its tables, indexes and views in the order in which they were made.
 use Rattle.std.specs.Prelude.{◌≡◌, ℕ, suc, ◌+◌, ◌<◌, ◌≤◌, Bool, true, false, List, [], ◌∷◌, length, count_by, Option, Some, None, Vec}
+use Rattle.std.specs.List.{AllZip}
 use Rattle.iv_types.specs.declared.catalog.Definition.{Definition}
+use Rattle.iv_types.specs.declared.catalog.ViewDef.{ViewDef}
 use Rattle.iv_types.specs.declared.catalog.Definition.TheVariants.{Table, Index, View}
 use Rattle.iv_types.specs.declared.limit.TheConstants.{MOST_OBJECTS}
 use Rattle.iv_types.specs.Naming.{of_number, of_name}
+use Rattle.iv_types.specs.Trees.{perhaps_tree}
 
 abbrev pub Definitions : Type 0
 Definitions = List Definition
@@ -32,6 +35,10 @@ AreNumbered ds = (n : ℕ) (d : Definition) → numbered ds n ≡ Some d → num
 abbrev pub named : Definitions → List ℕ → Option Definition
 named ds name = of_name name_of ds name
 
+-- each definition has a name of its own
+abbrev pub AreNamed : Definitions → Type 0
+AreNamed ds = (n : ℕ) (d : Definition) → numbered ds n ≡ Some d → named ds (name_of d) ≡ Some d
+
 -- the definitions after the first n: each is kept under its own name, and its number is that of its place
 abbrev pub AreKept : {A : Type 0} → ℕ → List (Vec ℕ A × Definition) → Type 0
 AreKept n [] = Unit {0}
@@ -57,3 +64,20 @@ pub record CanAdd (ds : Definitions) (d : Definition) : Type 0 where
   pub number : number_of d ≡ length ds + 1
   pub name : named ds (name_of d) ≡ None
   pub room : how_many_alike d ds < MOST_OBJECTS
+
+-- ---- copies
+
+-- the same view, wherever its condition lies in memory
+pub record IsViewCopy (copy view : ViewDef) : Type 0 where
+  pub condition : perhaps_tree copy.condition ≡ perhaps_tree view.condition
+  pub rest : record copy { condition = None } ≡ record view { condition = None }
+
+abbrev pub IsCopy : Definition → Definition → Type 0
+IsCopy (Table copy) (Table table) = copy ≡ table
+IsCopy (Index copy) (Index index) = copy ≡ index
+IsCopy (View copy) (View view) = IsViewCopy copy view
+IsCopy _ _ = ⊥
+
+-- one for one
+abbrev pub AreCopies : Definitions → Definitions → Type 0
+AreCopies copies ds = AllZip IsCopy copies ds

@@ -1,5 +1,5 @@
 -- Rows and keys in bytes. All numbers are big-endian.
-use Rattle.std.specs.Prelude.{◌≢◌, ℕ, ℤ, pos, neg_ℤ, ◌+ℤ◌, ◌^◌, ◌-◌, ◌==◌, ◌&&◌, int_le, nat_le, not, Bool, true, false, IsTrue, List, [], ◌∷◌, ◌++◌, map, length, if◌then◌else◌}
+use Rattle.std.specs.Prelude.{◌≢◌, ℕ, ℤ, pos, neg_ℤ, ◌+ℤ◌, ◌^◌, ◌==◌, ◌&&◌, int_le, nat_le, not, Bool, true, false, IsTrue, List, [], ◌∷◌, ◌++◌, map, length, if◌then◌else◌}
 use Rattle.std.specs.List.{flat_map}
 use Rattle.std.specs.Option.{option_map_or}
 use Rattle.std.specs.Int.{w64, w128, cast_unsigned, bytes_high_first}

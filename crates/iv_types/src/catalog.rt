@@ -1,7 +1,7 @@
 //! What a database defines: tables, indexes and views.
 ghost use Rattle.std.specs.Prelude.{◌≡◌, ◌+◌, ◌≤◌, ◌++◌, ◌↔◌, [], ◌∷◌, length, None, IsTrue, IfSome, IfOk, OnOk, OnErr};
 ghost use Rattle.std.specs.Option.{option_copied};
-ghost use Rattle.iv_types.specs.Definitions.{AreNumbered, AreFew, CanAdd, are_alike, how_many_alike, number_of, name_of, numbered, named};
+ghost use Rattle.iv_types.specs.Definitions.{AreNumbered, AreNamed, AreFew, CanAdd, are_alike, how_many_alike, number_of, name_of, numbered, named};
 
 use crate::{Bytes, ColumnAtList, ColumnList, Expr, MOST_OBJECTS, NameList, NoMemory, Places};
 use indexmap::IndexMap;
@@ -126,7 +126,7 @@ pub struct Catalog {
 
 impl Model for Catalog {
     ghost use Rattle.indexmap.specs.IndexMap.{values};
-    ghost use Rattle.iv_types.specs.Definitions.{Definitions, AreFew, AreKept};
+    ghost use Rattle.iv_types.specs.Definitions.{Definitions, AreFew, AreKept, AreNamed};
     ghost use Rattle.iv_types.specs.contracts.expression.Expr as expr;
     ghost use Rattle.std.specs.Coded.{codes};
 
@@ -136,7 +136,7 @@ impl Model for Catalog {
 
     ghost view = { λ c. values c.named };
 
-    ghost invariant = { λ c. AreKept 0 c.named.entries × AreFew (values c.named) };
+    ghost invariant = { λ c. AreKept 0 c.named.entries × AreFew (values c.named) × AreNamed (values c.named) };
 }
 
 impl Catalog {
@@ -196,6 +196,13 @@ impl Catalog {
         ensures { result ≡ length self.now + 1 }
     {
         self.named.len() as u32 + 1
+    }
+
+    /// That each definition has a name of its own. It does nothing.
+    pub fn name_law(&self)
+        ensures { AreNamed self.now }
+    {
+        let _count = self.named.len();
     }
 
     /// That there are at most 64 definitions of each kind, and so at most 192. It does nothing.

@@ -1,5 +1,9 @@
 //! Locks and the changes that they stand for.
-use crate::{Bytes, Interval, NumberList, Row, Sequence};
+ghost use Rattle.std.specs.Prelude.{◌≡◌, IfOk};
+ghost use Rattle.std.specs.Option.{option_copied};
+
+use crate::{Bytes, Interval, NoMemory, NumberList, Row, Sequence, copied_row};
+use std::alloc::Global;
 
 /// How a lock is held: Share conflicts with all but Share, Increment with all but Increment.
 #[derive(Clone, Copy, PartialEq, Eq)]
@@ -30,6 +34,24 @@ pub struct GroupDelta {
     pub sums: NumberList,
 }
 
+impl GroupDelta {
+    /// The same delta again.
+    ///
+    /// # Errors
+    ///
+    /// Where there is no memory for it.
+    pub fn copied(&self, alloc: Global) -> Result<GroupDelta, NoMemory>
+        ensures { IfOk result (λ copy. copy ≡ self.now) }
+    {
+        Ok(GroupDelta {
+            view: self.view,
+            group: self.group.copied(alloc)?,
+            count: self.count,
+            sums: self.sums.copied(alloc)?,
+        })
+    }
+}
+
 /// A list of deltas.
 pub type DeltaList = Sequence<GroupDelta>;
 
@@ -51,6 +73,38 @@ pub struct Change {
     pub key: Bytes,
     pub before: Option<Row>,
     pub after: Option<Row>,
+}
+
+/// The same row again, if there is one.
+///
+/// # Errors
+///
+/// Where there is no memory for it.
+pub fn copied_perhaps(alloc: Global, row: Option<&Row>) -> Result<Option<Row>, NoMemory>
+    ensures { IfOk result (λ copy. copy ≡ option_copied row.entry) }
+{
+    match row {
+        Some(row) => Ok(Some(copied_row(alloc, row)?)),
+        None => Ok(None),
+    }
+}
+
+impl Change {
+    /// The same change again.
+    ///
+    /// # Errors
+    ///
+    /// Where there is no memory for it.
+    pub fn copied(&self, alloc: Global) -> Result<Change, NoMemory>
+        ensures { IfOk result (λ copy. copy ≡ self.now) }
+    {
+        Ok(Change {
+            table: self.table,
+            key: self.key.copied(alloc)?,
+            before: copied_perhaps(alloc, self.before.as_ref())?,
+            after: copied_perhaps(alloc, self.after.as_ref())?,
+        })
+    }
 }
 
 /// A list of changes.

@@ -1,5 +1,5 @@
 //! Lists of values that contracts see as lists.
-ghost use Rattle.std.specs.Prelude.{◌≡◌, [], ◌∷◌, ◌++◌, length, OnOk, OnErr};
+ghost use Rattle.std.specs.Prelude.{◌≡◌, [], ◌∷◌, ◌++◌, length, IfOk, OnOk, OnErr};
 ghost use Rattle.std.specs.Cmp.Lexicographic.{pointwise, slice_cmp, slice_partial_cmp, lists_per, lists_equiv, lists_po, lists_total, lists_agrees, lists_ties};
 
 use crate::NoMemory;
@@ -77,6 +77,22 @@ impl<T> Sequence<T> {
     {
         self.items.push(item)?;
         Ok(())
+    }
+}
+
+impl<T: Copy> Sequence<T> {
+    /// The same list again. A clone of an item is the same item.
+    ///
+    /// # Errors
+    ///
+    /// Where there is no memory for it.
+    pub fn copied(&self, alloc: Global) -> Result<Self, NoMemory>
+        requires { (item clone : T) → T.is_clone item clone → clone ≡ item }
+        ensures { IfOk result (λ copy. copy ≡ self.now) }
+    {
+        Ok(Sequence {
+            items: self.items.as_slice().to_vec(alloc)?,
+        })
     }
 }
 

@@ -1,5 +1,8 @@
 //! Statements as they are parsed. Names are in lower case.
-use crate::{Bytes, Expr, ExprList, Kind, NameList, Ref, RefList, Sequence};
+ghost use Rattle.std.specs.Prelude.{◌≡◌, IfOk};
+
+use crate::{Bytes, Expr, ExprList, Kind, NameList, NoMemory, Ref, RefList, Sequence};
+use std::alloc::Global;
 
 /// How a transaction reads: serializable by locks, or a snapshot that writes nothing.
 #[derive(Clone, Copy, PartialEq, Eq)]
@@ -15,8 +18,39 @@ pub struct ColumnDef {
     pub kind: Kind,
 }
 
+impl ColumnDef {
+    /// The same column again.
+    ///
+    /// # Errors
+    ///
+    /// Where there is no memory for it.
+    pub fn copied(&self, alloc: Global) -> Result<ColumnDef, NoMemory>
+        ensures { IfOk result (λ copy. copy ≡ self.now) }
+    {
+        Ok(ColumnDef {
+            name: self.name.copied(alloc)?,
+            kind: self.kind,
+        })
+    }
+}
+
 /// The columns of a table, in order.
 pub type ColumnList = Sequence<ColumnDef>;
+
+/// The same columns again.
+///
+/// # Errors
+///
+/// Where there is no memory for them.
+pub fn copied_columns(alloc: Global, columns: &[ColumnDef]) -> Result<ColumnList, NoMemory>
+    ensures { IfOk result (λ copy. copy ≡ columns.now) }
+{
+    let mut copy = ColumnList::new(alloc);
+    for column in columns {
+        copy.push(column.copied(alloc)?)?;
+    }
+    Ok(copy)
+}
 
 /// The tuples of an INSERT.
 pub type TupleList = Sequence<ExprList>;

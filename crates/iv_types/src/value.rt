@@ -33,7 +33,7 @@ impl Value {
     {
         match self {
             Value::Number(number) => Ok(Value::Number(*number)),
-            Value::Word(word) => Ok(Value::Word(Bytes::from_vec(word.as_slice().to_vec(alloc)?))),
+            Value::Word(word) => Ok(Value::Word(word.copied(alloc)?)),
         }
     }
 }
@@ -72,4 +72,22 @@ pub type TableRows = Sequence<RowsOf>;
 pub struct Interval {
     pub low: Bytes,
     pub high: Option<Bytes>,
+}
+
+impl Interval {
+    /// The same interval again.
+    ///
+    /// # Errors
+    ///
+    /// Where there is no memory for it.
+    pub fn copied(&self, alloc: Global) -> Result<Interval, NoMemory>
+        ensures { IfOk result (λ copy. copy ≡ self.now) }
+    {
+        let low = self.low.copied(alloc)?;
+        let high = match &self.high {
+            Some(high) => Some(high.copied(alloc)?),
+            None => None,
+        };
+        Ok(Interval { low, high })
+    }
 }

@@ -1,0 +1,10 @@
+use Rattle.std.proofs.Common.{◌++◌, ◌∷◌, ◌∙◌, [], ap, refl}
+use Rattle.iv_types.proofs.Walks.{all_gathered, gathered}
+use Rattle.iv_types.proofs.statement.copied_columns.Goals as goal
+
+pub loop-column-preserved : goal.loop-column-preserved
+loop-column-preserved c =
+    gathered (λ zs. zs) (c.column-item.result ∷ []) _ _ _ _ _ c.column-item.result c.loop-column-test.true c.column-item.is refl (c.in_ok-push.ensures.ok ∙ ap (λ x. c.loop-column.copy ++ x ∷ []) c.in_ok-copied.ensures) c.loop-column.invariant
+
+pub returns : goal.returns
+returns c = all_gathered (λ zs. zs) _ _ _ _ c.loop-column-test.false refl c.loop-column.invariant
