@@ -51,6 +51,7 @@ pub struct LockTable {
 impl Model for LockTable {
     ghost use Rattle.std.specs.Prelude.{◌≡◌, length};
     ghost use Rattle.std.specs.Coded.{coded_list};
+    ghost use Rattle.iv_types.specs.declared.limit.TheConstants.{SEATS};
     ghost use Rattle.lock_manager.specs.Table.{Table, coded_session_locks};
 
     ghost Value = { Table };

@@ -11,25 +11,12 @@ ghost use Rattle.row_eval.specs.Fresh.{fresh, IsReadable, IsReadableView, kept_r
 
 use crate::fresh::fresh_rows;
 use iv_types::{
-    Catalog, ColumnAt, Definition, Kind, NoMemory, NumberList, Refusal, Row, TableRows, Value,
-    ViewDef, ViewRow, ViewRowList,
+    Catalog, Definition, Kind, NoMemory, NumberList, Refusal, Row, TableRows, Value, ViewDef,
+    ViewRow, ViewRowList,
 };
+use object_kinds::group_kinds;
 use row_codec::encode_key;
 use std::alloc::Global;
-
-// The table that a view reads at this place.
-fn source_of(view: &ViewDef, source: u32) -> Option<u32>
-    ensures { result ≡ slice_get (sources_of (view_tree view.now)) source }
-{
-    match source {
-        0 => Some(view.first),
-        1 => match &view.second {
-            Some(second) => Some(second.table),
-            None => None,
-        },
-        _ => None,
-    }
-}
 
 /// The kind of a table's column.
 pub fn kind_in(catalog: &Catalog, table: u32, column: u32) -> Option<Kind>
@@ -42,30 +29,6 @@ pub fn kind_in(catalog: &Catalog, table: u32, column: u32) -> Option<Kind>
         },
         _ => None,
     }
-}
-
-// The kind of a column of a view's tables.
-fn kind_of(catalog: &Catalog, view: &ViewDef, place: ColumnAt) -> Option<Kind>
-    ensures { result ≡ kind_at (map (λ n. kinds_of_table (numbered (schema_of catalog.now) n)) (sources_of (view_tree view.now))) place }
-{
-    match source_of(view, place.source) {
-        Some(table) => kind_in(catalog, table, place.column),
-        None => None,
-    }
-}
-
-// The kinds of a view's group columns.
-fn kinds_of_group(alloc: Global, catalog: &Catalog, view: &ViewDef) -> Result<Vec<Kind>, NoMemory>
-    ensures { IfOk result (λ kinds. kinds.items ≡ group_kinds (schema_of catalog.now) (view_tree view.now)) }
-{
-    let group = view.group.as_slice();
-    let mut kinds = Vec::new(alloc);
-    for index in 0..group.len() {
-        if let Some(kind) = kind_of(catalog, view, group[index]) {
-            kinds.push(kind)?;
-        }
-    }
-    Ok(kinds)
 }
 
 // A value as a number.
@@ -116,7 +79,7 @@ fn kept_rows(
 {
     let rows = fresh_rows(alloc, catalog, view, tables)?;
     let rows = rows.as_slice();
-    let kinds = kinds_of_group(alloc, catalog, view)?;
+    let kinds = group_kinds(alloc, catalog, view)?;
     let width = view.group.as_slice().len();
     let mut found = ViewRowList::new(alloc);
     for index in 0..rows.len() {

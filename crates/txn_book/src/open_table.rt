@@ -57,6 +57,7 @@ pub struct OpenTable {
 impl Model for OpenTable {
     ghost use Rattle.std.specs.Prelude.{◌≡◌, ◌-◌, map, length};
     ghost use Rattle.slab.specs.Slab.{slab_len};
+    ghost use Rattle.iv_types.specs.declared.limit.TheConstants.{SEATS};
     ghost use Rattle.txn_book.specs.Opens.{Seats, coded_seats, at_key, AreSeated};
 
     ghost Value = { Seats };

@@ -18,4 +18,4 @@ kept_row-requires-clause-fits c =
     let v : ViewTree = view_tree c.args.view.now in
     row_group (group_kinds objects v) c.as_slice.result.now v.group c.index-rows-index.result c.as_slice-in-loop-index.result.now c.as_slice-width.result.now
     (row_at objects c.args.tables.now v c.in_ok-rows.rows c.as_slice-rows.result.now c.loop-index.index c.index-rows-index.result c.requires c.in_ok-rows.ensures c.as_slice-rows.ensures c.loop-index-test.true c.index-rows-index.is)
-    (c.as_slice.ensures.value ∙ c.in_ok-kinds.ensures) c.as_slice-width.ensures c.as_slice-in-loop-index.ensures
+    (c.as_slice.ensures ∙ c.in_ok-kinds.ensures) c.as_slice-width.ensures c.as_slice-in-loop-index.ensures
