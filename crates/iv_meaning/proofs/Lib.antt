@@ -11,3 +11,4 @@ pub mod SerialRuns
 pub mod SerialTurns
 pub mod SerialMisses
 pub mod RangeLemmas
+pub mod CopyLemmas

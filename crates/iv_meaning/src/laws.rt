@@ -1,5 +1,6 @@
 //! Laws about the definitions.
 ghost use Rattle.iv_meaning.specs.LineLaws.{LinesLaw};
+ghost use Rattle.iv_meaning.specs.Objects.{CopiesLaw};
 ghost use Rattle.iv_meaning.specs.SerialLaws.{CommitLaw, HistoryLaw, LatestLaw, OutsideLaw, SaysLaw, SessionLaw, StateLaw};
 
 /// `lines_of` cuts an input into its lines.
@@ -40,4 +41,9 @@ pub fn latest_law()
 /// No line says two things where there is memory for its text, as no text is two statements, or refused for two causes.
 pub fn says_law()
     ensures { SaysLaw }
+{}
+
+/// Copies of definitions define the same.
+pub fn copies_law()
+    ensures { CopiesLaw }
 {}

@@ -1,3 +1,6 @@
 pub mod Seating
 pub mod Coming
 pub mod Booking
+pub mod Holding
+pub mod Totals
+pub mod Entering

@@ -4,3 +4,4 @@ pub mod Crashes
 pub mod Opens
 pub mod Txns
 pub mod Books
+pub mod Holding
