@@ -6,6 +6,7 @@ pub mod ShareLemmas
 pub mod ColumnLemmas
 pub mod RowLemmas
 pub mod TableLemmas
+pub mod SeatLemmas
 pub mod StateLemmas
 pub mod GhostLemmas
 pub mod Staging

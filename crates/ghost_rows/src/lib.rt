@@ -9,9 +9,12 @@
 #![tactic(auto)]
 
 pub mod numbers;
+mod opening;
 mod pool;
 mod reading;
 mod row;
+mod seats;
+mod settling;
 mod shares;
 mod table;
 mod view_rows;

@@ -7,10 +7,19 @@ ghost use Rattle.iv_types.specs.declared.value.Value.TheVariants.{Number};
 ghost use Rattle.iv_types.specs.Encoding.{value_bytes, IsHuge};
 ghost use Rattle.txn_machine.specs.Deltas.{worth};
 ghost use Rattle.ghost_rows.specs.Numbers.{numbers_bytes, moved, Fits128};
+ghost use Rattle.ghost_rows.specs.Kept.{width, IsDelta};
 
 use byteorder::{BigEndian, ByteOrder};
 use iv_types::{GroupDelta, NoMemory};
 use std::alloc::Global;
+
+/// How many numbers a row of the delta's view has.
+pub fn width(delta: &GroupDelta) -> usize
+    requires { IsDelta delta.now }
+    ensures { result ≡ width delta.now }
+{
+    delta.sums.as_slice().len() + 1
+}
 
 /// What a delta adds to a column; the count is column 0, and the sums are those behind it.
 pub fn worth(delta: &GroupDelta, column: usize) -> i128

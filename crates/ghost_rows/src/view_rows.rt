@@ -1,6 +1,6 @@
 //! The stored rows of views, and what open transactions have paid to them.
 ghost use Rattle.std.specs.Int.{w128};
-ghost use Rattle.std.specs.Prelude.{FitsSigned, get_or, suc, replicate, ◌≡◌, ◌≢◌, ◌<◌, ◌≤◌, ◌+◌, ◌*◌, ◌↔◌, ℕ, ℤ, pos, List, [], ◌∷◌, length, Option, false, true, Some, None, Ok, Err, IsSome, IsTrue, IfOk, IfErr, IfSome, OnOk, OnErr, vec_len, vec_capacity};
+ghost use Rattle.std.specs.Prelude.{FitsSigned, get_or, suc, ◌≡◌, ◌≢◌, ◌<◌, ◌≤◌, ◌+◌, ◌*◌, ◌↔◌, ℕ, ℤ, pos, List, [], ◌∷◌, length, Option, false, true, Some, None, Ok, Err, IsSome, IsTrue, IfOk, IfErr, IfSome, OnOk, OnErr, vec_len, vec_capacity};
 ghost use Rattle.std.specs.Option.{option_copied};
 ghost use Rattle.iv_types.specs.Maps.{Map};
 ghost use Rattle.iv_meaning.specs.Escrow.{IsSession};
@@ -11,19 +11,19 @@ ghost use Rattle.ghost_rows.specs.Reading.{AreViewRows, Shows};
 ghost use Rattle.txn_machine.specs.Deltas.{place_of};
 ghost use Rattle.ghost_rows.specs.Numbers.{numbers_bytes, moved, Fits128};
 ghost use Rattle.ghost_rows.specs.State.{stored_at, CanStore, StoresOnlyAt};
-ghost use Rattle.ghost_rows.specs.Kept.{width, IsDelta, HasNumbers};
+ghost use Rattle.ghost_rows.specs.Kept.{width, IsDelta};
 
-use crate::numbers::{front, numbers_of, put_moved};
-use crate::pool::Pool;
+use crate::numbers::{front, put_moved, width};
+use crate::opening::seat_in;
+use crate::pool::{Pool, no_buffers};
 use crate::reading::rows_between;
-use crate::row::Row;
+use crate::seats::{Seat, SeatList, no_seats};
+use crate::settling::settle_each;
 use crate::table::Table;
 use iv_types::{Bytes, GroupDelta, Interval, NoMemory, PrefixList, SortedMaps, ViewRowList};
 use std::alloc::Global;
 use std::marker::Model;
-
-// The sessions are 1 to 64.
-const POOLS: usize = 65;
+use std::mem;
 
 /// Why a pay was refused.
 #[derive(Clone, Copy, Debug, PartialEq, Eq)]
@@ -32,14 +32,6 @@ pub enum PayRefusal {
     Absent,
     /// The first column that refuses the delta, counted from 0 with the count first, and its bounds before the delta.
     Escrow { column: u32, inf: i128, sup: i128 },
-}
-
-// How many numbers a row of the delta's view has.
-fn width(delta: &GroupDelta) -> usize
-    requires { IsDelta delta.now }
-    ensures { result ≡ width delta.now }
-{
-    delta.sums.as_slice().len() + 1
 }
 
 // The value of a stored row with a delta added to it, or taken back, in a buffer that was made for it.
@@ -79,36 +71,6 @@ fn store_moved<M: SortedMaps>(maps: &mut M, buffer: Vec<u8>, delta: &GroupDelta,
     maps.replace(delta.view, delta.group.as_slice(), value);
 }
 
-// The same bytes again.
-fn copy_of(alloc: Global, bytes: &Bytes) -> Result<Bytes, NoMemory>
-    ensures { IfOk result (λ copy. copy ≡ bytes.now) }
-{
-    Ok(Bytes::from_vec(Vec::from_slice(alloc, bytes.as_slice())?))
-}
-
-// So many zeros.
-fn zeros(alloc: Global, many: usize) -> Result<Vec<i128>, NoMemory>
-    ensures { IfOk result (λ found. found.items ≡ replicate many (pos 0)) }
-{
-    Ok(vec![in alloc; 0; many]?)
-}
-
-// The numbers that a row begins with: zeros where it is absent.
-fn numbers_at<M: SortedMaps>(
-    alloc: Global,
-    maps: &M,
-    delta: &GroupDelta,
-) -> Result<Vec<i128>, NoMemory>
-    requires delta { IsDelta delta.now }
-    requires stored { (numbers : List ℤ) × HasNumbers (stored_at (M.maps maps.now) (place_of delta.now)) (width delta.now) numbers }
-    ensures { IfOk result (λ found. (numbers : List ℤ) → HasNumbers (stored_at (M.maps maps.now) (place_of delta.now)) (width delta.now) numbers → found.items ≡ numbers) }
-{
-    match maps.get(delta.view, delta.group.as_slice()) {
-        Some(stored) => numbers_of(alloc, stored, width(delta)),
-        None => zeros(alloc, width(delta)),
-    }
-}
-
 /// What open transactions have paid to stored rows of views: for each row the escrow of its columns, and for each session
 /// the buffers that its further pays and their taking back need.
 #[derive(Drop)]
@@ -116,10 +78,13 @@ pub struct ViewRows {
     alloc: Global,
     rows: Table,
     pools: Vec<Pool>,
+    // Where each session has room in a row.
+    seats: Vec<SeatList>,
 }
 
 impl Model for ViewRows {
     ghost use Rattle.std.specs.Prelude.{◌≡◌, length};
+    ghost use Rattle.ghost_rows.specs.Rows.{AreOpen, AreSeated};
     ghost use Rattle.ghost_rows.specs.State.{State, coded_state};
 
     ghost Value = { State };
@@ -128,11 +93,11 @@ impl Model for ViewRows {
 
     ghost view = { λ v. record { rows = v.rows; rooms = v.pools.items } };
 
-    ghost invariant = { λ v. length v.pools.items ≡ 65 };
+    ghost invariant = { λ v. (length v.pools.items ≡ 65) × (length v.seats.items ≡ 65) × AreOpen v.rows × AreSeated v.rows v.seats.items };
 }
 
 impl ViewRows {
-    ghost use Rattle.ghost_rows.specs.Rows.{row_at, settled_at, OpenRow};
+    ghost use Rattle.ghost_rows.specs.Rows.{no_rows, row_at, settled_at, OpenRow};
     ghost use Rattle.ghost_rows.specs.State.{State, room_of, AreKept, HasSeat, IsReady, OnlyAt, IsRefusal, MovesRoom};
     ghost use Rattle.iv_meaning.specs.Escrow.{value};
     ghost use Rattle.ghost_rows.specs.Kept.{account, Pays, with_pays, ArePrefixes, IsAllowedIn, IsPaidLast, committed_at, AllCount, IsUnpaid, StandsFor};
@@ -225,16 +190,15 @@ impl ViewRows {
     ///
     /// Where there is no memory for it.
     pub fn new(alloc: Global) -> Result<ViewRows, NoMemory>
-        ensures { IfOk result (λ rows. rows.rows ≡ []) }
+        ensures { IfOk result (λ rows. rows.rows ≡ no_rows) }
     {
-        let mut pools = Vec::new(alloc);
-        for _index in 0..POOLS {
-            pools.push(Pool::new(alloc))?;
-        }
+        let pools = no_buffers(alloc)?;
+        let seats = no_seats(alloc)?;
         Ok(ViewRows {
             alloc,
             rows: Table::new(alloc),
             pools,
+            seats,
         })
     }
 
@@ -246,29 +210,31 @@ impl ViewRows {
         ensures rooms { (s : ℕ) → s ≢ session → room_of self.new s ≡ room_of self.old s }
         ensures gone { room_of self.new session ≡ 0 }
     {
-        self.rows.settle(session);
+        let seats = mem::replace(&mut self.seats[session as usize], SeatList::new(self.alloc));
+        settle_each(&mut self.rows, seats, session);
         self.pools[session as usize] = Pool::new(self.alloc);
     }
 
-    // Makes the row of a delta in memory, if it is not there.
-    fn open<M: SortedMaps>(&mut self, maps: &M, delta: &GroupDelta) -> Result<(), NoMemory>
+    // Gives the session room in the row of a delta, in which it has none.
+    fn sit<M: SortedMaps>(
+        &mut self,
+        maps: &M,
+        delta: &GroupDelta,
+        session: u32,
+    ) -> Result<(), NoMemory>
+        requires session { IsSession session }
         requires delta { IsDelta delta.now }
         requires kept { (pays : Pays) × AreKept self.old (M.maps maps.now) (place_of delta.now) (width delta.now) pays }
         ensures kept { (pays : Pays) → AreKept self.old (M.maps maps.now) (place_of delta.now) (width delta.now) pays
             → AreKept self.new (M.maps maps.now) (place_of delta.now) (width delta.now) pays }
-        ensures there { OnOk result (IsSome (row_at self.new.rows (place_of delta.now))) }
+        ensures seat { OnOk result (HasSeat self.new (place_of delta.now) session) }
         ensures others { OnlyAt (place_of delta.now) self.old self.new }
         ensures seats { (s : ℕ) → HasSeat self.old (place_of delta.now) s → HasSeat self.new (place_of delta.now) s }
         ensures rooms { self.new.rooms ≡ self.old.rooms }
     {
-        if self.rows.get(delta.view, delta.group.as_slice()).is_some() {
-            return Ok(());
-        }
-        let numbers = numbers_at(self.alloc, maps, delta)?;
-        let row = Row::new(self.alloc, &numbers)?;
-        let group = copy_of(self.alloc, &delta.group)?;
-        self.rows.insert(delta.view, group, row)?;
-        Ok(())
+        let seat = Seat::new(self.alloc, delta.view, delta.group.as_slice())?;
+        self.seats[session as usize].push(seat)?;
+        seat_in(&mut self.rows, self.alloc, maps, delta, session)
     }
 
     /// Makes all that one `pay` of the delta by the session and its `take_back` need.
@@ -293,9 +259,12 @@ impl ViewRows {
         ensures others { OnlyAt (place_of delta.now) self.old self.new }
         ensures seats { (s : ℕ) → HasSeat self.old (place_of delta.now) s → HasSeat self.new (place_of delta.now) s }
     {
-        self.open(maps, delta)?;
-        let group = delta.group.as_slice();
-        self.rows.reserve(delta.view, group, session)?;
+        if !self
+            .rows
+            .has_room(delta.view, delta.group.as_slice(), session)
+        {
+            self.sit(maps, delta, session)?;
+        }
         self.pools[session as usize].add(self.alloc)?;
         self.pools[session as usize].add(self.alloc)
     }

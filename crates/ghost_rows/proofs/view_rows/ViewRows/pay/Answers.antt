@@ -4,7 +4,9 @@ use Rattle.std.specs.Int.{w128}
 use Rattle.std.specs.FinMap.{get}
 use Rattle.iv_types.specs.declared.lock.GroupDelta.{GroupDelta}
 use Rattle.txn_machine.specs.Deltas.{place_of}
-use Rattle.ghost_rows.specs.Rows.{row_at}
+use Rattle.ghost_rows.specs.Rows.{OpenRows, row_at, AreOpen, AreSeated}
+use Rattle.ghost_rows.proofs.Steps.{set_length}
+use Rattle.ghost_rows.proofs.SeatLemmas.{still_open, still_seated}
 use Rattle.ghost_rows.specs.State.{State, stored_at}
 use Rattle.ghost_rows.proofs.StateLemmas.{some_of, row_of, paid_can, paid_state, copied_some, told_at, refusal_at, refusal_as}
 use Rattle.ghost_rows.proofs.view_rows.ViewRows.pay.Goals as goal
@@ -45,3 +47,17 @@ returns-in-Err-clause-escrow g c = λ pays row kept there.
     let told = refusal_at c.self.inside.rows c.args.self.now.rows d c.as_slice-group.result.now c.args.session row c.in-Err.column c.in-Err.range.inf c.in-Err.range.sup rows c.as_slice-group.ensures c.in-Err.ensures.refused there in
     refusal_as row pays c.args.session d c.in-Err.column _ _ c.in-Err.range.inf c.in-Err.range.sup (to_z-of_z w128 c.in-Err.range.inf inf) (to_z-of_z w128 c.in-Err.range.sup sup)
     (told kept.numbers pays kept.has.many (row_of (row_at c.args.self.now.rows (place_of d)) row kept.numbers pays there kept.row))
+
+pub invariant_of-self : goal.invariant_of-self
+invariant_of-self g c =
+    let d : GroupDelta = c.args.delta.now in
+    let rows : c.self.inside.rows ≡ c.args.self.now.rows = ap (λ (s : State). s.rows) c.self.view_is in
+    let seat = some_of (row_at c.args.self.now.rows (place_of d)) c.requires.ready.seat.1 in
+    let told = told_at c.self.inside.rows c.args.self.now.rows c.pay.new.self d c.as_slice-group.result.now c.args.session c.in-Ok.before seat.0 rows c.as_slice-group.ensures c.in-Ok.ensures.paid seat.1 in
+    let open_before : AreOpen c.args.self.now.rows = subst AreOpen rows c.self.invariant.2 in
+    let seated_before : AreSeated c.args.self.now.rows c.self.inside.seats.items = subst (λ (l : OpenRows). AreSeated l c.self.inside.seats.items) rows c.self.invariant.3 in (
+      set_length c.self.inside.pools.items c.args.session c.take-buffer.new.self ∙ c.self.invariant.0,
+      c.self.invariant.1,
+      still_open (place_of d) seat.0 told.0 c.args.self.now.rows c.pay.new.self seat.1 told.1 told.2.same open_before,
+      still_seated (place_of d) seat.0 told.0 c.args.self.now.rows c.pay.new.self seat.1 told.1 told.2.same c.self.inside.seats.items seated_before,
+    )

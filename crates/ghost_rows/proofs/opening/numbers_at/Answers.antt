@@ -6,7 +6,7 @@ use Rattle.ghost_rows.specs.Kept.{width}
 use Rattle.ghost_rows.specs.State.{stored_at}
 use Rattle.ghost_rows.proofs.RowLemmas.{huge_fit}
 use Rattle.ghost_rows.proofs.StateLemmas.{has_bytes, has_length, all_zeros}
-use Rattle.ghost_rows.proofs.view_rows.numbers_at.Goals as goal
+use Rattle.ghost_rows.proofs.opening.numbers_at.Goals as goal
 
 pub numbers_of-requires : goal.numbers_of-requires
 numbers_of-requires g c =
