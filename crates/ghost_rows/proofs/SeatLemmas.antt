@@ -1,5 +1,5 @@
 -- Where sessions have room.
-use Rattle.std.specs.Prelude.{◌≡◌, ◌≢◌, ℕ, zero, suc, Bool, true, false, cond, ℤ, List, [], ◌∷◌, ◌++◌, get_or, slice_set, length, ◌<◌, Option, Some, None, IsSome, ◌⊎◌}
+use Rattle.std.specs.Prelude.{◌≡◌, ◌≢◌, ℕ, zero, suc, Bool, true, false, cond, ℤ, pos, List, [], ◌∷◌, ◌++◌, get_or, slice_set, length, ◌<◌, Option, Some, None, IsSome, ◌⊎◌}
 use mathlib.Core.Path.{refl, sym, ap, subst, ◌∙◌}
 use mathlib.Core.Logic.{inl, inr}
 use Rattle.std.proofs.Common.{arith}
@@ -7,16 +7,18 @@ use Rattle.std.proofs.lemmas.Bool.{true≢false}
 use Rattle.std.specs.List.{Contains}
 use Rattle.std.proofs.lemmas.List.{get_or-set_same, get_or-set_other}
 use Rattle.std.proofs.lemmas.List.Elements.{Contains-append_left, Contains-append_right, Contains-append_cases}
+use Rattle.std.specs.FinMap.{get}
 use Rattle.table_laws.specs.Place.{Place}
 use Rattle.table_laws.proofs.Stored.{by_session}
 use Rattle.escrow_bounds.proofs.PartLemmas.{self_tie}
 use Rattle.ghost_rows.specs.declared.shares.Share.{Share}
 use Rattle.ghost_rows.specs.Shares.{sum_at}
-use Rattle.ghost_rows.specs.Rows.{OpenRow, OpenRows, row_at, HasRoom, ChangesRow, IsSeated, AreOpen, AreSeated, GivesRoom, AreSettled, settled_row, settled_at, is_open, left_open}
+use Rattle.ghost_rows.specs.Rows.{OpenRow, OpenRows, row_at, HasRoom, ChangesRow, IsSeated, AreOpen, AreSeated, GivesRoom, IsSettledAt, IsLeftAt, AreSettled, settled_row, settled_at, is_open, left_open}
+use Rattle.ghost_rows.specs.Candidates.{Places, IsAmong}
 use Rattle.ghost_rows.specs.Kept.{IsAsBefore, Keeps}
 use Rattle.ghost_rows.proofs.ShareLemmas.{no_some, remove_same, remove_other, others}
 use Rattle.ghost_rows.proofs.RowLemmas.{settled_some, settled_none}
-use Rattle.ghost_rows.proofs.TableLemmas.{by_place, some_same, not_some, left_open_row, left_shut_row}
+use Rattle.ghost_rows.proofs.TableLemmas.{by_place, some_same, not_some, settled_here, left_open_row, left_shut_row}
 
 pub no_room : (session : ℕ) → IsSome (sum_at [] session) → ⊥
 no_room session e = true≢false (sym e)
@@ -70,8 +72,9 @@ gives_kept session place row after old new there changes keeps = record {
 -- ---- a session ends
 
 -- of these places those that are left are not settled yet
-abbrev pub AreSettling : ℕ → List Place → List Place → OpenRows → OpenRows → Type 0
-AreSettling session places left old now = (q : Place) → (row_at now q ≡ settled_at session (row_at old q)) ⊎ (row_at now q ≡ row_at old q) × (Contains places q → Contains left q)
+abbrev pub AreSettling : ℕ → List Place → List Place → OpenRows → OpenRows → Places → Places → Type 0
+AreSettling session places left old now before after =
+    (q : Place) → IsSettledAt session q old now before after ⊎ IsLeftAt q old now before after × (Contains places q → Contains left q)
 
 not_in_none : (q : Place) → Contains [] q → ⊥
 not_in_none q has = absurd (omega (arith, has.1))
@@ -80,8 +83,8 @@ the_one : (p q : Place) → Contains (p ∷ []) q → p ≡ q
 the_one p q (zero, lt, e) = e
 the_one p q (suc k, lt, e) = absurd (omega (arith, lt))
 
-pub settling_begun : (session : ℕ) (places : List Place) (rows : OpenRows) → AreSettling session places places rows rows
-settling_begun session places rows q = inr (refl, λ in_. in_)
+pub settling_begun : (session : ℕ) (places : List Place) (rows : OpenRows) (candidates : Places) → AreSettling session places places rows rows candidates candidates
+settling_begun session places rows candidates q = inr (record { row = refl; candidate = refl }, λ in_. in_)
 
 pub unseated : (session : ℕ) (row : OpenRow) → sum_at (settled_row session row).shares session ≡ None
 unseated session row = by_sum (sum_at row.shares session) refl
@@ -103,29 +106,50 @@ settled_twice session (Some row) = by_open (is_open (settled_row session row)) r
         let goes : settled_at session (Some row) ≡ None = left_shut_row (settled_row session row) e in
         ap (settled_at session) goes ∙ sym goes
 
-pub settling_more : (session : ℕ) (places left rest : List Place) (p : Place) (old now next : OpenRows) → left ≡ rest ++ p ∷ [] → AreSettling session places left old now
-    → row_at next p ≡ settled_at session (row_at now p) → ((q : Place) → q ≢ p → row_at next q ≡ row_at now q) → AreSettling session places rest old next
-settling_more session places left rest p old now next split settling here others q = by_place q p
-    (λ k. inl (elim (settling q) [
-      | inl done ↦ at_p k ∙ (ap (settled_at session) done ∙ settled_twice session (row_at old q))
-      | inr same ↦ at_p k ∙ ap (settled_at session) same.0
-    ]))
+-- a step at a place, behind nothing and behind another
+module _ (session : ℕ) (p : Place) (old now next : OpenRows) (before mid after : Places) (step : IsSettledAt session p now next mid after) where
+  settled_first : IsLeftAt p old now before mid → IsSettledAt session p old next before after
+  settled_first same = record {
+    row = step.row ∙ ap (settled_at session) same.row;
+    ghost = λ row there no_count. step.ghost row (same.row ∙ there) no_count;
+    other = λ none. step.other (same.row ∙ none) ∙ same.candidate;
+  }
+
+  settled_again : IsSettledAt session p old now before mid → IsSettledAt session p old next before after
+  settled_again done = record {
+    row = step.row ∙ (ap (settled_at session) done.row ∙ settled_twice session (row_at old p));
+    ghost = λ row there no_count. by_open row there no_count (is_open (settled_row session row)) refl;
+    other = λ none. step.other (done.row ∙ ap (settled_at session) none) ∙ done.other none;
+  }
+    where
+      by_open : (row : OpenRow) → row_at old p ≡ Some row → (settled_row session row).committed ≡ pos 0 → (b : Bool) → is_open (settled_row session row) ≡ b → IsAmong after p
+      by_open row there no_count true is =
+          let here : row_at now p ≡ Some (settled_row session row) = done.row ∙ (settled_here session (row_at old p) row there ∙ left_open_row (settled_row session row) is) in
+          step.ghost (settled_row session row) here (ap (λ (r : OpenRow). r.committed) (settled_none session (settled_row session row) (unseated session row)) ∙ no_count)
+      by_open row there no_count false is =
+          let gone : row_at now p ≡ None = done.row ∙ (settled_here session (row_at old p) row there ∙ left_shut_row (settled_row session row) is) in
+          subst IsSome (sym (step.other gone)) (done.ghost row there no_count)
+
+pub settling_more : (session : ℕ) (places left rest : List Place) (p : Place) (old now next : OpenRows) (before mid after : Places) → left ≡ rest ++ p ∷ [] → AreSettling session places left old now before mid
+    → IsSettledAt session p now next mid after → ((q : Place) → q ≢ p → row_at next q ≡ row_at now q) → ((q : Place) → q ≢ p → get after q ≡ get mid q) → AreSettling session places rest old next before after
+settling_more session places left rest p old now next before mid after split settling step others others_too q = by_place q p
+    (λ k. inl (subst (λ x. IsSettledAt session x old next before after) (sym k) (elim (settling p) [
+      | inl done ↦ settled_again session p old now next before mid after step done
+      | inr same ↦ settled_first session p old now next before mid after step same.0
+    ])))
     (λ n. elim (settling q) [
-      | inl done ↦ inl (others q n ∙ done)
-      | inr same ↦ inr (others q n ∙ same.0, λ in_. in_rest n (subst (λ l. Contains l q) split (same.1 in_)))
+      | inl done ↦ inl (record { row = others q n ∙ done.row; ghost = λ row there no_count. subst IsSome (sym (others_too q n)) (done.ghost row there no_count); other = λ none. others_too q n ∙ done.other none })
+      | inr same ↦ inr (record { row = others q n ∙ same.0.row; candidate = others_too q n ∙ same.0.candidate }, λ in_. in_rest n (subst (λ l. Contains l q) split (same.1 in_)))
     ])
   where
-    at_p : q ≡ p → row_at next q ≡ settled_at session (row_at now q)
-    at_p k = ap (row_at next) k ∙ (here ∙ ap (λ x. settled_at session (row_at now x)) (sym k))
-
     in_rest : q ≢ p → Contains (rest ++ p ∷ []) q → Contains rest q
     in_rest n has = elim (Contains-append_cases rest (p ∷ []) q has) [
-      | inl before ↦ before
+      | inl first ↦ first
       | inr last ↦ absurd (n (sym (the_one p q last)))
     ]
 
-pub settling_done : (session : ℕ) (places left : List Place) (old now : OpenRows) → left ≡ [] → AreSettling session places left old now → AreSettled session places old now
-settling_done session places left old now none settling q = elim (settling q) [
+pub settling_done : (session : ℕ) (places left : List Place) (old now : OpenRows) (before after : Places) → left ≡ [] → AreSettling session places left old now before after → AreSettled session places old now before after
+settling_done session places left old now before after none settling q = elim (settling q) [
   | inl done ↦ inl done
   | inr same ↦ inr (same.0, λ in_. not_in_none q (subst (λ l. Contains l q) none (same.1 in_)))
 ]
@@ -148,7 +172,7 @@ room_before session other row n has = by_sum (sum_at row.shares session) refl
     by_sum None e = subst (HasRoom other) (settled_none session row e) has
     by_sum (Some sum) e = subst IsSome (remove_other row.shares session other n) (subst (HasRoom other) (settled_some session row sum e) has)
 
-module _ (session : ℕ) (places : List Place) (old new : OpenRows) (open_before : AreOpen old) (seated : (q : Place) → IsSeated old q session → Contains places q) (settled : AreSettled session places old new) where
+module _ (session : ℕ) (places : List Place) (old new : OpenRows) (before after : Places) (open_before : AreOpen old) (seated : (q : Place) → IsSeated old q session → Contains places q) (settled : AreSettled session places old new before after) where
   untouched : (q : Place) (o : Option OpenRow) → row_at old q ≡ o → (Contains places q → ⊥) → o ≡ settled_at session o
   untouched q None e out = refl
   untouched q (Some row) e out =
@@ -157,20 +181,20 @@ module _ (session : ℕ) (places : List Place) (old new : OpenRows) (open_before
 
   pub settled_all : (q : Place) → row_at new q ≡ settled_at session (row_at old q)
   settled_all q = elim (settled q) [
-    | inl done ↦ done
-    | inr same ↦ same.0 ∙ untouched q (row_at old q) refl same.1
+    | inl done ↦ done.row
+    | inr same ↦ same.0.row ∙ untouched q (row_at old q) refl same.1
   ]
 
   pub settled_open : AreOpen new
   settled_open q r is = (settled_from session (row_at old q) r (sym (settled_all q) ∙ is)).3
 
   pub settled_seated : (lists : List (List Place)) (none : List Place) → AreSeated old lists → AreSeated new (slice_set lists session none)
-  settled_seated lists none before s q h =
+  settled_seated lists none at_first s q h =
       let was = settled_from session (row_at old q) h.0 (sym (settled_all q) ∙ h.1) in
       let has : HasRoom s (settled_row session was.0) = subst (HasRoom s) was.2 h.2 in
       by_session s session
       (λ e. absurd (no_some (subst IsSome (ap (sum_at (settled_row session was.0).shares) e ∙ unseated session was.0) has)))
-      (λ n. subst (λ l. Contains l q) (sym (get_or-set_other lists session s none [] n)) (before s q (was.0, was.1, room_before session s was.0 n has)))
+      (λ n. subst (λ l. Contains l q) (sym (get_or-set_other lists session s none [] n)) (at_first s q (was.0, was.1, room_before session s was.0 n has)))
 
 -- ---- the lists
 

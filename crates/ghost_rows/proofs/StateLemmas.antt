@@ -5,7 +5,7 @@ use Rattle.std.proofs.Common.{arith, Bor}
 use Rattle.std.proofs.lemmas.Bool.{true≢false}
 use Rattle.std.specs.Option.{option_copied}
 use Rattle.std.specs.List.{AllByRecursion}
-use Rattle.std.specs.FinMap.{get, insert}
+use Rattle.std.specs.FinMap.{get, insert, remove}
 use Rattle.std.specs.Cmp.Lexicographic.{nat_list_cmp_total}
 use Rattle.iv_types.specs.declared.lock.GroupDelta.{GroupDelta}
 use Rattle.iv_types.specs.declared.lock.Prefix.{Prefix}
@@ -32,6 +32,10 @@ left_as row l = cond (elim l [ [] ↦ false | x ∷ xs ↦ true ]) (Some row) No
 pub some_of : {A : Type 0} (o : Option A) → IsSome o → (x : A) × (o ≡ Some x)
 some_of None h = absurd (true≢false (sym h))
 some_of (Some x) h = (x, refl)
+
+pub some_there : {A : Type 0} (o : Option A) → (o ≡ None → ⊥) → IsSome o
+some_there None f = absurd (f refl)
+some_there (Some x) f = refl
 
 pub not_both : {A : Type 0} (o : Option A) (x : A) → o ≡ Some x → o ≡ None → ⊥
 not_both o x a b = let e : Some x ≡ None = sym a ∙ b in cc
@@ -138,6 +142,17 @@ stored_elsewhere maps new place q value e others n = by_session q.0 place.0
     let other : q.1 ≢ place.1 = λ k. n (λ i. (same i, k i)) in
     subst (λ j. get (new j) q.1 ≡ get (maps j) q.1) (sym same)
     (ap (λ (m : Map). get m q.1) e ∙ get-write_other nat_list_cmp_total bytes_same (maps place.0) place.1 (Some value) q.1 other))
+    (λ far. ap (λ (m : Map). get m q.1) (others q.0 far))
+
+pub stored_gone : (maps new : ℕ → Map) (place : Place) → new place.0 ≡ remove (maps place.0) place.1 → stored_at new place ≡ None
+stored_gone maps new place e = ap (λ (m : Map). get m place.1) e ∙ get-write_same nat_list_cmp_total bytes_same (maps place.0) place.1 None
+
+pub stored_away : (maps new : ℕ → Map) (place q : Place) → new place.0 ≡ remove (maps place.0) place.1 → ((i : ℕ) → i ≢ place.0 → new i ≡ maps i) → q ≢ place → stored_at new q ≡ stored_at maps q
+stored_away maps new place q e others n = by_session q.0 place.0
+    (λ same.
+    let other : q.1 ≢ place.1 = λ k. n (λ i. (same i, k i)) in
+    subst (λ j. get (new j) q.1 ≡ get (maps j) q.1) (sym same)
+    (ap (λ (m : Map). get m q.1) e ∙ get-write_other nat_list_cmp_total bytes_same (maps place.0) place.1 None q.1 other))
     (λ far. ap (λ (m : Map). get m q.1) (others q.0 far))
 
 pub copied_some : (o : Option (Bor (List ℕ))) (stored : Option (List ℕ)) → option_copied o ≡ stored → is_some o ≡ true → stored ≡ None → ⊥

@@ -1,7 +1,7 @@
 -- No clause of `run` rests on this module: it serves contracts between crates.
 --
 -- The rows that open transactions pay to, as they are kept in memory.
-use Rattle.std.specs.Prelude.{◌≡◌, ◌≢◌, ℕ, ◌<◌, ◌==◌, ℤ, Bool, true, false, List, [], ◌∷◌, map, filter, not, slice_get, get_or, Option, Some, None, IsSome, ◌⊎◌, refl, if◌then◌else◌}
+use Rattle.std.specs.Prelude.{◌≡◌, ◌≢◌, ℕ, ◌<◌, ◌==◌, ℤ, pos, Bool, true, false, List, [], ◌∷◌, map, filter, not, slice_get, get_or, Option, Some, None, IsSome, ◌⊎◌, refl, if◌then◌else◌}
 use Rattle.std.specs.Int.{w128, int_wrapping_add}
 use Rattle.std.specs.Option.{option_map}
 use Rattle.std.specs.List.{Contains}
@@ -16,6 +16,7 @@ use Rattle.escrow_bounds.specs.Column.{Column, IsReserved, part, with_part, adde
 use Rattle.escrow_bounds.specs.declared.escrow.Range.{Range}
 use Rattle.ghost_rows.specs.declared.shares.Share.{Share}
 use Rattle.ghost_rows.specs.Shares.{sum_at}
+use Rattle.ghost_rows.specs.Candidates.{Places, IsAmong}
 
 -- a row that open transactions pay to, or may: its columns, its committed count, and what each session has added to it
 pub record OpenRow : Type 0 where
@@ -132,6 +133,18 @@ pub record GivesRoom (session : ℕ) (place : Place) (old new : OpenRows) : Type
   pub only : (s : ℕ) → s ≢ session → IsSeated new place s → IsSeated old place s
   pub still : AreOpen old → AreOpen new
 
+-- the session has settled the row of a place, which is among the candidates if its committed count is 0 then
+pub record IsSettledAt (session : ℕ) (place : Place) (old new : OpenRows) (before after : Places) : Type 0 where
+  pub row : row_at new place ≡ settled_at session (row_at old place)
+  pub ghost : (row : OpenRow) → row_at old place ≡ Some row → (settled_row session row).committed ≡ pos 0 → IsAmong after place
+  pub other : row_at old place ≡ None → finite.get after place ≡ finite.get before place
+
+-- the row of a place is as it was, and so is the place among the candidates
+pub record IsLeftAt (place : Place) (old new : OpenRows) (before after : Places) : Type 0 where
+  pub row : row_at new place ≡ row_at old place
+  pub candidate : finite.get after place ≡ finite.get before place
+
 -- the session has settled the rows of these places, and all else stays
-abbrev pub AreSettled : ℕ → List Place → OpenRows → OpenRows → Type 0
-AreSettled session places old new = (q : Place) → (row_at new q ≡ settled_at session (row_at old q)) ⊎ (row_at new q ≡ row_at old q) × (Contains places q → ⊥)
+abbrev pub AreSettled : ℕ → List Place → OpenRows → OpenRows → Places → Places → Type 0
+AreSettled session places old new before after =
+    (q : Place) → IsSettledAt session q old new before after ⊎ IsLeftAt q old new before after × (Contains places q → ⊥)

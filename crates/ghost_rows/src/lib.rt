@@ -8,6 +8,8 @@
 //! `specs/Kept` says for which kept pays the stored rows stand.
 #![tactic(auto)]
 
+mod candidates;
+mod ghosts;
 pub mod numbers;
 mod opening;
 mod pool;

@@ -23,7 +23,7 @@ fn copy_of(alloc: Global, bytes: &Bytes) -> Result<Bytes, NoMemory>
 }
 
 // So many zeros.
-fn zeros(alloc: Global, many: usize) -> Result<Vec<i128>, NoMemory>
+pub fn zeros(alloc: Global, many: usize) -> Result<Vec<i128>, NoMemory>
     ensures { IfOk result (λ found. found.items ≡ replicate many (pos 0)) }
 {
     Ok(vec![in alloc; 0; many]?)

@@ -333,6 +333,21 @@ impl Row {
         }
     }
 
+    /// The committed numbers: the count and the sums.
+    ///
+    /// # Errors
+    ///
+    /// Where there is no memory for them.
+    pub fn committed_numbers(&self, alloc: Global) -> Result<Vec<i128>, NoMemory>
+        ensures { IfOk result (λ found. found.items ≡ map (λ c. c.committed) self.now.columns) }
+    {
+        let mut found = Vec::new(alloc);
+        for index in 0..self.columns.len() {
+            found.push(self.columns[index].committed())?;
+        }
+        Ok(found)
+    }
+
     /// The committed count.
     pub fn committed(&self) -> i128
         ensures { result ≡ self.now.committed }

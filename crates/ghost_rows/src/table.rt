@@ -1,5 +1,5 @@
 //! The rows that open transactions pay to, by their places.
-ghost use Rattle.std.specs.Prelude.{◌≡◌, ◌≢◌, ℕ, true, Some, None, IsSome, IfSome, IfOk, IfErr, OnOk, OnErr};
+ghost use Rattle.std.specs.Prelude.{◌≡◌, ◌≢◌, ◌↔◌, ℕ, true, Some, None, IsSome, IfSome, IfOk, IfErr, OnOk, OnErr};
 ghost use Rattle.std.specs.Option.{option_copied};
 ghost use Rattle.std.specs.FinMap.{insert};
 ghost use Rattle.table_laws.specs.Place.{Place};
@@ -164,7 +164,7 @@ impl Table {
         ensures here { row_at self.new (view, group.now) ≡ settled_at session (row_at self.old (view, group.now)) }
         ensures others { (q : Place) → q ≢ (view, group.now) → row_at self.new q ≡ row_at self.old q }
         ensures count { IfSome result (λ count. (row : OpenRow) → row_at self.old (view, group.now) ≡ Some row → count ≡ (settled_row session row).committed) }
-        ensures none { result ≡ None → row_at self.old (view, group.now) ≡ None }
+        ensures none { (result ≡ None) ↔ (row_at self.old (view, group.now) ≡ None) }
     {
         self.rows.get(view, group)?;
         let mut row = self.lift(view, group);

@@ -12,8 +12,11 @@ ghost use Rattle.txn_machine.specs.Deltas.{place_of};
 ghost use Rattle.ghost_rows.specs.Numbers.{numbers_bytes, moved, Fits128};
 ghost use Rattle.ghost_rows.specs.State.{stored_at, CanStore, StoresOnlyAt};
 ghost use Rattle.ghost_rows.specs.Kept.{width, IsDelta};
+ghost use Rattle.ghost_rows.specs.Candidates.{no_places};
+ghost use Rattle.ghost_rows.specs.Ghosts.{IsListed, StayListed};
 
-use crate::numbers::{front, put_moved, width};
+use crate::candidates::Candidates;
+use crate::numbers::{put_moved, width};
 use crate::opening::seat_in;
 use crate::pool::{Pool, no_buffers};
 use crate::reading::rows_between;
@@ -75,11 +78,13 @@ fn store_moved<M: SortedMaps>(maps: &mut M, buffer: Vec<u8>, delta: &GroupDelta,
 /// the buffers that its further pays and their taking back need.
 #[derive(Drop)]
 pub struct ViewRows {
-    alloc: Global,
-    rows: Table,
+    pub(crate) alloc: Global,
+    pub(crate) rows: Table,
     pools: Vec<Pool>,
     // Where each session has room in a row.
     seats: Vec<SeatList>,
+    // Where ghosts are looked for.
+    pub(crate) candidates: Candidates,
 }
 
 impl Model for ViewRows {
@@ -91,7 +96,7 @@ impl Model for ViewRows {
 
     ghost coded = { coded_state };
 
-    ghost view = { λ v. record { rows = v.rows; rooms = v.pools.items } };
+    ghost view = { λ v. record { rows = v.rows; rooms = v.pools.items; candidates = v.candidates } };
 
     ghost invariant = { λ v. (length v.pools.items ≡ 65) × (length v.seats.items ≡ 65) × AreOpen v.rows × AreSeated v.rows v.seats.items };
 }
@@ -135,6 +140,8 @@ impl ViewRows {
         ensures spare { (i : ℕ) → M.spare maps.old i ≤ M.spare maps.new i }
         ensures seats { (s : ℕ) → HasSeat self.old (place_of delta.now) s → HasSeat self.new (place_of delta.now) s }
         ensures limit { M.limit maps.new ≡ M.limit maps.old }
+        ensures candidates { self.new.candidates ≡ self.old.candidates }
+        ensures listed { StayListed self.old (M.maps maps.old) self.new (M.maps maps.new) }
     {
         if maps.get(delta.view, delta.group.as_slice()).is_none() {
             return Err(PayRefusal::Absent);
@@ -176,6 +183,8 @@ impl ViewRows {
         ensures spare { (i : ℕ) → M.spare maps.old i ≤ M.spare maps.new i }
         ensures seats { (s : ℕ) → HasSeat self.old (place_of delta.now) s → HasSeat self.new (place_of delta.now) s }
         ensures limit { M.limit maps.new ≡ M.limit maps.old }
+        ensures candidates { self.new.candidates ≡ self.old.candidates }
+        ensures listed { StayListed self.old (M.maps maps.old) self.new (M.maps maps.new) }
     {
         let group = delta.group.as_slice();
         self.rows
@@ -190,7 +199,8 @@ impl ViewRows {
     ///
     /// Where there is no memory for it.
     pub fn new(alloc: Global) -> Result<ViewRows, NoMemory>
-        ensures { IfOk result (λ rows. rows.rows ≡ no_rows) }
+        ensures rows { IfOk result (λ rows. rows.rows ≡ no_rows) }
+        ensures candidates { IfOk result (λ rows. rows.candidates ≡ no_places) }
     {
         let pools = no_buffers(alloc)?;
         let seats = no_seats(alloc)?;
@@ -199,6 +209,7 @@ impl ViewRows {
             rows: Table::new(alloc),
             pools,
             seats,
+            candidates: Candidates::new(alloc),
         })
     }
 
@@ -209,9 +220,10 @@ impl ViewRows {
         ensures kept { (maps : ℕ → Map) (place : Place) (many : ℕ) (pays : Pays) → AreKept self.old maps place (suc many) pays → AreKept self.new maps place (suc many) (with_pays pays session []) }
         ensures rooms { (s : ℕ) → s ≢ session → room_of self.new s ≡ room_of self.old s }
         ensures gone { room_of self.new session ≡ 0 }
+        ensures listed { (maps : ℕ → Map) (place : Place) (many : ℕ) (pays : Pays) → AreKept self.old maps place (suc many) pays → IsListed self.old maps place → IsListed self.new maps place }
     {
         let seats = mem::replace(&mut self.seats[session as usize], SeatList::new(self.alloc));
-        settle_each(&mut self.rows, seats, session);
+        settle_each(&mut self.rows, &mut self.candidates, seats, session);
         self.pools[session as usize] = Pool::new(self.alloc);
     }
 
@@ -231,6 +243,8 @@ impl ViewRows {
         ensures others { OnlyAt (place_of delta.now) self.old self.new }
         ensures seats { (s : ℕ) → HasSeat self.old (place_of delta.now) s → HasSeat self.new (place_of delta.now) s }
         ensures rooms { self.new.rooms ≡ self.old.rooms }
+        ensures candidates { self.new.candidates ≡ self.old.candidates }
+        ensures listed { StayListed self.old (M.maps maps.now) self.new (M.maps maps.now) }
     {
         let seat = Seat::new(self.alloc, delta.view, delta.group.as_slice())?;
         self.seats[session as usize].push(seat)?;
@@ -258,6 +272,8 @@ impl ViewRows {
         ensures rooms { (s : ℕ) → room_of self.old s ≤ room_of self.new s }
         ensures others { OnlyAt (place_of delta.now) self.old self.new }
         ensures seats { (s : ℕ) → HasSeat self.old (place_of delta.now) s → HasSeat self.new (place_of delta.now) s }
+        ensures candidates { self.new.candidates ≡ self.old.candidates }
+        ensures listed { StayListed self.old (M.maps maps.now) self.new (M.maps maps.now) }
     {
         if !self
             .rows
@@ -285,72 +301,5 @@ impl ViewRows {
         ensures { IfOk result (λ rows. Shows (between interval.now (map.entries (M.maps maps.now view))) rows) }
     {
         Ok(ViewRowList::from_vec(rows_between(self.alloc, maps, view, interval)?))
-    }
-
-    // The committed count of a row that is stored.
-    fn count_of(&self, view: u32, group: &[u8], stored: &[u8]) -> i128
-        requires { 16 ≤ length stored.now }
-        ensures here { (row : OpenRow) → row_at self.now.rows (view, group.now) ≡ Some row → result ≡ row.committed }
-        ensures closed { row_at self.now.rows (view, group.now) ≡ None → (n : ℤ) (ns : List ℤ) → FitsSigned w128 n → stored.now ≡ numbers_bytes (n ∷ ns) → result ≡ n }
-    {
-        match self.rows.get(view, group) {
-            Some(row) => row.committed(),
-            None => front(stored).0,
-        }
-    }
-
-    /// Whether a row is stored whose committed count is 0.
-    pub fn is_ghost<M: SortedMaps>(&self, maps: &M, view: u32, group: &[u8]) -> bool
-        requires { (many : ℕ) × (pays : Pays) × AreKept self.now (M.maps maps.now) (view, group.now) (suc many) pays }
-        ensures absent { stored_at (M.maps maps.now) (view, group.now) ≡ None → result ≡ false }
-        ensures count { (many : ℕ) (pays : Pays) (kept : AreKept self.now (M.maps maps.now) (view, group.now) (suc many) pays) (count : ℤ)
-            → value (account count 0 pays) ≡ get_or kept.numbers 0 (pos 0) → IsSome (stored_at (M.maps maps.now) (view, group.now)) → (result ≡ true) ↔ (count ≡ pos 0) }
-    {
-        match maps.get(view, group) {
-            Some(stored) => self.count_of(view, group, stored) == 0,
-            None => false,
-        }
-    }
-
-    // Whether no session has a kept pay on the row of a place. The count tells, where each kept pay adds to it or takes
-    // from it.
-    fn is_unpaid(&self, view: u32, group: &[u8]) -> bool
-        ensures { (stored : Option (List ℕ)) (many : ℕ) (pays : Pays) → StandsFor (row_at self.now.rows (view, group.now)) stored (suc many) pays
-            → AllCount pays → (result ≡ true) ↔ IsUnpaid pays }
-    {
-        match self.rows.get(view, group) {
-            Some(row) => row.is_unpaid(),
-            None => true,
-        }
-    }
-
-    /// Whether a row is stored whose committed count is 0, on which no session has a kept pay, which is not locked and has
-    /// no versions. Each kept pay adds 1 to the count or takes 1 from it.
-    pub fn cleanable<M: SortedMaps>(
-        &self,
-        maps: &M,
-        view: u32,
-        group: &[u8],
-        locked: bool,
-        versions: bool,
-    ) -> bool
-        requires { (many : ℕ) × (pays : Pays) × AreKept self.now (M.maps maps.now) (view, group.now) (suc many) pays }
-        ensures absent { stored_at (M.maps maps.now) (view, group.now) ≡ None → result ≡ false }
-        ensures only { result ≡ true → (locked ≡ false) × (versions ≡ false) }
-        ensures exact { locked ≡ false → versions ≡ false
-            → (many : ℕ) (pays : Pays) (kept : AreKept self.now (M.maps maps.now) (view, group.now) (suc many) pays) (count : ℤ)
-            → value (account count 0 pays) ≡ get_or kept.numbers 0 (pos 0) → IsSome (stored_at (M.maps maps.now) (view, group.now)) → AllCount pays
-            → (result ≡ true) ↔ ((count ≡ pos 0) × IsUnpaid pays) }
-    {
-        if locked {
-            return false;
-        }
-        if versions {
-            return false;
-        }
-        if !self.is_unpaid(view, group) {
-            return false;
-        }
-        self.is_ghost(maps, view, group)
     }
 }
