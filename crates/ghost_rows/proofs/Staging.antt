@@ -37,18 +37,16 @@ after_pay (Err e) old new before after place w s d pays kept paid same = (
 begun : (o : Option OpenRow) (stored found : Option (List ℕ)) → o ≡ None → stored ≡ found → StandsFor None found 2 no_pays → StandsFor o stored 2 no_pays
 begun o stored found none is stands = subst (λ p. StandsFor p stored 2 no_pays) (sym none) (subst (λ x. StandsFor None x 2 no_pays) (sym is) stands)
 
-pub begun_without : (state : State) (maps : ℕ → Map) (place : Place) → state.rows ≡ no_rows → maps place.0 ≡ empty → (pays : Pays) × AreKept state maps place 2 pays
-begun_without state maps place none is = (
-  no_pays,
-  begun (row_at state.rows place) (stored_at maps place) None (ap (λ (rows : OpenRows). row_at rows place) none ∙ get-empty place_cmp place) (ap (λ (m : Map). get m place.1) is ∙ get-empty (slice_cmp nat_cmp) place.1)
-      (record {
-        numbers = pos 0 ∷ pos 0 ∷ [];
-        has = record { many = refl; huge = (huge_zero, (huge_zero, tt)); bytes = tt; zeros = λ e. (refl, (refl, tt)) };
-        row = tt;
-        closed = λ e s. refl;
-        absent = λ e s. refl;
-      }),
-)
+pub begun_without : (state : State) (maps : ℕ → Map) (place : Place) → state.rows ≡ no_rows → maps place.0 ≡ empty → AreKept state maps place 2 no_pays
+begun_without state maps place none is =
+    begun (row_at state.rows place) (stored_at maps place) None (ap (λ (rows : OpenRows). row_at rows place) none ∙ get-empty place_cmp place) (ap (λ (m : Map). get m place.1) is ∙ get-empty (slice_cmp nat_cmp) place.1)
+    (record {
+      numbers = pos 0 ∷ pos 0 ∷ [];
+      has = record { many = refl; huge = (huge_zero, (huge_zero, tt)); bytes = tt; zeros = λ e. (refl, (refl, tt)) };
+      row = tt;
+      closed = λ e s. refl;
+      absent = λ e s. refl;
+    })
 
 pub begun_with : (state : State) (maps : ℕ → Map) (place : Place) (count sum : ℤ) → IsHuge count → IsHuge sum → state.rows ≡ no_rows → maps place.0 ≡ insert empty place.1 (numbers_bytes (count ∷ sum ∷ []))
     → (pays : Pays) × AreKept state maps place 2 pays
