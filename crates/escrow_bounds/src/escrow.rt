@@ -226,6 +226,13 @@ impl Escrow {
         }
     }
 
+    /// The committed value.
+    pub fn committed(&self) -> i128
+        ensures { result ≡ self.now.committed }
+    {
+        self.committed
+    }
+
     /// The least value that the column can have, whatever becomes of the open transactions. It lies in the HUGE range.
     pub fn inf(&self) -> i128
         ensures value { result ≡ least self.now }

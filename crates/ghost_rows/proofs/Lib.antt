@@ -6,7 +6,10 @@ pub mod ShareLemmas
 pub mod ColumnLemmas
 pub mod RowLemmas
 pub mod TableLemmas
+pub mod CandidateLemmas
+pub mod SeatLemmas
 pub mod StateLemmas
 pub mod GhostLemmas
+pub mod ListedLemmas
 pub mod Staging
 pub mod UnpaidLemmas

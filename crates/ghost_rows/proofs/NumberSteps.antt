@@ -1,5 +1,5 @@
 -- Walks over the bytes of numbers.
-use Rattle.std.specs.Prelude.{◌≡◌, ℕ, zero, suc, ◌+◌, ◌*◌, Bool, ℤ, ◌+ℤ◌, List, [], ◌∷◌, ◌++◌, length, FitsSigned, true, neg_ℤ, if◌then◌else◌, ◌==◌}
+use Rattle.std.specs.Prelude.{◌≡◌, ℕ, zero, suc, ◌+◌, ◌*◌, Bool, ℤ, ◌+ℤ◌, List, [], ◌∷◌, ◌++◌, length, drop, FitsSigned, true, neg_ℤ, if◌then◌else◌, ◌==◌}
 use mathlib.Core.Path.{refl, sym, ap, subst, ◌∙◌}
 use Rattle.std.proofs.Common.{arith, append_assoc, append-nil, length-append, add-one, ne_eqb}
 use Rattle.std.proofs.lemmas.Bool.{true≢false}
@@ -108,3 +108,10 @@ no_length (x ∷ xs) e = absurd (omega (arith, e))
 pub one_fewer : (rest behind k many found : ℕ) → rest ≡ 16 * k → rest ≡ 16 + behind → found + k ≡ many → (j : ℕ) × (behind ≡ 16 * j) × (found + 1 + j ≡ many)
 one_fewer rest behind zero many found a b c = absurd (omega (arith, a, b))
 one_fewer rest behind (suc k) many found a b c = (k, omega (arith, a, b), omega (arith, c))
+
+-- a number's bytes are added behind those of the ones before it
+pub pushed_bytes : (out after : List ℕ) (numbers : List ℤ) (n : ℕ) (x : ℤ) → drop n numbers ≡ x ∷ drop (n + 1) numbers → after ≡ out ++ one x → out ++ numbers_bytes (drop n numbers) ≡ numbers_bytes numbers
+    → after ++ numbers_bytes (drop (n + 1) numbers) ≡ numbers_bytes numbers
+pushed_bytes out after numbers n x is a e =
+    ap (λ l. l ++ numbers_bytes (drop (n + 1) numbers)) a
+    ∙ (append_assoc out (one x) (numbers_bytes (drop (n + 1) numbers)) ∙ (ap (λ l. out ++ numbers_bytes l) (sym is) ∙ e))

@@ -26,9 +26,9 @@ use Rattle.ghost_rows.specs.declared.shares.Share.{Share}
 use Rattle.ghost_rows.specs.Shares.{sum_at, updated}
 use Rattle.ghost_rows.specs.Numbers.{step, moved}
 use Rattle.ghost_rows.specs.Rows.{OpenRow, EachMoved, EachColumn, AreAllowed, AreReserved, IsFirstRefused, Widens, HasRoom, settled_row}
-use Rattle.ghost_rows.specs.Kept.{Pays, no_pays, with_pays, increments, account, width, ColumnStands, RowStands, IsRefusedAt, ArePrefixes, committed_at}
+use Rattle.ghost_rows.specs.Kept.{Pays, no_pays, with_pays, increments, account, width, ColumnStands, RowStands, IsRefusedAt, ArePrefixes, IsAsBefore, committed_at}
 use Rattle.ghost_rows.proofs.Steps.{same_items, moved_from, moved_length, slice_get-map, all_at}
-use Rattle.ghost_rows.proofs.ShareLemmas.{others, set_same, set_other, remove_same, remove_other, push_same, push_other}
+use Rattle.ghost_rows.proofs.ShareLemmas.{others, set_same, set_other, set_none, remove_same, remove_other, push_same, push_other}
 use Rattle.ghost_rows.proofs.ColumnLemmas.{paid_column, taken_column, settled_column, widened_column, new_column, number_huge, committed_huge}
 
 abbrev pub record_of : List Column → ℤ → List Share → OpenRow
@@ -297,6 +297,29 @@ pub has_set : (xs : List Share) (s : ℕ) (v : ℤ) (q : ℕ) → IsSome (sum_at
 has_set xs s v q has = by_session q s
     (λ e. subst (λ k. IsSome (sum_at (map (updated s v) xs) k)) (sym e) (is_it _ v (set_same xs s v (subst (λ k. IsSome (sum_at xs k)) e has))))
     (λ n. subst IsSome (sym (set_other xs s v q n)) has)
+
+pub has_unset : (xs : List Share) (s : ℕ) (v : ℤ) (q : ℕ) → IsSome (sum_at (map (updated s v) xs) q) → IsSome (sum_at xs q)
+has_unset xs s v q has = by_some (sum_at xs q) (λ none. subst IsSome (none_set none) has)
+  where
+    none_set : sum_at xs q ≡ None → sum_at (map (updated s v) xs) q ≡ None
+    none_set none = by_session q s
+        (λ e. ap (λ k. sum_at (map (updated s v) xs) k) e ∙ set_none xs s v (ap (sum_at xs) (sym e) ∙ none))
+        (λ n. set_other xs s v q n ∙ none)
+
+    by_some : (o : Option ℤ) → (o ≡ None → IsSome {T = ℤ} None) → IsSome o
+    by_some None f = f refl
+    by_some (Some x) f = refl
+
+-- a row whose shares were set
+pub set_as_before : (old new : OpenRow) (s : ℕ) (v : ℤ) → new.shares ≡ map (updated s v) old.shares → new.committed ≡ old.committed → IsAsBefore old new
+set_as_before old new s v e c = record {
+  room = λ other has. subst (λ (l : List Share). IsSome (sum_at l other)) (sym e) (has_set old.shares s v other has);
+  only = λ other has. has_unset old.shares s v other (subst (λ (l : List Share). IsSome (sum_at l other)) e has);
+  committed = c;
+}
+
+pub as_before : (old new : OpenRow) → new ≡ old → IsAsBefore old new
+as_before old new e = subst (λ r. IsAsBefore old r) (sym e) (record { room = λ other has. has; only = λ other has. has; committed = refl })
 
 pub has_push : (xs : List Share) (s : ℕ) (v : ℤ) (q : ℕ) → sum_at xs s ≡ None → IsSome (sum_at xs q) → IsSome (sum_at (xs ++ record { session = s; sum = v } ∷ []) q)
 has_push xs s v q none has = by_session q s

@@ -23,7 +23,7 @@ updated_same s v x e = ap (λ b. cond b (share s v) x) e
 updated_other : (s : ℕ) (v : ℤ) (x : Share) → (x.session == s) ≡ false → updated s v x ≡ x
 updated_other s v x e = ap (λ b. cond b (share s v) x) e
 
-no_some : IsSome {T = ℤ} None → ⊥
+pub no_some : IsSome {T = ℤ} None → ⊥
 no_some e = true≢false (sym e)
 
 pub set_same : (xs : List Share) (s : ℕ) (v : ℤ) → IsSome (sum_at xs s) → sum_at (map (updated s v) xs) s ≡ Some v

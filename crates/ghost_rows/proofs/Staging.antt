@@ -7,13 +7,13 @@ use Rattle.std.specs.Ordering.{nat_cmp, eq_by_cmp}
 use Rattle.iv_types.specs.declared.lock.GroupDelta.{GroupDelta}
 use Rattle.iv_types.specs.Encoding.{IsHuge}
 use Rattle.iv_types.specs.Maps.{Map}
-use Rattle.table_laws.specs.Place.{Place}
+use Rattle.table_laws.specs.Place.{Place, place_cmp}
 use Rattle.table_laws.proofs.Tables.{get-write_same}
 use Rattle.table_store.proofs.Maps.{bytes_same}
 use Rattle.escrow_bounds.proofs.KeepLemmas.{huge_zero}
 use Rattle.ghost_rows.specs.Numbers.{numbers_bytes}
 use Rattle.ghost_rows.specs.Reading.{IsViewRow, AreViewRows}
-use Rattle.ghost_rows.specs.Rows.{OpenRow, OpenRows, row_at}
+use Rattle.ghost_rows.specs.Rows.{OpenRow, OpenRows, no_rows, row_at}
 use Rattle.ghost_rows.specs.Kept.{Pays, no_pays, with_pays, StandsFor}
 use Rattle.ghost_rows.specs.State.{State, AreKept, stored_at}
 use Rattle.ghost_rows.proofs.RowLemmas.{pays_other, huge_fit}
@@ -37,24 +37,22 @@ after_pay (Err e) old new before after place w s d pays kept paid same = (
 begun : (o : Option OpenRow) (stored found : Option (List ℕ)) → o ≡ None → stored ≡ found → StandsFor None found 2 no_pays → StandsFor o stored 2 no_pays
 begun o stored found none is stands = subst (λ p. StandsFor p stored 2 no_pays) (sym none) (subst (λ x. StandsFor None x 2 no_pays) (sym is) stands)
 
-pub begun_without : (state : State) (maps : ℕ → Map) (place : Place) → state.rows ≡ [] → maps place.0 ≡ empty → (pays : Pays) × AreKept state maps place 2 pays
-begun_without state maps place none is = (
-  no_pays,
-  begun (row_at state.rows place) (stored_at maps place) None (ap (λ (rows : OpenRows). row_at rows place) none) (ap (λ (m : Map). get m place.1) is ∙ get-empty (slice_cmp nat_cmp) place.1)
-      (record {
-        numbers = pos 0 ∷ pos 0 ∷ [];
-        has = record { many = refl; huge = (huge_zero, (huge_zero, tt)); bytes = tt; zeros = λ e. (refl, (refl, tt)) };
-        row = tt;
-        closed = λ e s. refl;
-        absent = λ e s. refl;
-      }),
-)
+pub begun_without : (state : State) (maps : ℕ → Map) (place : Place) → state.rows ≡ no_rows → maps place.0 ≡ empty → AreKept state maps place 2 no_pays
+begun_without state maps place none is =
+    begun (row_at state.rows place) (stored_at maps place) None (ap (λ (rows : OpenRows). row_at rows place) none ∙ get-empty place_cmp place) (ap (λ (m : Map). get m place.1) is ∙ get-empty (slice_cmp nat_cmp) place.1)
+    (record {
+      numbers = pos 0 ∷ pos 0 ∷ [];
+      has = record { many = refl; huge = (huge_zero, (huge_zero, tt)); bytes = tt; zeros = λ e. (refl, (refl, tt)) };
+      row = tt;
+      closed = λ e s. refl;
+      absent = λ e s. refl;
+    })
 
-pub begun_with : (state : State) (maps : ℕ → Map) (place : Place) (count sum : ℤ) → IsHuge count → IsHuge sum → state.rows ≡ [] → maps place.0 ≡ insert empty place.1 (numbers_bytes (count ∷ sum ∷ []))
+pub begun_with : (state : State) (maps : ℕ → Map) (place : Place) (count sum : ℤ) → IsHuge count → IsHuge sum → state.rows ≡ no_rows → maps place.0 ≡ insert empty place.1 (numbers_bytes (count ∷ sum ∷ []))
     → (pays : Pays) × AreKept state maps place 2 pays
 begun_with state maps place count sum c s none is = (
   no_pays,
-  begun (row_at state.rows place) (stored_at maps place) (Some (numbers_bytes (count ∷ sum ∷ []))) (ap (λ (rows : OpenRows). row_at rows place) none)
+  begun (row_at state.rows place) (stored_at maps place) (Some (numbers_bytes (count ∷ sum ∷ []))) (ap (λ (rows : OpenRows). row_at rows place) none ∙ get-empty place_cmp place)
       (ap (λ (m : Map). get m place.1) is ∙ get-write_same nat_list_cmp_total bytes_same empty place.1 (Some (numbers_bytes (count ∷ sum ∷ []))))
       (record {
         numbers = count ∷ sum ∷ [];

@@ -5,7 +5,7 @@ use Rattle.std.proofs.Common.{arith, Bor}
 use Rattle.std.proofs.lemmas.Bool.{true≢false}
 use Rattle.std.specs.Option.{option_copied}
 use Rattle.std.specs.List.{AllByRecursion}
-use Rattle.std.specs.FinMap.{get, insert}
+use Rattle.std.specs.FinMap.{get, insert, remove}
 use Rattle.std.specs.Cmp.Lexicographic.{nat_list_cmp_total}
 use Rattle.iv_types.specs.declared.lock.GroupDelta.{GroupDelta}
 use Rattle.iv_types.specs.declared.lock.Prefix.{Prefix}
@@ -18,10 +18,10 @@ use Rattle.ghost_rows.specs.Numbers.{numbers_bytes, moved, Fits128}
 use Rattle.ghost_rows.specs.Shares.{sum_at}
 use Rattle.iv_meaning.specs.Escrow.{IsSession}
 use Rattle.ghost_rows.specs.declared.shares.Share.{Share}
-use Rattle.ghost_rows.specs.Rows.{OpenRow, OpenRows, row_at, ChangesRow, settled_row, settled_at, left_open}
+use Rattle.ghost_rows.specs.Rows.{OpenRow, OpenRows, row_at, HasRoom, IsSeated, ChangesRow, settled_row, settled_at, left_open}
 use Rattle.ghost_rows.specs.Kept.{Pays, with_pays, width, HasNumbers, RowStands, StandsFor, IsPaid, IsTaken, ArePrefixes, Refuses, IsRefusedAt, committed_at, Keeps, no_pays}
 use Rattle.txn_machine.specs.Deltas.{place_of}
-use Rattle.ghost_rows.specs.State.{stored_at}
+use Rattle.ghost_rows.specs.State.{State, HasSeat, stored_at}
 use Rattle.ghost_rows.proofs.NumberSteps.{length_numbers}
 use Rattle.ghost_rows.proofs.RowLemmas.{moved_many, numbers_huge, huge_fit, pays_here, pays_other, settled_stands, committed_fits}
 
@@ -32,6 +32,10 @@ left_as row l = cond (elim l [ [] ↦ false | x ∷ xs ↦ true ]) (Some row) No
 pub some_of : {A : Type 0} (o : Option A) → IsSome o → (x : A) × (o ≡ Some x)
 some_of None h = absurd (true≢false (sym h))
 some_of (Some x) h = (x, refl)
+
+pub some_there : {A : Type 0} (o : Option A) → (o ≡ None → ⊥) → IsSome o
+some_there None f = absurd (f refl)
+some_there (Some x) f = refl
 
 pub not_both : {A : Type 0} (o : Option A) (x : A) → o ≡ Some x → o ≡ None → ⊥
 not_both o x a b = let e : Some x ≡ None = sym a ∙ b in cc
@@ -113,6 +117,14 @@ pub row_there : (o : Option OpenRow) (stored : Option (List ℕ)) (w : ℕ) (pay
 row_there None stored w pays s d earlier st latest = absurd (let e : d ∷ earlier ≡ [] = sym latest ∙ st.closed refl s in cc)
 row_there (Some row) stored w pays s d earlier st latest = refl
 
+-- ---- seats
+
+pub seated_is : (state : State) (place : Place) (s : ℕ) → HasSeat state place s → IsSeated state.rows place s
+seated_is state place s has = let there = some_of (row_at state.rows place) has.1 in (there.0, there.1, subst (λ o. IfSome o (HasRoom s)) there.1 has.0)
+
+pub seat_of : (rows : OpenRows) (place : Place) (s : ℕ) → IsSeated rows place s → IfSome (row_at rows place) (HasRoom s) × IsSome (row_at rows place)
+seat_of rows place s seated = (subst (λ o. IfSome o (HasRoom s)) (sym seated.1) seated.2, subst IsSome (sym seated.1) refl)
+
 -- ---- maps
 
 pub value_length : (stored : Option (List ℕ)) (b : List ℕ) (numbers : List ℤ) (w : ℕ) → Some b ≡ stored → stored ≡ Some (numbers_bytes numbers) → length numbers ≡ w → length b ≡ 16 * w
@@ -130,6 +142,17 @@ stored_elsewhere maps new place q value e others n = by_session q.0 place.0
     let other : q.1 ≢ place.1 = λ k. n (λ i. (same i, k i)) in
     subst (λ j. get (new j) q.1 ≡ get (maps j) q.1) (sym same)
     (ap (λ (m : Map). get m q.1) e ∙ get-write_other nat_list_cmp_total bytes_same (maps place.0) place.1 (Some value) q.1 other))
+    (λ far. ap (λ (m : Map). get m q.1) (others q.0 far))
+
+pub stored_gone : (maps new : ℕ → Map) (place : Place) → new place.0 ≡ remove (maps place.0) place.1 → stored_at new place ≡ None
+stored_gone maps new place e = ap (λ (m : Map). get m place.1) e ∙ get-write_same nat_list_cmp_total bytes_same (maps place.0) place.1 None
+
+pub stored_away : (maps new : ℕ → Map) (place q : Place) → new place.0 ≡ remove (maps place.0) place.1 → ((i : ℕ) → i ≢ place.0 → new i ≡ maps i) → q ≢ place → stored_at new q ≡ stored_at maps q
+stored_away maps new place q e others n = by_session q.0 place.0
+    (λ same.
+    let other : q.1 ≢ place.1 = λ k. n (λ i. (same i, k i)) in
+    subst (λ j. get (new j) q.1 ≡ get (maps j) q.1) (sym same)
+    (ap (λ (m : Map). get m q.1) e ∙ get-write_other nat_list_cmp_total bytes_same (maps place.0) place.1 None q.1 other))
     (λ far. ap (λ (m : Map). get m q.1) (others q.0 far))
 
 pub copied_some : (o : Option (Bor (List ℕ))) (stored : Option (List ℕ)) → option_copied o ≡ stored → is_some o ≡ true → stored ≡ None → ⊥
@@ -212,25 +235,15 @@ opened_state rows new place stored w row found pays none changes st is kept =
       absent = kept.absent;
     }
 
-pub kept_state : (rows new : OpenRows) (place : Place) (stored : Option (List ℕ)) (w : ℕ) (row after : OpenRow) (pays : Pays) → row_at rows place ≡ Some row → ChangesRow place after rows new → Keeps row after
+pub kept_state : (rows new : OpenRows) (place : Place) (stored : Option (List ℕ)) (w : ℕ) (s : ℕ) (row after : OpenRow) (pays : Pays) → row_at rows place ≡ Some row → ChangesRow place after rows new → Keeps s row after
     → StandsFor (row_at rows place) stored w pays → StandsFor (row_at new place) stored w pays
-kept_state rows new place stored w row after pays there changes keeps kept = record {
+kept_state rows new place stored w s row after pays there changes keeps kept = record {
   numbers = kept.numbers;
   has = kept.has;
   row = subst (λ o. IfSome o (λ r. RowStands r kept.numbers pays)) (sym changes.here) (keeps.stands kept.numbers pays (row_of (row_at rows place) row kept.numbers pays there kept.row));
   closed = λ e. absurd (not_both (row_at new place) after changes.here e);
   absent = kept.absent;
 }
-
--- the same by what a call on the rows told
-pub kept_at : (inside rows new : OpenRows) (d : GroupDelta) (group : List ℕ) (stored : Option (List ℕ)) (w : ℕ) (pays : Pays) → inside ≡ rows → group ≡ d.group
-    → ((r : OpenRow) → row_at inside (d.view, group) ≡ Some r → (after : OpenRow) × ChangesRow (d.view, group) after inside new × Keeps r after)
-    → IsSome (row_at rows (place_of d)) → StandsFor (row_at rows (place_of d)) stored w pays → StandsFor (row_at new (place_of d)) stored w pays
-kept_at inside rows new d group stored w pays i e f there kept =
-    let seat = some_of (row_at rows (place_of d)) there in
-    let told = subst (λ (l : OpenRows). (r : OpenRow) → row_at l (place_of d) ≡ Some r → (after : OpenRow) × ChangesRow (place_of d) after l new × Keeps r after) i
-    (subst (λ (k : List ℕ). (r : OpenRow) → row_at inside (d.view, k) ≡ Some r → (after : OpenRow) × ChangesRow (d.view, k) after inside new × Keeps r after) e f) seat.0 seat.1 in
-    kept_state rows new (place_of d) stored w seat.0 told.0 pays seat.1 told.1 told.2 kept
 
 pub not_there : {A : Type 0} (o : Option A) → (IsSome o → ⊥) → o ≡ None
 not_there None f = refl
@@ -239,6 +252,17 @@ not_there (Some x) f = absurd (f refl)
 pub copied_none : (o : Option (Bor OpenRow)) (r : Option OpenRow) → option_copied o ≡ r → is_some o ≡ false → r ≡ None
 copied_none None r e h = sym e
 copied_none (Some b) r e h = absurd (true≢false h)
+
+pub copied_there : (o : Option (Bor OpenRow)) (r : Option OpenRow) → option_copied o ≡ r → is_some o ≡ true → IsSome r
+copied_there None r e h = absurd (true≢false (sym h))
+copied_there (Some b) r e h = subst IsSome e refl
+
+-- what a call that gives room told, at the place of a delta
+pub given_at : (rows new : OpenRows) (d : GroupDelta) (group : List ℕ) (s : ℕ) (row : OpenRow) → group ≡ d.group
+    → ((r : OpenRow) → row_at rows (d.view, group) ≡ Some r → (after : OpenRow) × ChangesRow (d.view, group) after rows new × Keeps s r after)
+    → row_at rows (place_of d) ≡ Some row → (after : OpenRow) × ChangesRow (place_of d) after rows new × Keeps s row after
+given_at rows new d group s row e f there =
+    subst (λ (k : List ℕ). (r : OpenRow) → row_at rows (d.view, k) ≡ Some r → (after : OpenRow) × ChangesRow (d.view, k) after rows new × Keeps s r after) e f row there
 
 pub changed_as : (inside rows new : OpenRows) (d : GroupDelta) (group : List ℕ) (row : OpenRow) → inside ≡ rows → group ≡ d.group → ChangesRow (d.view, group) row inside new → ChangesRow (place_of d) row rows new
 changed_as inside rows new d group row i e changes =

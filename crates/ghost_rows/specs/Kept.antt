@@ -121,12 +121,18 @@ pub record CanPay (session : ℕ) (d : GroupDelta) (row : OpenRow) : Type 0 wher
   pub many : length numbers ≡ width d
   pub stands : RowStands row numbers pays
 
+-- the same sessions have room in it, and the same count is committed
+pub record IsAsBefore (old new : OpenRow) : Type 0 where
+  pub room : (other : ℕ) → IsSome (sum_at old.shares other) → IsSome (sum_at new.shares other)
+  pub only : (other : ℕ) → IsSome (sum_at new.shares other) → IsSome (sum_at old.shares other)
+  pub committed : new.committed ≡ old.committed
+
 -- one more pay is kept; the prefixes before it are answered
 pub record IsPaid (session : ℕ) (d : GroupDelta) (before : List Prefix) (old new : OpenRow) : Type 0 where
   pub stands : (numbers : List ℤ) (pays : Pays) → RowStands old numbers pays → RowStands new (moved false 0 numbers d) (with_pays pays session (d ∷ pays session))
   pub allowed : (numbers : List ℤ) (pays : Pays) → RowStands old numbers pays → IsAllowedIn (committed_at old) pays session d (length numbers)
   pub before_is : (numbers : List ℤ) (pays : Pays) → RowStands old numbers pays → ArePrefixes before (length numbers) (pays session)
-  pub room : (other : ℕ) → IsSome (sum_at old.shares other) → IsSome (sum_at new.shares other)
+  pub same : IsAsBefore old new
 
 -- the delta is refused, with the first column that does and its bounds
 abbrev pub Refuses : ℕ → GroupDelta → OpenRow → ℕ → ℤ → ℤ → Type 0
@@ -144,9 +150,11 @@ pub record CanTakeBack (session : ℕ) (d : GroupDelta) (before : List Prefix) (
 pub record IsTaken (session : ℕ) (d : GroupDelta) (before : List Prefix) (old new : OpenRow) : Type 0 where
   pub stands : (numbers : List ℤ) (pays : Pays) (earlier : List GroupDelta) → RowStands old numbers pays → pays session ≡ d ∷ earlier
       → ArePrefixes before (length numbers) earlier → RowStands new (moved true 0 numbers d) (with_pays pays session earlier)
-  pub room : (other : ℕ) → IsSome (sum_at old.shares other) → IsSome (sum_at new.shares other)
+  pub same : IsAsBefore old new
 
--- it stands for what it stood for, and has all the room that it had
-pub record Keeps (old new : OpenRow) : Type 0 where
+-- it stands for what it stood for, and of all sessions this one alone may have got room
+pub record Keeps (session : ℕ) (old new : OpenRow) : Type 0 where
   pub stands : (numbers : List ℤ) (pays : Pays) → RowStands old numbers pays → RowStands new numbers pays
   pub room : (other : ℕ) → IsSome (sum_at old.shares other) → IsSome (sum_at new.shares other)
+  pub only : (other : ℕ) → other ≢ session → IsSome (sum_at new.shares other) → IsSome (sum_at old.shares other)
+  pub committed : new.committed ≡ old.committed

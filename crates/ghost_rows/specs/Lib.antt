@@ -1,7 +1,9 @@
 pub mod Numbers
 pub mod Buffers
 pub mod Shares
+pub mod Candidates
 pub mod Rows
 pub mod Kept
 pub mod State
+pub mod Ghosts
 pub mod Reading

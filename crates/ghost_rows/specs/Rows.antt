@@ -1,11 +1,11 @@
 -- No clause of `run` rests on this module: it serves contracts between crates.
 --
 -- The rows that open transactions pay to, as they are kept in memory.
-use Rattle.std.specs.Prelude.{◌≡◌, ◌≢◌, ℕ, ◌<◌, ◌==◌, ℤ, Bool, true, false, List, [], ◌∷◌, length, map, filter, not, slice_get, slice_set, slice_index_or, T, Option, Some, None, IsSome, refl, if◌then◌else◌}
+use Rattle.std.specs.Prelude.{◌≡◌, ◌≢◌, ℕ, ◌<◌, ◌==◌, ℤ, pos, Bool, true, false, List, [], ◌∷◌, map, filter, not, slice_get, get_or, Option, Some, None, IsSome, ◌⊎◌, refl, if◌then◌else◌}
 use Rattle.std.specs.Int.{w128, int_wrapping_add}
 use Rattle.std.specs.Option.{option_map}
+use Rattle.std.specs.List.{Contains}
 use Rattle.std.specs.Coded.{Coded, coded_ℤ, coded_ℕ, coded×, coded_list, code_by}
-use Rattle.std.specs.FinMap.{find, is_sorted}
 use Rattle.std.specs.FinMap as finite
 use Rattle.iv_types.specs.declared.lock.GroupDelta.{GroupDelta}
 use Rattle.iv_types.specs.contracts.lock.Prefix as prefix
@@ -16,6 +16,7 @@ use Rattle.escrow_bounds.specs.Column.{Column, IsReserved, part, with_part, adde
 use Rattle.escrow_bounds.specs.declared.escrow.Range.{Range}
 use Rattle.ghost_rows.specs.declared.shares.Share.{Share}
 use Rattle.ghost_rows.specs.Shares.{sum_at}
+use Rattle.ghost_rows.specs.Candidates.{Places, IsAmong}
 
 -- a row that open transactions pay to, or may: its columns, its committed count, and what each session has added to it
 pub record OpenRow : Type 0 where
@@ -34,10 +35,16 @@ coded_row = code_by _ (coded× (coded_list coded_column) (coded× coded_ℤ (cod
 
 -- the rows at their places
 abbrev pub OpenRows : Type 0
-OpenRows = List (Place × OpenRow)
+OpenRows = finite.FinMap place_cmp OpenRow
+
+abbrev pub no_rows : OpenRows
+no_rows = finite.empty
+
+abbrev pub coded_rows : Coded OpenRows
+coded_rows = finite.code (coded× coded_ℕ (coded_list coded_ℕ)) coded_row
 
 abbrev pub row_at : OpenRows → Place → Option OpenRow
-row_at rows place = find place_cmp place rows
+row_at rows place = finite.get rows place
 
 -- the session has room in the row
 abbrev pub HasRoom : ℕ → OpenRow → Type 0
@@ -105,15 +112,39 @@ pub record ChangesRow (place : Place) (row : OpenRow) (old new : OpenRows) : Typ
   pub here : row_at new place ≡ Some row
   pub others : (q : Place) → q ≢ place → row_at new q ≡ row_at old q
 
--- the row of a place stands here among the rows
-pub record IsFoundAt (rows : OpenRows) (place : Place) (at : ℕ) : Type 0 where
-  pub within : at < length rows
-  pub found : (d : Place × OpenRow) → row_at rows place ≡ Some (slice_index_or rows at d).1
-  pub put : (row : OpenRow) (d : Place × OpenRow) → ChangesRow place row rows (slice_set rows at ((slice_index_or rows at d).0, row))
-  pub sorted : (row : OpenRow) (d : Place × OpenRow) → T (is_sorted place_cmp (slice_set rows at ((slice_index_or rows at d).0, row)))
+-- ---- seats
 
-abbrev pub coded_rows : Coded OpenRows
-coded_rows = coded_list (coded× (coded× coded_ℕ (coded_list coded_ℕ)) coded_row)
+-- a session has room in each row
+abbrev pub AreOpen : OpenRows → Type 0
+AreOpen rows = (place : Place) (row : OpenRow) → row_at rows place ≡ Some row → is_open row ≡ true
 
-abbrev pub settled_entry : ℕ → Place × OpenRow → Place × OpenRow
-settled_entry session e = (e.0, settled_row session e.1)
+-- the session has room in the row of a place
+abbrev pub IsSeated : OpenRows → Place → ℕ → Type 0
+IsSeated rows place session = (row : OpenRow) × (row_at rows place ≡ Some row) × HasRoom session row
+
+-- each session's list has each place at which it has room
+abbrev pub AreSeated : OpenRows → List (List Place) → Type 0
+AreSeated rows seats = (session : ℕ) (place : Place) → IsSeated rows place session → Contains (get_or seats session []) place
+
+-- at one place, this session alone may have got room
+pub record GivesRoom (session : ℕ) (place : Place) (old new : OpenRows) : Type 0 where
+  pub others : (q : Place) → q ≢ place → row_at new q ≡ row_at old q
+  pub room : (s : ℕ) → IsSeated old place s → IsSeated new place s
+  pub only : (s : ℕ) → s ≢ session → IsSeated new place s → IsSeated old place s
+  pub still : AreOpen old → AreOpen new
+
+-- the session has settled the row of a place, which is among the candidates if its committed count is 0 then
+pub record IsSettledAt (session : ℕ) (place : Place) (old new : OpenRows) (before after : Places) : Type 0 where
+  pub row : row_at new place ≡ settled_at session (row_at old place)
+  pub ghost : (row : OpenRow) → row_at old place ≡ Some row → (settled_row session row).committed ≡ pos 0 → IsAmong after place
+  pub other : row_at old place ≡ None → finite.get after place ≡ finite.get before place
+
+-- the row of a place is as it was, and so is the place among the candidates
+pub record IsLeftAt (place : Place) (old new : OpenRows) (before after : Places) : Type 0 where
+  pub row : row_at new place ≡ row_at old place
+  pub candidate : finite.get after place ≡ finite.get before place
+
+-- the session has settled the rows of these places, and all else stays
+abbrev pub AreSettled : ℕ → List Place → OpenRows → OpenRows → Places → Places → Type 0
+AreSettled session places old new before after =
+    (q : Place) → IsSettledAt session q old new before after ⊎ IsLeftAt q old new before after × (Contains places q → ⊥)

@@ -10,17 +10,20 @@ use Rattle.table_laws.specs.Place.{Place}
 use Rattle.txn_machine.specs.Deltas.{place_of}
 use Rattle.ghost_rows.specs.Shares.{sum_at}
 use Rattle.ghost_rows.specs.Rows.{OpenRow, OpenRows, row_at, coded_rows}
+use Rattle.ghost_rows.specs.Candidates.{Places, coded_places}
 use Rattle.ghost_rows.specs.Kept.{Pays, width, StandsFor, IsRefusedAt, committed_at}
 use Rattle.ghost_rows.specs.declared.view_rows.PayRefusal.{PayRefusal}
 use Rattle.ghost_rows.specs.declared.view_rows.PayRefusal.TheVariants.{Absent, Escrow}
 
--- the rows that open transactions pay to, and for how many values of stored rows each session has buffers
+-- The rows that open transactions pay to, for how many values of stored rows each session has buffers, and where ghosts are
+-- looked for.
 pub record State : Type 0 where
   pub rows : OpenRows
   pub rooms : List ℕ
+  pub candidates : Places
 
 abbrev pub coded_state : Coded State
-coded_state = code_by _ (coded× coded_rows (coded_list coded_ℕ)) (λ s. (s.rows, s.rooms)) (λ p. record { rows = p.0; rooms = p.1 }) (λ _. refl)
+coded_state = code_by _ (coded× coded_rows (coded× (coded_list coded_ℕ) coded_places)) (λ s. (s.rows, (s.rooms, s.candidates))) (λ p. record { rows = p.0; rooms = p.1.0; candidates = p.1.1 }) (λ _. refl)
 
 abbrev pub room_of : State → ℕ → ℕ
 room_of state session = get_or state.rooms session 0

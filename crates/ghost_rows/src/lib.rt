@@ -8,10 +8,15 @@
 //! `specs/Kept` says for which kept pays the stored rows stand.
 #![tactic(auto)]
 
+mod candidates;
+mod ghosts;
 pub mod numbers;
+mod opening;
 mod pool;
 mod reading;
 mod row;
+mod seats;
+mod settling;
 mod shares;
 mod table;
 mod view_rows;

@@ -1,5 +1,5 @@
 //! The numbers of a stored row: the count and the sums, each of 16 bytes.
-ghost use Rattle.std.specs.Prelude.{◌≡◌, ◌+◌, ◌*◌, ◌<◌, ◌≤◌, ◌++◌, ◌+ℤ◌, neg_ℤ, ℕ, ℤ, List, length, get_or, pos, FitsSigned, IfOk, if◌then◌else◌, vec_capacity, vec_len};
+ghost use Rattle.std.specs.Prelude.{◌≡◌, ◌+◌, ◌*◌, ◌<◌, ◌≤◌, ◌++◌, ◌+ℤ◌, neg_ℤ, ℕ, ℤ, List, length, get_or, pos, FitsSigned, IfOk, OnOk, if◌then◌else◌, vec_capacity, vec_len};
 ghost use Rattle.std.specs.Int.{w128, int_wrapping_add};
 ghost use Rattle.std.specs.List.{AllByRecursion};
 ghost use Rattle.iv_types.specs.declared.value.Kind.TheVariants.{Huge};
@@ -7,10 +7,19 @@ ghost use Rattle.iv_types.specs.declared.value.Value.TheVariants.{Number};
 ghost use Rattle.iv_types.specs.Encoding.{value_bytes, IsHuge};
 ghost use Rattle.txn_machine.specs.Deltas.{worth};
 ghost use Rattle.ghost_rows.specs.Numbers.{numbers_bytes, moved, Fits128};
+ghost use Rattle.ghost_rows.specs.Kept.{width, IsDelta};
 
 use byteorder::{BigEndian, ByteOrder};
-use iv_types::{GroupDelta, NoMemory};
+use iv_types::{Bytes, GroupDelta, NoMemory};
 use std::alloc::Global;
+
+/// How many numbers a row of the delta's view has.
+pub fn width(delta: &GroupDelta) -> usize
+    requires { IsDelta delta.now }
+    ensures { result ≡ width delta.now }
+{
+    delta.sums.as_slice().len() + 1
+}
 
 /// What a delta adds to a column; the count is column 0, and the sums are those behind it.
 pub fn worth(delta: &GroupDelta, column: usize) -> i128
@@ -48,6 +57,35 @@ pub fn put(out: &mut Vec<u8>, number: i128)
         Ok(()) => {}
         Err(_) => unreachable!(),
     }
+}
+
+/// Adds the bytes of a number.
+///
+/// # Errors
+///
+/// Where there is no memory for them.
+pub fn push(out: &mut Vec<u8>, number: i128) -> Result<(), NoMemory>
+    ensures { OnOk result (out.new.items ≡ out.old.items ++ value_bytes Huge (Number number)) }
+{
+    let mut bytes = [0; 16];
+    BigEndian::write_i128(&mut bytes, number);
+    out.extend_from_slice(&bytes)?;
+    Ok(())
+}
+
+/// The bytes of a stored row with these numbers.
+///
+/// # Errors
+///
+/// Where there is no memory for them.
+pub fn bytes_of(alloc: Global, numbers: &[i128]) -> Result<Bytes, NoMemory>
+    ensures { IfOk result (λ bytes. bytes ≡ numbers_bytes numbers.now) }
+{
+    let mut out = Vec::new(alloc);
+    for index in 0..numbers.len() {
+        push(&mut out, numbers[index])?;
+    }
+    Ok(Bytes::from_vec(out))
 }
 
 // A number with a step added to it, or taken back.

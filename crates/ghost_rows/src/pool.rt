@@ -1,5 +1,5 @@
 //! Buffers for values of stored rows, made ahead.
-ghost use Rattle.std.specs.Prelude.{◌≡◌, ◌+◌, ◌≤◌, [], OnOk, OnErr, vec_capacity};
+ghost use Rattle.std.specs.Prelude.{◌≡◌, ◌+◌, ◌≤◌, [], length, IfOk, OnOk, OnErr, vec_capacity};
 
 use iv_types::NoMemory;
 use std::alloc::Global;
@@ -7,6 +7,9 @@ use std::marker::Model;
 
 /// The most bytes of a stored row: a count and eight sums of 16 bytes each.
 pub const MOST_BYTES: usize = 144;
+
+// The sessions are 1 to 64.
+const POOLS: usize = 65;
 
 /// Empty buffers, each with room for a stored row. Contracts see how many there are.
 #[derive(Drop)]
@@ -59,4 +62,19 @@ impl Pool {
     {
         self.buffers.pop().unwrap()
     }
+}
+
+/// No buffers for any session.
+///
+/// # Errors
+///
+/// Where there is no memory for it.
+pub fn no_buffers(alloc: Global) -> Result<Vec<Pool>, NoMemory>
+    ensures { IfOk result (λ pools. length pools.items ≡ 65) }
+{
+    let mut pools = Vec::new(alloc);
+    for _index in 0..POOLS {
+        pools.push(Pool::new(alloc))?;
+    }
+    Ok(pools)
 }

@@ -14,6 +14,7 @@ use crate::numbers::{total, worth};
 use crate::shares::{Share, remove, set, sum_at};
 use escrow_bounds::{Escrow, Range};
 use iv_types::{GroupDelta, NoMemory, Prefix, PrefixList};
+use spare_map::Blank;
 use std::alloc::Global;
 use std::marker::Model;
 
@@ -203,11 +204,21 @@ impl Model for Row {
     ghost view = { λ r. record { columns = r.columns.items; committed = r.committed; shares = r.shares.items } };
 }
 
+impl Blank for Row {
+    fn blank(alloc: Global) -> Self {
+        Row {
+            columns: Vec::new(alloc),
+            committed: 0,
+            shares: Vec::new(alloc),
+        }
+    }
+}
+
 impl Row {
     ghost use Rattle.ghost_rows.specs.Rows.{HasRoom, settled_row, is_open};
     ghost use Rattle.ghost_rows.specs.Shares.{sum_at};
     ghost use Rattle.ghost_rows.specs.Numbers.{moved};
-    ghost use Rattle.ghost_rows.specs.Kept.{Pays, no_pays, with_pays, increments, width, IsDelta, RowStands, IsRefusedAt, IsPaidLast, ArePrefixes, committed_at, IsAllowedIn, AllCount, IsUnpaid};
+    ghost use Rattle.ghost_rows.specs.Kept.{Pays, no_pays, with_pays, increments, width, IsDelta, RowStands, IsRefusedAt, IsPaidLast, ArePrefixes, committed_at, IsAllowedIn, AllCount, IsUnpaid, IsAsBefore, Keeps};
 
     /// A row without open transactions, whose numbers are these.
     ///
@@ -217,6 +228,7 @@ impl Row {
     pub fn new(alloc: Global, numbers: &[i128]) -> Result<Row, NoMemory>
         requires { AllByRecursion IsHuge numbers.now }
         ensures stands { IfOk result (λ row. RowStands row numbers.now no_pays) }
+        ensures shares { IfOk result (λ row. row.shares ≡ []) }
     {
         let columns = columns_of(alloc, numbers)?;
         let committed = first_number(numbers);
@@ -234,9 +246,8 @@ impl Row {
     /// Where there is no memory for it. The row stands for what it stood for.
     pub fn reserve(&mut self, session: u32) -> Result<(), NoMemory>
         requires { IsSession session }
-        ensures stands { (numbers : List ℤ) (pays : Pays) → RowStands self.old numbers pays → RowStands self.new numbers pays }
         ensures room { OnOk result (HasRoom session self.new) }
-        ensures kept { (other : ℕ) → HasRoom other self.old → HasRoom other self.new }
+        ensures keeps { Keeps session self.old self.new }
     {
         reserve_all(&mut self.columns, session)?;
         if sum_at(&self.shares, session).is_none() {
@@ -262,7 +273,7 @@ impl Row {
         ensures refused { IfErr result (λ e. (numbers : List ℤ) (pays : Pays) → length numbers ≡ width delta.now → RowStands self.old numbers pays
             → IsRefusedAt (committed_at self.old) pays session delta.now e.0 e.1.inf e.1.sup) }
         ensures err { OnErr result (self.new ≡ self.old) }
-        ensures kept { (other : ℕ) → HasRoom other self.old → HasRoom other self.new }
+        ensures same { IsAsBefore self.old self.new }
     {
         if let Some(found) = first_refused(&mut self.columns, session, delta) {
             return Err(found);
@@ -279,7 +290,7 @@ impl Row {
         requires latest { (numbers : List ℤ) × (pays : Pays) × (length numbers ≡ width delta.now) × RowStands self.old numbers pays × IsPaidLast pays session delta.now before.now }
         ensures taken { (numbers : List ℤ) (pays : Pays) (earlier : List GroupDelta) → RowStands self.old numbers pays → pays session ≡ delta.now ∷ earlier
             → ArePrefixes before.now (length numbers) earlier → RowStands self.new (moved true 0 numbers delta.now) (with_pays pays session earlier) }
-        ensures kept { (other : ℕ) → HasRoom other self.old → HasRoom other self.new }
+        ensures same { IsAsBefore self.old self.new }
     {
         take_back_all(&mut self.columns, session, before);
         set(&mut self.shares, share_before(session, before));
@@ -299,6 +310,13 @@ impl Row {
     }
 
     /// Whether a session has room in the row.
+    pub fn has_room(&self, session: u32) -> bool
+        ensures { result ≡ true → HasRoom session self.now }
+    {
+        sum_at(&self.shares, session).is_some()
+    }
+
+    /// Whether any session has room in the row.
     pub fn is_open(&self) -> bool
         ensures { result ≡ is_open self.now }
     {
@@ -313,6 +331,21 @@ impl Row {
             Some(count) => is_sure(count),
             None => true,
         }
+    }
+
+    /// The committed numbers: the count and the sums.
+    ///
+    /// # Errors
+    ///
+    /// Where there is no memory for them.
+    pub fn committed_numbers(&self, alloc: Global) -> Result<Vec<i128>, NoMemory>
+        ensures { IfOk result (λ found. found.items ≡ map (λ c. c.committed) self.now.columns) }
+    {
+        let mut found = Vec::new(alloc);
+        for index in 0..self.columns.len() {
+            found.push(self.columns[index].committed())?;
+        }
+        Ok(found)
     }
 
     /// The committed count.

@@ -1,6 +1,6 @@
 //! The stored rows of views, and what open transactions have paid to them.
 ghost use Rattle.std.specs.Int.{w128};
-ghost use Rattle.std.specs.Prelude.{FitsSigned, get_or, suc, replicate, ◌≡◌, ◌≢◌, ◌<◌, ◌≤◌, ◌+◌, ◌*◌, ◌↔◌, ℕ, ℤ, pos, List, [], ◌∷◌, length, Option, false, true, Some, None, Ok, Err, IsSome, IsTrue, IfOk, IfErr, IfSome, OnOk, OnErr, vec_len, vec_capacity};
+ghost use Rattle.std.specs.Prelude.{FitsSigned, get_or, suc, ◌≡◌, ◌≢◌, ◌<◌, ◌≤◌, ◌+◌, ◌*◌, ◌↔◌, ℕ, ℤ, pos, List, [], ◌∷◌, length, Option, false, true, Some, None, Ok, Err, IsSome, IsTrue, IfOk, IfErr, IfSome, OnOk, OnErr, vec_len, vec_capacity};
 ghost use Rattle.std.specs.Option.{option_copied};
 ghost use Rattle.iv_types.specs.Maps.{Map};
 ghost use Rattle.iv_meaning.specs.Escrow.{IsSession};
@@ -11,19 +11,22 @@ ghost use Rattle.ghost_rows.specs.Reading.{AreViewRows, Shows};
 ghost use Rattle.txn_machine.specs.Deltas.{place_of};
 ghost use Rattle.ghost_rows.specs.Numbers.{numbers_bytes, moved, Fits128};
 ghost use Rattle.ghost_rows.specs.State.{stored_at, CanStore, StoresOnlyAt};
-ghost use Rattle.ghost_rows.specs.Kept.{width, IsDelta, HasNumbers};
+ghost use Rattle.ghost_rows.specs.Kept.{width, IsDelta};
+ghost use Rattle.ghost_rows.specs.Candidates.{no_places};
+ghost use Rattle.ghost_rows.specs.Ghosts.{IsListed, StayListed};
 
-use crate::numbers::{front, numbers_of, put_moved};
-use crate::pool::Pool;
+use crate::candidates::Candidates;
+use crate::numbers::{put_moved, width};
+use crate::opening::seat_in;
+use crate::pool::{Pool, no_buffers};
 use crate::reading::rows_between;
-use crate::row::Row;
+use crate::seats::{Seat, SeatList, no_seats};
+use crate::settling::settle_each;
 use crate::table::Table;
 use iv_types::{Bytes, GroupDelta, Interval, NoMemory, PrefixList, SortedMaps, ViewRowList};
 use std::alloc::Global;
 use std::marker::Model;
-
-// The sessions are 1 to 64.
-const POOLS: usize = 65;
+use std::mem;
 
 /// Why a pay was refused.
 #[derive(Clone, Copy, Debug, PartialEq, Eq)]
@@ -32,14 +35,6 @@ pub enum PayRefusal {
     Absent,
     /// The first column that refuses the delta, counted from 0 with the count first, and its bounds before the delta.
     Escrow { column: u32, inf: i128, sup: i128 },
-}
-
-// How many numbers a row of the delta's view has.
-fn width(delta: &GroupDelta) -> usize
-    requires { IsDelta delta.now }
-    ensures { result ≡ width delta.now }
-{
-    delta.sums.as_slice().len() + 1
 }
 
 // The value of a stored row with a delta added to it, or taken back, in a buffer that was made for it.
@@ -79,60 +74,35 @@ fn store_moved<M: SortedMaps>(maps: &mut M, buffer: Vec<u8>, delta: &GroupDelta,
     maps.replace(delta.view, delta.group.as_slice(), value);
 }
 
-// The same bytes again.
-fn copy_of(alloc: Global, bytes: &Bytes) -> Result<Bytes, NoMemory>
-    ensures { IfOk result (λ copy. copy ≡ bytes.now) }
-{
-    Ok(Bytes::from_vec(Vec::from_slice(alloc, bytes.as_slice())?))
-}
-
-// So many zeros.
-fn zeros(alloc: Global, many: usize) -> Result<Vec<i128>, NoMemory>
-    ensures { IfOk result (λ found. found.items ≡ replicate many (pos 0)) }
-{
-    Ok(vec![in alloc; 0; many]?)
-}
-
-// The numbers that a row begins with: zeros where it is absent.
-fn numbers_at<M: SortedMaps>(
-    alloc: Global,
-    maps: &M,
-    delta: &GroupDelta,
-) -> Result<Vec<i128>, NoMemory>
-    requires delta { IsDelta delta.now }
-    requires stored { (numbers : List ℤ) × HasNumbers (stored_at (M.maps maps.now) (place_of delta.now)) (width delta.now) numbers }
-    ensures { IfOk result (λ found. (numbers : List ℤ) → HasNumbers (stored_at (M.maps maps.now) (place_of delta.now)) (width delta.now) numbers → found.items ≡ numbers) }
-{
-    match maps.get(delta.view, delta.group.as_slice()) {
-        Some(stored) => numbers_of(alloc, stored, width(delta)),
-        None => zeros(alloc, width(delta)),
-    }
-}
-
 /// What open transactions have paid to stored rows of views: for each row the escrow of its columns, and for each session
 /// the buffers that its further pays and their taking back need.
 #[derive(Drop)]
 pub struct ViewRows {
-    alloc: Global,
-    rows: Table,
+    pub(crate) alloc: Global,
+    pub(crate) rows: Table,
     pools: Vec<Pool>,
+    // Where each session has room in a row.
+    seats: Vec<SeatList>,
+    // Where ghosts are looked for.
+    pub(crate) candidates: Candidates,
 }
 
 impl Model for ViewRows {
     ghost use Rattle.std.specs.Prelude.{◌≡◌, length};
+    ghost use Rattle.ghost_rows.specs.Rows.{AreOpen, AreSeated};
     ghost use Rattle.ghost_rows.specs.State.{State, coded_state};
 
     ghost Value = { State };
 
     ghost coded = { coded_state };
 
-    ghost view = { λ v. record { rows = v.rows; rooms = v.pools.items } };
+    ghost view = { λ v. record { rows = v.rows; rooms = v.pools.items; candidates = v.candidates } };
 
-    ghost invariant = { λ v. length v.pools.items ≡ 65 };
+    ghost invariant = { λ v. (length v.pools.items ≡ 65) × (length v.seats.items ≡ 65) × AreOpen v.rows × AreSeated v.rows v.seats.items };
 }
 
 impl ViewRows {
-    ghost use Rattle.ghost_rows.specs.Rows.{row_at, settled_at, OpenRow};
+    ghost use Rattle.ghost_rows.specs.Rows.{no_rows, row_at, settled_at, OpenRow};
     ghost use Rattle.ghost_rows.specs.State.{State, room_of, AreKept, HasSeat, IsReady, OnlyAt, IsRefusal, MovesRoom};
     ghost use Rattle.iv_meaning.specs.Escrow.{value};
     ghost use Rattle.ghost_rows.specs.Kept.{account, Pays, with_pays, ArePrefixes, IsAllowedIn, IsPaidLast, committed_at, AllCount, IsUnpaid, StandsFor};
@@ -170,6 +140,8 @@ impl ViewRows {
         ensures spare { (i : ℕ) → M.spare maps.old i ≤ M.spare maps.new i }
         ensures seats { (s : ℕ) → HasSeat self.old (place_of delta.now) s → HasSeat self.new (place_of delta.now) s }
         ensures limit { M.limit maps.new ≡ M.limit maps.old }
+        ensures candidates { self.new.candidates ≡ self.old.candidates }
+        ensures listed { StayListed self.old (M.maps maps.old) self.new (M.maps maps.new) }
     {
         if maps.get(delta.view, delta.group.as_slice()).is_none() {
             return Err(PayRefusal::Absent);
@@ -211,6 +183,8 @@ impl ViewRows {
         ensures spare { (i : ℕ) → M.spare maps.old i ≤ M.spare maps.new i }
         ensures seats { (s : ℕ) → HasSeat self.old (place_of delta.now) s → HasSeat self.new (place_of delta.now) s }
         ensures limit { M.limit maps.new ≡ M.limit maps.old }
+        ensures candidates { self.new.candidates ≡ self.old.candidates }
+        ensures listed { StayListed self.old (M.maps maps.old) self.new (M.maps maps.new) }
     {
         let group = delta.group.as_slice();
         self.rows
@@ -225,16 +199,17 @@ impl ViewRows {
     ///
     /// Where there is no memory for it.
     pub fn new(alloc: Global) -> Result<ViewRows, NoMemory>
-        ensures { IfOk result (λ rows. rows.rows ≡ []) }
+        ensures rows { IfOk result (λ rows. rows.rows ≡ no_rows) }
+        ensures candidates { IfOk result (λ rows. rows.candidates ≡ no_places) }
     {
-        let mut pools = Vec::new(alloc);
-        for _index in 0..POOLS {
-            pools.push(Pool::new(alloc))?;
-        }
+        let pools = no_buffers(alloc)?;
+        let seats = no_seats(alloc)?;
         Ok(ViewRows {
             alloc,
             rows: Table::new(alloc),
             pools,
+            seats,
+            candidates: Candidates::new(alloc),
         })
     }
 
@@ -245,30 +220,35 @@ impl ViewRows {
         ensures kept { (maps : ℕ → Map) (place : Place) (many : ℕ) (pays : Pays) → AreKept self.old maps place (suc many) pays → AreKept self.new maps place (suc many) (with_pays pays session []) }
         ensures rooms { (s : ℕ) → s ≢ session → room_of self.new s ≡ room_of self.old s }
         ensures gone { room_of self.new session ≡ 0 }
+        ensures listed { (maps : ℕ → Map) (place : Place) (many : ℕ) (pays : Pays) → AreKept self.old maps place (suc many) pays → IsListed self.old maps place → IsListed self.new maps place }
     {
-        self.rows.settle(session);
+        let seats = mem::replace(&mut self.seats[session as usize], SeatList::new(self.alloc));
+        settle_each(&mut self.rows, &mut self.candidates, seats, session);
         self.pools[session as usize] = Pool::new(self.alloc);
     }
 
-    // Makes the row of a delta in memory, if it is not there.
-    fn open<M: SortedMaps>(&mut self, maps: &M, delta: &GroupDelta) -> Result<(), NoMemory>
+    // Gives the session room in the row of a delta, in which it has none.
+    fn sit<M: SortedMaps>(
+        &mut self,
+        maps: &M,
+        delta: &GroupDelta,
+        session: u32,
+    ) -> Result<(), NoMemory>
+        requires session { IsSession session }
         requires delta { IsDelta delta.now }
         requires kept { (pays : Pays) × AreKept self.old (M.maps maps.now) (place_of delta.now) (width delta.now) pays }
         ensures kept { (pays : Pays) → AreKept self.old (M.maps maps.now) (place_of delta.now) (width delta.now) pays
             → AreKept self.new (M.maps maps.now) (place_of delta.now) (width delta.now) pays }
-        ensures there { OnOk result (IsSome (row_at self.new.rows (place_of delta.now))) }
+        ensures seat { OnOk result (HasSeat self.new (place_of delta.now) session) }
         ensures others { OnlyAt (place_of delta.now) self.old self.new }
         ensures seats { (s : ℕ) → HasSeat self.old (place_of delta.now) s → HasSeat self.new (place_of delta.now) s }
         ensures rooms { self.new.rooms ≡ self.old.rooms }
+        ensures candidates { self.new.candidates ≡ self.old.candidates }
+        ensures listed { StayListed self.old (M.maps maps.now) self.new (M.maps maps.now) }
     {
-        if self.rows.get(delta.view, delta.group.as_slice()).is_some() {
-            return Ok(());
-        }
-        let numbers = numbers_at(self.alloc, maps, delta)?;
-        let row = Row::new(self.alloc, &numbers)?;
-        let group = copy_of(self.alloc, &delta.group)?;
-        self.rows.insert(delta.view, group, row)?;
-        Ok(())
+        let seat = Seat::new(self.alloc, delta.view, delta.group.as_slice())?;
+        self.seats[session as usize].push(seat)?;
+        seat_in(&mut self.rows, self.alloc, maps, delta, session)
     }
 
     /// Makes all that one `pay` of the delta by the session and its `take_back` need.
@@ -292,10 +272,15 @@ impl ViewRows {
         ensures rooms { (s : ℕ) → room_of self.old s ≤ room_of self.new s }
         ensures others { OnlyAt (place_of delta.now) self.old self.new }
         ensures seats { (s : ℕ) → HasSeat self.old (place_of delta.now) s → HasSeat self.new (place_of delta.now) s }
+        ensures candidates { self.new.candidates ≡ self.old.candidates }
+        ensures listed { StayListed self.old (M.maps maps.now) self.new (M.maps maps.now) }
     {
-        self.open(maps, delta)?;
-        let group = delta.group.as_slice();
-        self.rows.reserve(delta.view, group, session)?;
+        if !self
+            .rows
+            .has_room(delta.view, delta.group.as_slice(), session)
+        {
+            self.sit(maps, delta, session)?;
+        }
         self.pools[session as usize].add(self.alloc)?;
         self.pools[session as usize].add(self.alloc)
     }
@@ -316,72 +301,5 @@ impl ViewRows {
         ensures { IfOk result (λ rows. Shows (between interval.now (map.entries (M.maps maps.now view))) rows) }
     {
         Ok(ViewRowList::from_vec(rows_between(self.alloc, maps, view, interval)?))
-    }
-
-    // The committed count of a row that is stored.
-    fn count_of(&self, view: u32, group: &[u8], stored: &[u8]) -> i128
-        requires { 16 ≤ length stored.now }
-        ensures here { (row : OpenRow) → row_at self.now.rows (view, group.now) ≡ Some row → result ≡ row.committed }
-        ensures closed { row_at self.now.rows (view, group.now) ≡ None → (n : ℤ) (ns : List ℤ) → FitsSigned w128 n → stored.now ≡ numbers_bytes (n ∷ ns) → result ≡ n }
-    {
-        match self.rows.get(view, group) {
-            Some(row) => row.committed(),
-            None => front(stored).0,
-        }
-    }
-
-    /// Whether a row is stored whose committed count is 0.
-    pub fn is_ghost<M: SortedMaps>(&self, maps: &M, view: u32, group: &[u8]) -> bool
-        requires { (many : ℕ) × (pays : Pays) × AreKept self.now (M.maps maps.now) (view, group.now) (suc many) pays }
-        ensures absent { stored_at (M.maps maps.now) (view, group.now) ≡ None → result ≡ false }
-        ensures count { (many : ℕ) (pays : Pays) (kept : AreKept self.now (M.maps maps.now) (view, group.now) (suc many) pays) (count : ℤ)
-            → value (account count 0 pays) ≡ get_or kept.numbers 0 (pos 0) → IsSome (stored_at (M.maps maps.now) (view, group.now)) → (result ≡ true) ↔ (count ≡ pos 0) }
-    {
-        match maps.get(view, group) {
-            Some(stored) => self.count_of(view, group, stored) == 0,
-            None => false,
-        }
-    }
-
-    // Whether no session has a kept pay on the row of a place. The count tells, where each kept pay adds to it or takes
-    // from it.
-    fn is_unpaid(&self, view: u32, group: &[u8]) -> bool
-        ensures { (stored : Option (List ℕ)) (many : ℕ) (pays : Pays) → StandsFor (row_at self.now.rows (view, group.now)) stored (suc many) pays
-            → AllCount pays → (result ≡ true) ↔ IsUnpaid pays }
-    {
-        match self.rows.get(view, group) {
-            Some(row) => row.is_unpaid(),
-            None => true,
-        }
-    }
-
-    /// Whether a row is stored whose committed count is 0, on which no session has a kept pay, which is not locked and has
-    /// no versions. Each kept pay adds 1 to the count or takes 1 from it.
-    pub fn cleanable<M: SortedMaps>(
-        &self,
-        maps: &M,
-        view: u32,
-        group: &[u8],
-        locked: bool,
-        versions: bool,
-    ) -> bool
-        requires { (many : ℕ) × (pays : Pays) × AreKept self.now (M.maps maps.now) (view, group.now) (suc many) pays }
-        ensures absent { stored_at (M.maps maps.now) (view, group.now) ≡ None → result ≡ false }
-        ensures only { result ≡ true → (locked ≡ false) × (versions ≡ false) }
-        ensures exact { locked ≡ false → versions ≡ false
-            → (many : ℕ) (pays : Pays) (kept : AreKept self.now (M.maps maps.now) (view, group.now) (suc many) pays) (count : ℤ)
-            → value (account count 0 pays) ≡ get_or kept.numbers 0 (pos 0) → IsSome (stored_at (M.maps maps.now) (view, group.now)) → AllCount pays
-            → (result ≡ true) ↔ ((count ≡ pos 0) × IsUnpaid pays) }
-    {
-        if locked {
-            return false;
-        }
-        if versions {
-            return false;
-        }
-        if !self.is_unpaid(view, group) {
-            return false;
-        }
-        self.is_ghost(maps, view, group)
     }
 }

@@ -1,3 +1,4 @@
 pub mod Lists
 pub mod Around
 pub mod Maps
+pub mod Firsts

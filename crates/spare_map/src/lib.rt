@@ -7,4 +7,4 @@ mod map;
 mod search;
 mod tree;
 
-pub use map::{Blank, SpareMap};
+pub use map::{Blank, Spare, SpareMap};

@@ -29,6 +29,28 @@ impl<T: Drop> Blank for Option<T> {
     }
 }
 
+impl Blank for () {
+    fn blank(_alloc: Global) -> Self {}
+}
+
+/// Room for one more value, made ahead, which belongs to no map yet.
+#[derive(Drop)]
+pub struct Spare<V> {
+    node: Box<Node<V>>,
+}
+
+impl<V: Blank> Spare<V> {
+    /// Makes it.
+    ///
+    /// # Errors
+    ///
+    /// Where there is no memory for it.
+    pub fn new(alloc: Global) -> Result<Spare<V>, NoMemory> {
+        let node = Box::new(alloc, blank_node(alloc))?;
+        Ok(Spare { node })
+    }
+}
+
 /// Values under places (a number and bytes), in the order of the places. `reserve` makes room, and no other call takes memory.
 #[derive(Drop)]
 pub struct SpareMap<V> {
@@ -134,6 +156,16 @@ impl<V: Blank> SpareMap<V> {
         self.root = put_in(root, filled(node, index, key, value));
     }
 
+    /// Puts a value under a place where there is none, into room that was made for it alone.
+    pub fn insert_into(&mut self, spare: Spare<V>, index: u32, key: Bytes, value: V)
+        requires new { get self.old.entries (index, key) ≡ None }
+        ensures entries { self.new.entries ≡ insert self.old.entries (index, key) value }
+        ensures room { self.new.room ≡ self.old.room }
+    {
+        let root = mem::replace(&mut self.root, Tree::Leaf);
+        self.root = put_in(root, filled(spare.node, index, key, value));
+    }
+
     /// Puts a value under a place where there is one, and gives that back.
     pub fn replace(&mut self, index: u32, key: &[u8], value: V) -> V
         requires held { IsSome (get self.old.entries (index, key.now)) }
@@ -151,6 +183,18 @@ impl<V: Blank> SpareMap<V> {
                 old
             }
         }
+    }
+
+    /// Takes out the value under a place, if there is one, and lets its room go.
+    pub fn take(&mut self, alloc: Global, index: u32, key: &[u8]) -> Option<V>
+        ensures entries { self.new.entries ≡ remove self.old.entries (index, key.now) }
+        ensures taken { result ≡ get self.old.entries (index, key.now) }
+        ensures room { self.new.room ≡ self.old.room }
+    {
+        let root = mem::replace(&mut self.root, Tree::Leaf);
+        let (root, taken) = take_out(root, index, key);
+        self.root = root;
+        held_of(alloc, taken)
     }
 
     /// Takes out the value under a place, if there is one. Its room is there for another.
@@ -205,6 +249,19 @@ fn refilled<V: Drop>(mut node: Box<Node<V>>, value: V) -> (Box<Node<V>>, V)
 {
     let old = mem::replace(&mut node.held, value);
     (node, old)
+}
+
+// The value of a node, if there is one. The node is let go.
+fn held_of<V: Blank>(alloc: Global, taken: Option<Box<Node<V>>>) -> Option<V>
+    ensures { result ≡ option_map (λ node. node.value.held) taken }
+{
+    match taken {
+        Some(node) => {
+            let (_node, value) = refilled(node, V::blank(alloc));
+            Some(value)
+        }
+        None => None,
+    }
 }
 
 // A node that holds nothing.

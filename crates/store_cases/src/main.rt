@@ -10,6 +10,7 @@ mod bounds;
 mod catalogs;
 mod changed_rows;
 mod deltas;
+mod ghost_steps;
 mod locks;
 mod maps;
 mod numbers;

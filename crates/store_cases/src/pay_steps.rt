@@ -8,7 +8,7 @@ ghost use Rattle.iv_types.specs.Encoding.{value_bytes, IsHuge};
 ghost use Rattle.table_store.specs.Lists.{map_at};
 ghost use Rattle.txn_machine.specs.Deltas.{place_of};
 ghost use Rattle.ghost_rows.specs.Numbers.{numbers_bytes};
-ghost use Rattle.ghost_rows.specs.Kept.{Pays, width, IsDelta};
+ghost use Rattle.ghost_rows.specs.Kept.{Pays, no_pays, width, IsDelta};
 ghost use Rattle.ghost_rows.specs.Reading.{AreViewRows};
 ghost use Rattle.ghost_rows.specs.State.{AreKept, room_of};
 
@@ -71,7 +71,8 @@ pub fn delta(alloc: Global, count: i8, sum: i128) -> Result<GroupDelta, NoMemory
 
 /// Maps in which no row is stored.
 pub fn without_row(alloc: Global) -> Result<(ViewRows, ListMaps), NoMemory>
-    ensures { IfOk result (λ all. (pays : Pays) × AreKept all.0 (map_at all.1) (1, 7 ∷ []) 2 pays) }
+    ensures kept { IfOk result (λ all. AreKept all.0 (map_at all.1) (1, 7 ∷ []) 2 no_pays) }
+    ensures none { IfOk result (λ all. map_at all.1 1 ≡ map.empty) }
 {
     let maps = ListMaps::new(alloc)?;
     Ok((ViewRows::new(alloc)?, maps))

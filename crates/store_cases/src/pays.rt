@@ -8,6 +8,11 @@
 //! cleaned, whether it can where it is locked, and whether it can where it has versions. `read COUNT SUM` answers the group
 //! in hexadecimal digits, the count and the sums of each row of the view where the row is stored alone.
 //!
+//! `make` stores a row of zeros where none is stored and answers `made`. `committed` answers the committed count and the committed
+//! sum, or `nothing`. `candidates` answers the first candidate at the row's place, and the first one behind it. `add` adds
+//! a candidate there and answers `done`, `drop` drops it unless the row is a ghost and answers whether it is. `removed`
+//! answers the candidates where the row is made in maps of its own, and then those where it is removed again.
+//!
 //! For each row all calls of its table are made again from the first on: what a proof knows of the kept pays behind a
 //! call is not kept from one row to the next.
 ghost use Rattle.std.specs.Prelude.{◌≡◌, ◌≤◌, [], ◌∷◌, IfOk, OnOk};
@@ -17,6 +22,9 @@ ghost use Rattle.txn_machine.specs.Deltas.{place_of};
 ghost use Rattle.ghost_rows.specs.Kept.{Pays, width, IsDelta};
 ghost use Rattle.ghost_rows.specs.State.{AreKept, room_of};
 
+use crate::ghost_steps::{
+    add, drop_unless_ghost, make, write_candidates, write_committed, write_removed,
+};
 use crate::numbers::{number_of, write_number, write_numbers};
 use crate::pay_steps::{delta, is_cleanable, is_ghost, pay, read, with_row, without_row};
 use crate::sessions::session_of;
@@ -275,6 +283,9 @@ fn look(
         "ghost" => write_word(out, is_ghost(rows, maps)),
         "cleanable" => write_cleanable(out, rows, maps),
         "read" => write_read(alloc, out, rest),
+        "committed" => write_committed(out, rows, maps),
+        "candidates" => write_candidates(out, rows),
+        "removed" => write_removed(alloc, out),
         _ => bail!("no such call"),
     }
 }
@@ -297,6 +308,18 @@ fn call(
         "settle" => {
             settle(rows, maps, rest)?;
             out.push_str("done")?;
+        }
+        "make" => {
+            make(rows, maps)?;
+            out.push_str("made")?;
+        }
+        "add" => {
+            add(rows, maps)?;
+            out.push_str("done")?;
+        }
+        "drop" => {
+            let is_ghost = drop_unless_ghost(rows, maps);
+            write_word(&mut out, is_ghost)?;
         }
         _ => look(alloc, &mut out, rows, maps, call, rest)?,
     }

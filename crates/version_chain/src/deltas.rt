@@ -1,10 +1,7 @@
 //! Versions of view rows.
-ghost use Rattle.std.specs.Prelude.{◌≡◌, ◌+◌, ◌≤◌, ◌-ℤ◌, ◌++◌, ℤ, List, length, true, Some, None, IfOk, OnOk};
+ghost use Rattle.std.specs.Prelude.{◌≡◌, ◌+◌, ◌≤◌, ◌-ℤ◌, ℤ, List, length, true, Some, None, IfOk};
 ghost use Rattle.std.specs.Int.{w128, int_wrap};
 ghost use Rattle.std.specs.Option.{option_copied};
-ghost use Rattle.iv_types.specs.declared.value.Kind.TheVariants.{Huge};
-ghost use Rattle.iv_types.specs.declared.value.Value.TheVariants.{Number};
-ghost use Rattle.iv_types.specs.Encoding.{value_bytes};
 ghost use Rattle.ghost_rows.specs.Numbers.{numbers_bytes, Fits128};
 ghost use Rattle.version_chain.specs.Versions.{AreInOrder};
 ghost use Rattle.version_chain.specs.Trees.{items};
@@ -15,8 +12,7 @@ use crate::chains::{Chains, is_of};
 use crate::copying::copied_row;
 use crate::search::{first, is_from};
 use crate::tree::{Node, Tree};
-use byteorder::{BigEndian, ByteOrder};
-use ghost_rows::numbers::front;
+use ghost_rows::numbers::{front, push};
 use iv_types::{Bytes, GroupDelta, NoMemory, NumberList};
 use spare_map::Blank;
 use std::alloc::Global;
@@ -89,16 +85,6 @@ fn lessened(
     }
 }
 
-// Adds the bytes of a number.
-fn put(out: &mut Vec<u8>, number: i128) -> Result<(), NoMemory>
-    ensures { OnOk result (out.new.items ≡ out.old.items ++ value_bytes Huge (Number number)) }
-{
-    let mut bytes = [0; 16];
-    BigEndian::write_i128(&mut bytes, number);
-    out.extend_from_slice(&bytes)?;
-    Ok(())
-}
-
 // The numbers of a stored row, each less what the deltas of a place above a number add to its column.
 fn row_less(
     alloc: Global,
@@ -117,7 +103,7 @@ fn row_less(
     let mut column = 0;
     while rest.len() >= 16 {
         let (value, after) = front(rest);
-        put(&mut out, lessened(tree, index, key, number, column, value))?;
+        push(&mut out, lessened(tree, index, key, number, column, value))?;
         rest = after;
         column += 1;
     }

@@ -14,7 +14,7 @@ loop-rest-preserved c =
     record {
       left = omega (arith, shorter, c.loop-rest.invariant.left);
       told = λ numbers fits move is.
-          lessening_more f c.loop-rest.column c.loop-rest.rest.now c.front-value.result.1.now c.loop-rest.out.items c.put.new.out.items
+          lessening_more f c.loop-rest.column c.loop-rest.rest.now c.front-value.result.1.now c.loop-rest.out.items c.push.new.out.items
           (numbers_bytes (less f 0 numbers)) n c.lessened.result c.front-value.ensures.fits c.front-value.ensures.bytes
           (search rules) (search rules) (c.loop-rest.invariant.told numbers fits move is);
     }

@@ -11,4 +11,5 @@ returns c =
     record {
       stands = row_as _ _ _ c.first_number-committed.result _ _ c.args.numbers.now no_pays c.in_ok-columns.ensures (to_z-of_z w128 c.first_number-committed.result fits) c.new.ensures.items
           (new_row c.args.numbers.now c.first_number-committed.result c.requires c.first_number-committed.ensures);
+      shares = c.new.ensures.items;
     }

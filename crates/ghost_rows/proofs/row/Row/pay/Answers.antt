@@ -1,10 +1,9 @@
-use Rattle.std.proofs.Common.{◌≡◌, ◌<◌, refl, sym, ap, subst, ◌∙◌, List, length, IsSome, arith, Some, slice_get}
+use Rattle.std.proofs.Common.{◌≡◌, ◌<◌, refl, sym, ap, subst, ◌∙◌, List, length, IsSome, arith, Some, slice_get, map}
 use Rattle.escrow_bounds.specs.Column.{Column, part}
-use Rattle.ghost_rows.specs.declared.shares.Share.{Share}
-use Rattle.ghost_rows.specs.Shares.{sum_at}
+use Rattle.ghost_rows.specs.Shares.{sum_at, updated}
 use Rattle.ghost_rows.specs.Rows.{OpenRow, EachColumn, AreAllowed, IsFirstRefused}
 use Rattle.ghost_rows.specs.Kept.{RowStands}
-use Rattle.ghost_rows.proofs.RowLemmas.{paid_end, allowed_row, refused_row, prefixes_row, has_set, shares_as, columns_as}
+use Rattle.ghost_rows.proofs.RowLemmas.{paid_end, allowed_row, refused_row, prefixes_row, set_as_before, shares_as, columns_as}
 use Rattle.ghost_rows.proofs.row.Row.pay.Goals as goal
 
 pub returns-in-Some-clause-refused : goal.returns-in-Some-clause-refused
@@ -38,11 +37,12 @@ returns-clause-before c = λ numbers pays st.
     prefixes_row c.args.self.now numbers pays st c.args.session c.add_all-before.result
     (subst (λ (l : List Column). EachColumn (λ i k. slice_get c.add_all-before.result i ≡ Some (part k c.args.session)) l) (between c ∙ ap (λ (r : OpenRow). r.columns) c.self.view_is) c.add_all-before.ensures.before)
 
-pub returns-clause-kept : goal.returns-clause-kept
-returns-clause-kept c = λ other has.
-    subst (λ (l : List Share). IsSome (sum_at l other))
-    (sym (shares_as c.self.inside.shares c.deref_mut-3.result.now c.set.new.shares c.share_after.result c.share_after.result c.args.session c.deref_mut-3.ensures.value c.set.auto.shares c.set.ensures c.share_after.ensures.session))
-    (has_set c.self.inside.shares.items c.args.session c.share_after.result.sum other (subst (λ (r : OpenRow). IsSome (sum_at r.shares other)) (sym c.self.view_is) has))
+pub returns-clause-same : goal.returns-clause-same
+returns-clause-same c =
+    set_as_before c.args.self.now _ c.args.session c.share_after.result.sum
+    (shares_as c.self.inside.shares c.deref_mut-3.result.now c.set.new.shares c.share_after.result c.share_after.result c.args.session c.deref_mut-3.ensures.value c.set.auto.shares c.set.ensures c.share_after.ensures.session
+    ∙ ap (λ (r : OpenRow). map (updated c.args.session c.share_after.result.sum) r.shares) c.self.view_is)
+    (ap (λ (r : OpenRow). r.committed) c.self.view_is)
 
 pub returns-clause-allowed : goal.returns-clause-allowed
 returns-clause-allowed c = λ numbers pays st.

@@ -1,11 +1,10 @@
-use Rattle.std.proofs.Common.{◌<◌, sym, ap, subst, ◌∙◌, List, length, IsSome, arith}
+use Rattle.std.proofs.Common.{◌<◌, sym, ap, subst, ◌∙◌, List, length, IsSome, arith, map}
 use Rattle.escrow_bounds.specs.Column.{Column, IsBeforeLatest, part, none}
 use Rattle.std.specs.Prelude.{get_or}
-use Rattle.ghost_rows.specs.declared.shares.Share.{Share}
-use Rattle.ghost_rows.specs.Shares.{sum_at}
+use Rattle.ghost_rows.specs.Shares.{sum_at, updated}
 use Rattle.ghost_rows.specs.Rows.{OpenRow, EachColumn}
 use Rattle.ghost_rows.specs.Kept.{RowStands}
-use Rattle.ghost_rows.proofs.RowLemmas.{taken_end, latest_row, has_set, shares_as, paid_has_room}
+use Rattle.ghost_rows.proofs.RowLemmas.{taken_end, latest_row, set_as_before, shares_as, paid_has_room}
 use Rattle.ghost_rows.proofs.row.Row.take_back.Goals as goal
 
 pub take_back_all-requires-clause-latest : goal.take_back_all-requires-clause-latest
@@ -29,8 +28,9 @@ returns-clause-taken c = λ numbers pays earlier st latest prefixes.
     c.deref_mut.ensures.value c.take_back_all.auto.columns c.take_back_all.ensures.moves c.deref_mut-2.ensures.value c.set.auto.shares c.set.ensures c.share_before.ensures.session c.share_before.ensures.sum
     latest prefixes (some c) c.share_before.ensures.fits (subst (λ (r : OpenRow). RowStands r numbers pays) (sym c.self.view_is) st)
 
-pub returns-clause-kept : goal.returns-clause-kept
-returns-clause-kept c = λ other has.
-    subst (λ (l : List Share). IsSome (sum_at l other))
-    (sym (shares_as c.self.inside.shares c.deref_mut-2.result.now c.set.new.shares c.share_before.result c.share_before.result c.args.session c.deref_mut-2.ensures.value c.set.auto.shares c.set.ensures c.share_before.ensures.session))
-    (has_set c.self.inside.shares.items c.args.session c.share_before.result.sum other (subst (λ (r : OpenRow). IsSome (sum_at r.shares other)) (sym c.self.view_is) has))
+pub returns-clause-same : goal.returns-clause-same
+returns-clause-same c =
+    set_as_before c.args.self.now _ c.args.session c.share_before.result.sum
+    (shares_as c.self.inside.shares c.deref_mut-2.result.now c.set.new.shares c.share_before.result c.share_before.result c.args.session c.deref_mut-2.ensures.value c.set.auto.shares c.set.ensures c.share_before.ensures.session
+    ∙ ap (λ (r : OpenRow). map (updated c.args.session c.share_before.result.sum) r.shares) c.self.view_is)
+    (ap (λ (r : OpenRow). r.committed) c.self.view_is)

@@ -1,5 +1,11 @@
-use Rattle.std.proofs.Common.{ap, arith, length, length-append, ◌∷◌, []}
+use Rattle.std.proofs.Common.{◌≡◌, ap, ◌∙◌, None}
+use Rattle.std.specs.FinMap.{get-empty}
+use Rattle.table_laws.specs.Place.{Place, place_cmp}
+use Rattle.ghost_rows.specs.Rows.{OpenRows, row_at}
+use Rattle.ghost_rows.proofs.SeatLemmas.{none_open, none_seated}
 use Rattle.ghost_rows.proofs.view_rows.ViewRows.new.Goals as goal
 
-pub loop-index-preserved : goal.loop-index-preserved
-loop-index-preserved c = omega (arith, ap length c.in_ok-push.ensures.items, length-append c.loop-index.pools.items (c.new.result ∷ []), c.loop-index.invariant)
+pub invariant_of-result : goal.invariant_of-result
+invariant_of-result c =
+    let none : (q : Place) → row_at c.new.result q ≡ None = λ q. ap (λ (l : OpenRows). row_at l q) c.new.ensures ∙ get-empty place_cmp q in
+    (c.in_ok-pools.ensures, c.in_ok-seats.ensures, none_open c.new.result none, none_seated c.new.result c.in_ok-seats.seats.items none)
