@@ -2,8 +2,8 @@ use Rattle.std.proofs.Common.{rules, ◌≡◌, IfOk}
 use mathlib.Core.Path.{subst}
 use Rattle.std.proofs.lemmas.Fn.{always_returns_same}
 use Rattle.row_eval.proofs.Groups.{derived}
-use Rattle.query_exec.proofs.Orders.{by_key, derived_weak, keys_sorted}
-use Rattle.query_exec.proofs.key_order.sorted_by.Goals as goal
+use Rattle.row_order.proofs.KeyOrders.{by_key, derived_weak, keys_sorted}
+use Rattle.row_order.proofs.key_order.sorted_by.Goals as goal
 
 pub returns : goal.returns
 returns c =

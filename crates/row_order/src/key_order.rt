@@ -2,7 +2,7 @@
 ghost use Rattle.std.specs.Prelude.{◌≡◌, map, IfOk};
 ghost use Rattle.iv_meaning.specs.Query as query;
 ghost use Rattle.iv_meaning.specs.Reading as meant;
-ghost use Rattle.query_exec.specs.Keys.{keyed};
+ghost use Rattle.row_order.specs.Keys.{keyed};
 
 use iv_types::{NoMemory, Places, Row, RowList};
 use row_eval::values_at;
@@ -40,8 +40,12 @@ fn without_keys(alloc: Global, rows: Vec<Keyed>) -> Result<RowList, NoMemory>
     Ok(RowList::from_vec(found))
 }
 
-// Rows in the order of these columns.
-fn sorted_by(alloc: Global, key: &[u32], rows: RowList) -> Result<RowList, NoMemory>
+/// Rows in the order of these columns; those that tie stay in the order that they have.
+///
+/// # Errors
+///
+/// Where there is no memory to sort them.
+pub fn sorted_by(alloc: Global, key: &[u32], rows: RowList) -> Result<RowList, NoMemory>
     ensures { IfOk result (λ sorted. sorted ≡ query.sorted_by (meant.by_columns key.now) rows) }
 {
     let mut rows = with_keys(alloc, key, rows)?;
