@@ -14,3 +14,4 @@ pub mod Moves
 pub mod Rooms
 pub mod Exchanges
 pub mod Changing
+pub mod Held
