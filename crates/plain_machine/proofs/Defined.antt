@@ -16,7 +16,6 @@ use Rattle.iv_meaning.specs.Objects.{object_of, schema_of}
 use Rattle.iv_meaning.specs.Database.{Row}
 use Rattle.iv_meaning.specs.View.{index_key}
 use Rattle.txn_machine.specs.Deltas.{exclusive_point, views_of}
-use Rattle.plain_machine.specs.Asking.{index_wants}
 use Rattle.list_store.proofs.CatalogLemmas.{at_number, none_at}
 
 module _ {Y : Type 0} (F : Schema → List Y) where
@@ -39,11 +38,3 @@ pub views_apart : {Y : Type 0} (f : ViewTree → List Y) (o : Object) (os : Sche
 views_apart f (table t) os = refl
 views_apart f (index i) os = refl
 views_apart f (view v) os = ap (λ ys. ys ++ flat_map f (views_of os)) (sym (append-nil (f v)))
-
-pub indexes_apart : (t : TableDef) (row : Row) (o : Object) (os : Schema) → index_wants (o ∷ os) t row ≡ index_wants (o ∷ []) t row ++ index_wants os t row
-indexes_apart t row (table u) os = refl
-indexes_apart t row (view v) os = refl
-indexes_apart t row (index i) os =
-    let want : IndexDef → Want = λ i. exclusive_point i.number (index_key t i row) in
-    let rest : List IndexDef = indexes_of os t.number in
-    elim (i.table == t.number) as (λ b. map want (cond b (i ∷ rest) rest) ≡ map want (cond b (i ∷ []) []) ++ map want rest) [ true ↦ refl | false ↦ refl ]

@@ -1,7 +1,6 @@
 pub mod Kept
 pub mod Weights
 pub mod Txns
-pub mod Asking
 pub mod Owing
 pub mod Bounds
 pub mod Locking

@@ -7,7 +7,6 @@
 #![tactic(auto)]
 
 mod appending;
-mod asking;
 mod bounds;
 mod cleaning;
 mod committing;

@@ -37,8 +37,11 @@ fn add_owed_to(
     let Definition::View(view) = definition else {
         return Ok(());
     };
+    if view.second.is_some() {
+        return Err(NoMemory);
+    }
     let joined = RowList::new(alloc);
-    append(owed, deltas(alloc, catalog, view, change, &joined)?)
+    append(owed, deltas(alloc, catalog, view, change, joined)?)
 }
 
 // What a change owes, where its rows fit.

@@ -10,7 +10,6 @@ ghost use Rattle.plain_machine.specs.Stands.{Stands, Told};
 ghost use Rattle.plain_machine.specs.Moves.{IsChanged};
 ghost use Rattle.txn_book.specs.declared.step.Answer.TheVariants as answer;
 
-use crate::asking::wants_of;
 use crate::copies::{copied_bytes, copied_deltas, copied_perhaps};
 use crate::locking::{Asked, request};
 use crate::machine::{Machine, grow};
@@ -20,6 +19,7 @@ use crate::txns::{set, take};
 use crate::weights::put_weight;
 use iv_types::{Bytes, Change, Definition, NoMemory, Row};
 use txn_book::Answer;
+use view_delta::{are_joined, rows_fit, wants_of};
 
 impl Machine {
     // Makes a change for which the locks are held.
@@ -68,6 +68,9 @@ impl Machine {
             before,
             after,
         };
+        if !rows_fit(&self.catalog, &change) || !are_joined(&self.catalog) {
+            return Err(NoMemory);
+        }
         let wants = wants_of(self.alloc, &self.catalog, definition, &change)?;
         match request(&mut self.locks, session, wants)? {
             Asked::Granted => self.change(session, change),

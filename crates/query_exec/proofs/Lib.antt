@@ -3,4 +3,3 @@ pub mod Groups
 pub mod InOrder
 pub mod Orders
 pub mod Programs
-pub mod Sorting

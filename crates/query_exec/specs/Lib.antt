@@ -1,5 +1,4 @@
 pub mod Answers
 pub mod Asked
-pub mod Keys
 pub mod Tasks
 pub mod Verdicts

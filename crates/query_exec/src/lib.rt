@@ -5,7 +5,6 @@ mod answering;
 mod choosing;
 mod going;
 mod grouping;
-mod key_order;
 mod listing;
 mod ordering;
 mod source;

@@ -6,3 +6,4 @@ pub mod Listing
 pub mod Answering
 pub mod Keeping
 pub mod Reading
+pub mod Joins

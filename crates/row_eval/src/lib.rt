@@ -10,9 +10,10 @@ mod outcome;
 mod readable;
 mod wide;
 
-pub use expression::{passes, value};
+pub use combination::Combination;
+pub use expression::{are_joined, is_chosen, passes, value};
 pub use fresh::{fresh_rows, primary_of, rows_of_table};
 pub use grouping::{Grouped, add_member, group, values_at};
 pub use kept_view::recompute;
-pub use readable::is_readable;
+pub use readable::{all_fit, are_alike, is_readable};
 pub use wide::Wide;

@@ -22,8 +22,8 @@ fn fits(catalog: &Catalog, table: u32, row: &Row) -> bool
     }
 }
 
-// Whether some rows fit a table.
-fn all_fit(catalog: &Catalog, table: u32, rows: &[Row]) -> bool
+/// Whether some rows fit a table; what is no table has no columns.
+pub fn all_fit(catalog: &Catalog, table: u32, rows: &[Row]) -> bool
     ensures { IsTrue result ↔ AllByRecursion (λ row. FitAll (kinds_of_table (numbered (schema_of catalog.now) table)) row) rows.now }
 {
     for index in 0..rows.len() {
@@ -51,8 +51,9 @@ fn has_one_kind(catalog: &Catalog, one: u32, column: u32, other: u32, place: u32
     }
 }
 
-// Whether the columns of two tables are one by one of one kind.
-fn are_alike(catalog: &Catalog, one: u32, columns: &[u32], other: u32, places: &[u32]) -> bool
+/// Whether the columns of two tables are one by one of one kind: those of `one` at the places `columns`, and those of
+/// `other` at `places`.
+pub fn are_alike(catalog: &Catalog, one: u32, columns: &[u32], other: u32, places: &[u32]) -> bool
     ensures { IsTrue result ↔ AreAlike (kinds_of_table (numbered (schema_of catalog.now) one)) (kinds_of_table (numbered (schema_of catalog.now) other)) columns.now places.now }
 {
     if columns.len() != places.len() {

@@ -2,11 +2,12 @@
 //!
 //! A table is its name, the kinds of its columns, `KEY`, and the places of its key's columns, counted from 0, as in `pair
 //! INT TEXT HUGE KEY 1 0`. An index is `index`, its name, the number of its table, `KEY`, and the places of its columns, as
-//! in `index second 1 KEY 2 1`.
+//! in `index second 1 KEY 2 1`. A view is `view`, its name and its text, as in `view sums all | 1 | 2`.
+use crate::views::view;
 use anyhow::bail;
 use case_text::first_word;
 use iv_types::{
-    Bytes, Catalog, ColumnDef, ColumnList, Definition, IndexDef, Kind, Places, TableDef,
+    Bytes, Catalog, ColumnDef, ColumnList, Definition, IndexDef, Kind, Places, TableDef, ViewDef,
 };
 use std::alloc::Global;
 use std::mem::forget;
@@ -82,15 +83,24 @@ fn add(catalog: &mut Catalog, definition: Definition) -> anyhow::Result<()> {
     Ok(())
 }
 
-// The table or the index of a text and a number.
+// The view of a text and a number.
+fn named_view(alloc: Global, number: u32, text: &str) -> anyhow::Result<ViewDef> {
+    let (name, rest) = first_word(text);
+    view(alloc, number, name, rest)
+}
+
+// The table, the index or the view of a text and a number.
 fn definition(alloc: Global, number: u32, text: &str) -> anyhow::Result<Definition> {
+    if let Some(rest) = text.strip_prefix("view ") {
+        return Ok(Definition::View(named_view(alloc, number, rest)?));
+    }
     match text.strip_prefix("index ") {
         Some(rest) => Ok(Definition::Index(index(alloc, number, rest)?)),
         None => Ok(Definition::Table(table(alloc, number, text)?)),
     }
 }
 
-/// Adds the table or the index of a text.
+/// Adds the table, the index or the view of a text.
 pub fn add_definition(alloc: Global, catalog: &mut Catalog, text: &str) -> anyhow::Result<()> {
     let count = catalog.len();
     if count >= 64 {

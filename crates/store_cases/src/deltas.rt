@@ -1,142 +1,25 @@
-//! What changes owe to views of the first table, which has the number 3.
+//! What changes owe to views of the first table.
 //!
-//! A row is a view, ` ; ` and a change. A view is its condition, a column above a number as `2 > 4`, or `all`, the columns
-//! of its group and of its sums, each `-` where there is none, and where it has one its second table. A change is the
-//! table's number, `: `, and the row before and the row after with ` > ` between, each `nothing` where there is none.
+//! A row is a view, ` ; `, a change, and where something has to be looked up ` ; ` and the rows that are found. A change is the
+//! table's number, `: `, and the row before and the row after with ` > ` between, each `nothing` where there is none. Its key
+//! is `key`.
 //!
 //! The answer is the deltas as rows of the count, the group's values and the sums, or `nothing`; `misfit` where the rows
-//! don't fit their table, `no answer` where what is to be looked up can't be told, and `look up` where something is.
-use crate::changed_rows::changed_rows;
+//! don't fit their tables, `not joined` where the view does not join its tables as it should, and `look up` with the look-ups
+//! where the row says nothing of what they find.
+use crate::changes::change;
+use crate::views::view;
+use crate::wants::write_wants;
 use anyhow::bail;
-use case_text::write_row;
+use case_text::{read_rows, write_row};
 use iv_types::{
-    Bytes, Catalog, Change, ColumnAt, ColumnAtList, Definition, DeltaList, Expr, GroupDelta, Kind,
-    NameList, Op, Places, Row, RowList, Second, Value, ViewDef,
+    Catalog, Change, DeltaList, GroupDelta, Kind, Row, RowList, Value, ViewDef, WantList,
 };
+use object_kinds::group_kinds;
 use row_codec::decode_key;
 use std::alloc::Global;
-use std::mem::{forget, replace};
-use view_delta::{deltas, needs, rows_fit};
-
-fn column(text: &str) -> anyhow::Result<ColumnAt> {
-    let column = text.parse::<u32>()?;
-    Ok(ColumnAt { source: 0, column })
-}
-
-fn push_columns(columns: &mut ColumnAtList, text: &str) -> anyhow::Result<()> {
-    if text != "-" {
-        for part in text.split(',') {
-            columns.push(column(part)?)?;
-        }
-    }
-    Ok(())
-}
-
-fn condition(alloc: Global, text: &str) -> anyhow::Result<Option<Expr>> {
-    if text == "all" {
-        return Ok(None);
-    }
-    let Some((place, number)) = text.split_once(" > ") else {
-        bail!("no condition")
-    };
-    let place = column(place)?;
-    let number = number.parse::<i128>()?;
-    Ok(Some(Expr::Pair(
-        Op::Greater,
-        Box::new(alloc, Expr::At(place))?,
-        Box::new(alloc, Expr::Number(number))?,
-    )))
-}
-
-fn second(alloc: Global, text: &str) -> anyhow::Result<Option<Second>> {
-    if text.is_empty() {
-        return Ok(None);
-    }
-    Ok(Some(Second {
-        table: text.parse::<u32>()?,
-        joined: Places::new(alloc),
-        index: 1,
-    }))
-}
-
-// The three parts of a view's text, and its second table.
-fn parts(text: &str) -> anyhow::Result<(&str, &str, &str, &str)> {
-    let Some((condition, places)) = text.split_once(" | ") else {
-        bail!("no group")
-    };
-    let Some((group, sums)) = places.split_once(" | ") else {
-        bail!("no sums")
-    };
-    match sums.split_once(" | ") {
-        Some((sums, second)) => Ok((condition, group, sums, second)),
-        None => Ok((condition, group, sums, "")),
-    }
-}
-
-// Fills in what the text of a view says.
-fn fill(alloc: Global, view: &mut ViewDef, text: &str) -> anyhow::Result<()> {
-    let (condition_text, group, sums, second_text) = parts(text)?;
-    push_columns(&mut view.group, group)?;
-    push_columns(&mut view.sums, sums)?;
-    forget(replace(&mut view.second, second(alloc, second_text)?));
-    forget(replace(&mut view.condition, condition(alloc, condition_text)?));
-    Ok(())
-}
-
-fn view(alloc: Global, text: &str) -> anyhow::Result<ViewDef> {
-    let name = Bytes::from_vec(Vec::from_slice(alloc, b"shops")?);
-    let mut view = ViewDef {
-        number: 3,
-        name,
-        names: NameList::new(alloc),
-        first: 1,
-        second: None,
-        condition: None,
-        group: ColumnAtList::new(alloc),
-        sums: ColumnAtList::new(alloc),
-    };
-    match fill(alloc, &mut view, text) {
-        Ok(()) => Ok(view),
-        Err(error) => {
-            forget(view);
-            Err(error)
-        }
-    }
-}
-
-fn change(alloc: Global, text: &str) -> anyhow::Result<Change> {
-    let Some((table, rows)) = text.split_once(": ") else {
-        bail!("no table")
-    };
-    let table = table.parse::<u32>()?;
-    let key = Bytes::from_vec(Vec::from_slice(alloc, b"key")?);
-    let (before, after) = changed_rows(alloc, rows)?;
-    Ok(Change {
-        table,
-        key,
-        before,
-        after,
-    })
-}
-
-// The kind of a column of the first table.
-fn kind_at(catalog: &Catalog, place: ColumnAt) -> anyhow::Result<Kind> {
-    let Some(Definition::Table(table)) = catalog.get(1) else {
-        bail!("no table")
-    };
-    match table.columns.as_slice().get(place.column as usize) {
-        Some(column) => Ok(column.kind),
-        None => bail!("no column"),
-    }
-}
-
-fn kinds(alloc: Global, catalog: &Catalog, group: &ColumnAtList) -> anyhow::Result<Vec<Kind>> {
-    let mut kinds = Vec::new(alloc);
-    for place in group.as_slice() {
-        kinds.push(kind_at(catalog, *place)?)?;
-    }
-    Ok(kinds)
-}
+use std::mem::forget;
+use view_delta::{deltas, is_joined, looked_up_fit, needs, rows_fit};
 
 // Adds a group's values.
 fn push_group(alloc: Global, row: &mut Row, kinds: &[Kind], group: &[u8]) -> anyhow::Result<()> {
@@ -182,26 +65,6 @@ fn write_deltas(
     Ok(())
 }
 
-// What stands in the way of a change's deltas, if something does.
-fn refusal(
-    alloc: Global,
-    catalog: &Catalog,
-    view: &ViewDef,
-    change: &Change,
-) -> Option<&'static str> {
-    if !rows_fit(catalog, change) {
-        return Some("misfit");
-    }
-    match needs(alloc, catalog, view, change) {
-        Err(_) => Some("no answer"),
-        Ok(wants) => {
-            let is_empty = wants.as_slice().is_empty();
-            forget(wants);
-            if is_empty { None } else { Some("look up") }
-        }
-    }
-}
-
 // Writes the deltas that were found for a view.
 fn write_found(
     alloc: Global,
@@ -210,8 +73,42 @@ fn write_found(
     view: &ViewDef,
     found: &DeltaList,
 ) -> anyhow::Result<()> {
-    let kinds = kinds(alloc, catalog, &view.group)?;
-    write_deltas(alloc, out, &kinds, found)
+    let kinds = group_kinds(alloc, catalog, view)?;
+    write_deltas(alloc, out, kinds.as_slice(), found)
+}
+
+// What has to be looked up; nothing is told of a view that does not join its tables as it should.
+fn looked_up(
+    alloc: Global,
+    catalog: &Catalog,
+    view: &ViewDef,
+    change: &Change,
+) -> anyhow::Result<WantList> {
+    if !rows_fit(catalog, change) || !is_joined(catalog, view) {
+        bail!("misfit");
+    }
+    Ok(needs(alloc, catalog, view, change)?)
+}
+
+// Writes what has to be looked up, and says whether something has.
+fn write_needs(
+    alloc: Global,
+    out: &mut String,
+    catalog: &Catalog,
+    view: &ViewDef,
+    change: &Change,
+) -> anyhow::Result<bool> {
+    let wants = looked_up(alloc, catalog, view, change)?;
+    let is_empty = wants.as_slice().is_empty();
+    let told = if is_empty {
+        Ok(())
+    } else {
+        out.push_str("look up ")?;
+        write_wants(out, wants.as_slice())
+    };
+    forget(wants);
+    told?;
+    Ok(!is_empty)
 }
 
 fn write_owed(
@@ -220,31 +117,64 @@ fn write_owed(
     catalog: &Catalog,
     view: &ViewDef,
     change: &Change,
+    joined: RowList,
 ) -> anyhow::Result<()> {
-    if let Some(word) = refusal(alloc, catalog, view, change) {
-        out.push_str(word)?;
+    if !rows_fit(catalog, change)
+        || !is_joined(catalog, view)
+        || !looked_up_fit(catalog, view, change.table, joined.as_slice())
+    {
+        forget(joined);
+        out.push_str("misfit")?;
         return Ok(());
     }
-    if !rows_fit(catalog, change) {
-        bail!("misfit");
-    }
-    let found = deltas(alloc, catalog, view, change, &RowList::new(alloc))?;
+    let found = deltas(alloc, catalog, view, change, joined)?;
     let told = write_found(alloc, out, catalog, view, &found);
     forget(found);
     told
 }
 
+fn write_answer(
+    alloc: Global,
+    out: &mut String,
+    catalog: &Catalog,
+    view: &ViewDef,
+    change: &Change,
+    rows: Option<&str>,
+) -> anyhow::Result<()> {
+    if !rows_fit(catalog, change) {
+        out.push_str("misfit")?;
+        return Ok(());
+    }
+    if !is_joined(catalog, view) {
+        out.push_str("not joined")?;
+        return Ok(());
+    }
+    match rows {
+        Some(rows) => {
+            let joined = read_rows(alloc, rows)?;
+            write_owed(alloc, out, catalog, view, change, joined)
+        }
+        None => {
+            if write_needs(alloc, out, catalog, view, change)? {
+                return Ok(());
+            }
+            write_owed(alloc, out, catalog, view, change, RowList::new(alloc))
+        }
+    }
+}
+
 // Writes what a change owes to a view, and forgets both.
-fn write_owed_once(
+fn write_once(
     alloc: Global,
     out: &mut String,
     catalog: &Catalog,
     view: ViewDef,
     changed: &str,
+    rows: Option<&str>,
 ) -> anyhow::Result<()> {
     let told = match change(alloc, changed) {
         Ok(change) => {
-            let told = write_owed(alloc, out, catalog, &view, &change);
+            let told = write_answer(alloc, out, catalog, &view, &change, rows);
             forget(change);
             told
         }
@@ -259,8 +189,12 @@ pub fn answer(alloc: Global, catalog: &Catalog, asked: &str) -> anyhow::Result<S
     let Some((shape, changed)) = asked.split_once(" ; ") else {
         bail!("no change")
     };
-    let view = view(alloc, shape)?;
+    let (changed, rows) = match changed.split_once(" ; ") {
+        Some((changed, rows)) => (changed, Some(rows)),
+        None => (changed, None),
+    };
+    let view = view(alloc, 3, "shops", shape)?;
     let mut out = String::new(alloc);
-    write_owed_once(alloc, &mut out, catalog, view, changed)?;
+    write_once(alloc, &mut out, catalog, view, changed, rows)?;
     Ok(out)
 }

@@ -2,13 +2,14 @@
 //! something else.
 //!
 //! The name of a table begins with what its rows call: `waits`, `bounds`, `maps`, `places`, `tables`, `locks`, `deltas`,
-//! `pays` or `versions`, and a colon. What each of them is given and asked stands at the head of the module of that name. A table begins with a
+//! `pays`, `versions` or `wants`, and a colon. What each of them is given and asked stands at the head of the module of that name. A table begins with a
 //! new object, and what a call makes of it stays for the rows below.
 #![tactic(auto)]
 
 mod bounds;
 mod catalogs;
 mod changed_rows;
+mod changes;
 mod deltas;
 mod ghost_steps;
 mod locks;
@@ -22,7 +23,9 @@ mod subjects;
 mod table_facts;
 mod tables;
 mod versions;
+mod views;
 mod waits;
+mod wants;
 
 use case_text::print_cases;
 use std::mem::forget;

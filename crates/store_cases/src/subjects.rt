@@ -8,7 +8,7 @@ use crate::maps::Maps;
 use crate::places::Places;
 use crate::versions::Versions;
 use crate::waits::Waits;
-use crate::{deltas, pays, tables};
+use crate::{deltas, pays, tables, wants};
 use anyhow::bail;
 use case_text::Cases;
 use iv_types::Catalog;
@@ -27,6 +27,7 @@ enum Kind {
     Deltas,
     Pays,
     Versions,
+    Wants,
 }
 
 fn kind_of(name: &str) -> anyhow::Result<Kind> {
@@ -43,6 +44,7 @@ fn kind_of(name: &str) -> anyhow::Result<Kind> {
         "deltas" => Ok(Kind::Deltas),
         "pays" => Ok(Kind::Pays),
         "versions" => Ok(Kind::Versions),
+        "wants" => Ok(Kind::Wants),
         _ => bail!("no such kind of table"),
     }
 }
@@ -107,7 +109,11 @@ impl Cases for Subjects {
     fn give(&mut self, alloc: Global, text: &str) -> anyhow::Result<()> {
         match self.kind {
             Kind::Waits => self.waits.give(text),
-            Kind::Tables | Kind::Deltas => add_definition(alloc, &mut self.catalog, text),
+            Kind::Tables | Kind::Deltas | Kind::Wants => add_definition(
+                alloc,
+                &mut self.catalog,
+                text,
+            ),
             Kind::Pays => {
                 self.start = String::from_str(alloc, text)?;
                 Ok(())
@@ -124,6 +130,7 @@ impl Cases for Subjects {
             Kind::Places => self.places.answer(alloc, asked),
             Kind::Locks => self.locks.answer(alloc, asked),
             Kind::Versions => self.versions.answer(alloc, asked),
+            Kind::Wants => wants::answer(alloc, &self.catalog, asked),
             Kind::Deltas => deltas::answer(alloc, &self.catalog, asked),
             Kind::Tables => {
                 self.note(asked)?;

@@ -15,3 +15,4 @@ pub mod Rooms
 pub mod Exchanges
 pub mod Changing
 pub mod Readying
+pub mod Held

@@ -11,5 +11,5 @@ mod tables;
 
 pub use exchange::make_room;
 pub use list_maps::ListMaps;
-pub use row_entries::own_entries;
+pub use row_entries::{index_key, key_at, own_entries};
 pub use tables::{Ready, Tables, entry_bytes};

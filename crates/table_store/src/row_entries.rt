@@ -53,7 +53,25 @@ fn put_places(
     Ok(())
 }
 
+/// The bytes that a row's values at some places of its table have in a key.
+///
+/// # Errors
+///
+/// Where there is no memory for them.
+pub fn key_at(alloc: Global, table: &TableDef, places: &[u32], row: &Row) -> Result<Bytes, NoMemory>
+    requires { FitAll (kinds_of table.now) row.now }
+    ensures { IfOk result (λ key. key ≡ key_at table.now places.now row.now) }
+{
+    let mut key = Vec::new(alloc);
+    put_places(alloc, &mut key, table, places, row)?;
+    Ok(Bytes::from_vec(key))
+}
+
 /// The key that a row has in an index of its table.
+///
+/// # Errors
+///
+/// Where there is no memory for it.
 pub fn index_key(
     alloc: Global,
     table: &TableDef,

@@ -63,7 +63,7 @@ equal_itself [] = refl
 equal_itself (x ∷ xs) = and_true (bytes_eq x.group x.group && is_eq (slice_cmp int_cmp x.sums x.sums)) (are_equal xs xs)
     (and_true (bytes_eq x.group x.group) (is_eq (slice_cmp int_cmp x.sums x.sums)) ((bytes_eq-Decides x.group x.group).1 refl) (ap is_eq (same_sums x.sums))) (equal_itself xs)
 
-exchanged_none : (xs ys : List GroupDelta) → xs ≡ ys → exchanged xs ys ≡ []
+pub exchanged_none : (xs ys : List GroupDelta) → xs ≡ ys → exchanged xs ys ≡ []
 exchanged_none xs ys e = ap (exchanged xs) (sym e) ∙ ap (λ b. cond b [] (map negated xs ++ xs)) (equal_itself xs)
 
 -- ---- places of a table
@@ -320,14 +320,14 @@ in_option : (o : Option Row) (r : Row) → o ≡ Some r → Contains (option_to_
 in_option o r e = subst (λ (x : Option Row). Contains (option_to_list x) r) (sym e) (contains_here r [])
 
 module _ (objects : Schema) (v : ViewTree) (second : Second) (is_second : v.second ≡ Some second) (j : IsJoin objects v second) where
-  abbrev counted : Row → Row → Bool
+  abbrev pub counted : Row → Row → Bool
   counted r s = is_counted objects v (r ∷ s ∷ [])
 
   -- the key of the row with which a row of the first table is combined
-  abbrev joined_key : Row → List ℕ
+  abbrev pub joined_key : Row → List ℕ
   joined_key r = key_bytes (key_kinds j.other) (items_at r second.joined)
 
-  abbrev joined_place : Row → Place
+  abbrev pub joined_place : Row → Place
   joined_place r = (second.table, joined_key r)
 
   others_are : (m : Rows) → other_rows m v ≡ rows_of m second.table ∷ []
@@ -341,10 +341,10 @@ module _ (objects : Schema) (v : ViewTree) (second : Second) (is_second : v.seco
         | false ↦ chosen_rows r rs
       ]
 
-  abbrev found : Rows → Row → List Row
+  abbrev pub found : Rows → Row → List Row
   found m r = map (λ (e : Place × Row). e.1) (rows_where (λ place s. (place.0 == second.table) && counted r s) (entries m))
 
-  of_row : (m : Rows) (r : Row) → of objects v m (Some r) ≡ map (contribution objects v) (map (λ s. r ∷ s ∷ []) (found m r))
+  pub of_row : (m : Rows) (r : Row) → of objects v m (Some r) ≡ map (contribution objects v) (map (λ s. r ∷ s ∷ []) (found m r))
   of_row m r = ap (map (contribution objects v))
       (ap (λ (l : List (List Row)). filter (is_counted objects v) (map (λ (rest : Combination). r ∷ rest) (combinations l))) (others_are m)
       ∙ (chosen_rows r (rows_of m second.table) ∙ ap (map (λ s. r ∷ s ∷ [])) (filter_rows second.table (counted r) (entries m))))
@@ -355,7 +355,7 @@ module _ (objects : Schema) (v : ViewTree) (second : Second) (is_second : v.seco
       ∙ ap (λ (o : Option Object). join_conditions second.joined (primary_of o) ++ option_to_list v.condition) j.other_is
 
   -- a row that is combined stands under the joined key
-  found_at : (m : Rows) → AreSound objects m → (r : Row) (q : Place) (s : Row) → get m q ≡ Some s → ((q.0 == second.table) && counted r s) ≡ true → q ≡ joined_place r
+  pub found_at : (m : Rows) → AreSound objects m → (r : Row) (q : Place) (s : Row) → get m q ≡ Some s → ((q.0 == second.table) && counted r s) ≡ true → q ≡ joined_place r
   found_at m sound r q s e t =
       let parts = both_true (q.0 == second.table) (counted r s) t in
       let number_is : q.0 ≡ second.table = eqb-true q.0 second.table parts.0 in
@@ -378,8 +378,19 @@ module _ (objects : Schema) (v : ViewTree) (second : Second) (is_second : v.seco
       (λ s g t. let i = found_at n sn r q s g t in ap (get m) i ∙ (e ∙ (sym (ap (get n) i) ∙ g)))))
       ∙ sym (of_row n r))
 
-  others_stay : (c : RowChange) (m : Rows) → c.key.0 ≢ second.table → other_rows (rows_after c m) v ≡ other_rows m v
+  pub others_stay : (c : RowChange) (m : Rows) → c.key.0 ≢ second.table → other_rows (rows_after c m) v ≡ other_rows m v
   others_stay c m d = others_are (rows_after c m) ∙ (ap (λ (l : List Row). l ∷ []) (rows_of_other m c.key c.after second.table d) ∙ sym (others_are m))
+
+  -- the key in the view's index of a row that joins a key of the second table begins with that key
+  pub begins : (key : List ℕ) (r : Row) (more : List ℕ) → FitAll (kinds_of j.first) r → joined_key r ≡ key
+      → key_bytes (items_at (kinds_of j.first) (second.joined ++ more)) (items_at r (second.joined ++ more)) ≡ key ++ key_bytes (items_at (kinds_of j.first) more) (items_at r more)
+  begins key r more fits e =
+      (λ i. key_bytes (filter_map-append (slice_get (kinds_of j.first)) second.joined more i) (filter_map-append (slice_get r) second.joined more i))
+      ∙ (key_split (items_at (kinds_of j.first) second.joined) (items_at (kinds_of j.first) more) (items_at r second.joined) (items_at r more) (items_fit (kinds_of j.first) r second.joined fits (column_places j.first second.joined j.columns))
+      ∙ ap (λ l. l ++ key_bytes (items_at (kinds_of j.first) more) (items_at r more)) (ap (λ (ks : List Kind). key_bytes ks (items_at r second.joined)) j.kinds ∙ e))
+    where
+      column_places : (t : TableDef) (places : List ℕ) → AreColumns t places → AllByRecursion (λ p. p < length (kinds_of t)) places
+      column_places t places h = subst (λ l. AllByRecursion (λ p. p < l) places) (sym (length-map t.columns (λ column. column.kind))) (recursion_from_All (λ p. p < length t.columns) places h)
 
   -- ---- what is looked up
 
@@ -432,17 +443,6 @@ module _ (objects : Schema) (v : ViewTree) (second : Second) (is_second : v.seco
           (subst (λ l. Contains l (record { index = second.index; interval = prefix_interval c.key.1; mode = Share })) (sym looks_second) (contains_here (record { index = second.index; interval = prefix_interval c.key.1; mode = Share }) []))
           key (subst (λ k. LiesIn k (prefix_interval c.key.1)) (sym e) (in_prefix c.key.1 rest))
 
-      -- the key of a joining row in the view's index begins with the second table's key
-      begins : (r : Row) (more : List ℕ) → FitAll (kinds_of j.first) r → joined_key r ≡ c.key.1
-          → key_bytes (items_at (kinds_of j.first) (second.joined ++ more)) (items_at r (second.joined ++ more)) ≡ c.key.1 ++ key_bytes (items_at (kinds_of j.first) more) (items_at r more)
-      begins r more fits e =
-          (λ i. key_bytes (filter_map-append (slice_get (kinds_of j.first)) second.joined more i) (filter_map-append (slice_get r) second.joined more i))
-          ∙ (key_split (items_at (kinds_of j.first) second.joined) (items_at (kinds_of j.first) more) (items_at r second.joined) (items_at r more) (items_fit (kinds_of j.first) r second.joined fits (column_places j.first second.joined j.columns))
-          ∙ ap (λ l. l ++ key_bytes (items_at (kinds_of j.first) more) (items_at r more)) (ap (λ (ks : List Kind). key_bytes ks (items_at r second.joined)) j.kinds ∙ e))
-        where
-          column_places : (t : TableDef) (places : List ℕ) → AreColumns t places → AllByRecursion (λ p. p < length (kinds_of t)) places
-          column_places t places h = subst (λ l. AllByRecursion (λ p. p < l) places) (sym (length-map t.columns (λ column. column.kind))) (recursion_from_All (λ p. p < length t.columns) places h)
-
       joining_agrees : (a b : Rows) → AreSound objects a → ((key rest : List ℕ) → key ≡ c.key.1 ++ rest → AgreeAt objects second.index key a b) → (q : Place) (r : Row) → get a q ≡ Some r → q.0 ≡ v.first → joined_key r ≡ c.key.1 → get b q ≡ Some r
       joining_agrees a b sa ag q r e g k =
           let row : IsRow objects q r = sa.rows q r e in
@@ -453,12 +453,12 @@ module _ (objects : Schema) (v : ViewTree) (second : Second) (is_second : v.seco
             | primary more number_is primary_is ↦
                 let at_index : second.index ≡ q.0 = number_is ∙ (first_number ∙ sym g) in
                 let key_is : key_of j.first r ≡ c.key.1 ++ key_bytes (items_at (kinds_of j.first) more) (items_at r more) =
-                ap (λ (l : List ℕ). key_bytes (items_at (kinds_of j.first) l) (items_at r l)) primary_is ∙ begins r more fits k in
+                ap (λ (l : List ℕ). key_bytes (items_at (kinds_of j.first) l) (items_at r l)) primary_is ∙ begins c.key.1 r more fits k in
                 (ag (key_of j.first r) (key_bytes (items_at (kinds_of j.first) more) (items_at r more)) key_is).there q r
                 (table_entry objects a sa second.index j.first (ap (numbered objects) (at_index ∙ g) ∙ j.first_is) q r (sym at_index) e) e
             | secondary i more index_is table_of columns_are ↦
                 let key_is : index_key j.first i r ≡ c.key.1 ++ key_bytes (items_at (kinds_of j.first) (more ++ j.first.primary)) (items_at r (more ++ j.first.primary)) =
-                ap (λ (l : List ℕ). key_bytes (items_at (kinds_of j.first) l) (items_at r l)) (ap (λ (l : List ℕ). l ++ j.first.primary) columns_are ∙ append_assoc second.joined more j.first.primary) ∙ begins r (more ++ j.first.primary) fits k in
+                ap (λ (l : List ℕ). key_bytes (items_at (kinds_of j.first) l) (items_at r l)) (ap (λ (l : List ℕ). l ++ j.first.primary) columns_are ∙ append_assoc second.joined more j.first.primary) ∙ begins c.key.1 r (more ++ j.first.primary) fits k in
                 (ag (index_key j.first i r) (key_bytes (items_at (kinds_of j.first) (more ++ j.first.primary)) (items_at r (more ++ j.first.primary))) key_is).there q r
                 (index_entry objects a sa second.index i j.first index_is (ap (numbered objects) (table_of ∙ first_number) ∙ j.first_is) q r (g ∙ sym (table_of ∙ first_number)) e) e
           ]

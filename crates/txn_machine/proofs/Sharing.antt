@@ -99,7 +99,7 @@ fresh_of objects rows sound (suc n) v e key column = one_due objects rows (v.num
 
 -- ---- combinations fit
 
-rows_fit : (ks : List Kind) (n : ℕ) (es : List (Place × Row)) → AllByRecursion (λ (e : Place × Row). e.0.0 ≡ n → FitAll ks e.1) es → AllByRecursion (FitAll ks) (map (λ (e : Place × Row). e.1) (rows_where (λ place row. place.0 == n) es))
+pub rows_fit : (ks : List Kind) (n : ℕ) (es : List (Place × Row)) → AllByRecursion (λ (e : Place × Row). e.0.0 ≡ n → FitAll ks e.1) es → AllByRecursion (FitAll ks) (map (λ (e : Place × Row). e.1) (rows_where (λ place row. place.0 == n) es))
 rows_fit ks n [] h = tt
 rows_fit ks n (e ∷ es) h = elim (e.0.0 == n) as (λ b. (e.0.0 == n) ≡ b → AllByRecursion (FitAll ks) (map (λ (e : Place × Row). e.1) (cond b (e ∷ rows_where (λ place row. place.0 == n) es) (rows_where (λ place row. place.0 == n) es)))) [
   | true ↦ λ t. (h.0 (eqb-true e.0.0 n t), rows_fit ks n es h.1)

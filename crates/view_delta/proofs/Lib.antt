@@ -1,2 +1,9 @@
+pub mod Combined
 pub mod Alone
+pub mod OwedRows
+pub mod JoinTests
+pub mod SecondRows
+pub mod LookUps
+pub mod Fits
+pub mod Readable
 pub mod Weighing

@@ -1,2 +1,5 @@
 pub mod Owing
+pub mod Joining
+pub mod Parts
+pub mod Wants
 pub mod Law

@@ -1,7 +1,7 @@
-use Rattle.std.proofs.Common.{ap, sym, ◌∙◌, ◌&&◌}
+use Rattle.std.proofs.Common.{ap, ◌∙◌, ◌&&◌}
 use Rattle.std.specs.Ordering.{is_eq, int_cmp}
 use Rattle.std.specs.Cmp.Lexicographic.{slice_cmp}
-use Rattle.view_delta.proofs.Alone.{sums_tied}
+use Rattle.view_delta.proofs.OwedRows.{sums_tied}
 use Rattle.view_delta.proofs.delta.is_same.Goals as goal
 
 pub returns-then-eq : goal.returns-then-eq

@@ -4,6 +4,9 @@ use Rattle.iv_types.specs.declared.lock.Change.{Change}
 use Rattle.iv_meaning.specs.Database.{Row}
 use Rattle.txn_machine.specs.Acts as act
 use Rattle.txn_machine.specs.Store.{locks_of}
+use Rattle.std.specs.Option.{option_map}
+use Rattle.iv_meaning.specs.Objects.{object_of}
+use Rattle.bind_resolve.proofs.Objects.{numbered_alike}
 use Rattle.list_store.proofs.HeldLemmas.{if_ok}
 use Rattle.plain_machine.specs.declared.locking.Asked.TheVariants as answered
 use Rattle.plain_machine.proofs.Requests.{asked_as}
@@ -14,6 +17,10 @@ use Rattle.plain_machine.proofs.machine.Machine.put.Goals as goal
 
 abbrev made : ℕ → List ℕ → Option Row → Option Row → Change
 made n k before after = record { table = n; key = k; before = before; after = after }
+
+pub wants_of-requires-clause-table : goal.wants_of-requires-clause-table
+wants_of-requires-clause-table c =
+    numbered_alike c.args.self.now.catalog c.args.table ∙ ap (option_map object_of) (sym c.in-Some-Table.ensures.value ∙ ap Some c.in-Some-Table.field-0-is)
 
 pub returns-in-Granted : goal.returns-in-Granted
 returns-in-Granted c = if_ok c.change.result _ _ (λ said told s st may.
