@@ -4,8 +4,8 @@
 use Rattle.std.specs.Prelude.{Option}
 use Rattle.std.specs.Option.{option_map}
 use Rattle.iv_meaning.specs.Types as types
-use Rattle.bind_check.specs.declared.family.Family.{Family}
-use Rattle.bind_check.specs.declared.family.Family.TheVariants as family
+use Rattle.bind_check.specs.declared.typing.Family.{Family}
+use Rattle.bind_check.specs.declared.typing.Family.TheVariants as family
 
 abbrev pub family_of : Family → types.Family
 family_of family.Number = types.number

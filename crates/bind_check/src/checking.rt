@@ -14,14 +14,13 @@ ghost use Rattle.bind_check.specs.Checked.{every_test, select_chain, view_chain}
 
 use crate::changing::{check_delete, check_insert, check_update};
 use crate::creating::{check_index, check_join, check_table, check_view_limits};
-use crate::kinds::{kinds_of_one, kinds_seen};
+use crate::objects::kinds_seen;
 use crate::ordering::are_named;
-use crate::queries::{check_query, check_view_query};
 use crate::refusing::{limit, refuse, rule};
+use crate::shape::{check_query, check_view_query};
 use crate::typing::query_typed;
 use bind_resolve::{Resolved, ResolvedQuery};
 use iv_types::{Catalog, Limit, Order, Refusal, ShapeRule, Statement};
-use object_kinds::kinds_of_object;
 use std::alloc::Global;
 
 // The types of a query.
@@ -59,7 +58,8 @@ fn check_select(
 {
     check_types(alloc, catalog, query)?;
     check_query(alloc, query)?;
-    rule(ShapeRule::NoItem, !are_named(&query.items, order))?;
+    let named = are_named(query.items.as_slice(), order);
+    rule(ShapeRule::NoItem, !named)?;
     limit(Limit::Columns, query.group.as_slice().len() as u128)
 }
 
@@ -89,21 +89,14 @@ pub fn check(
         } => check_index(alloc, catalog, statement, target, columns.as_slice()),
         Resolved::View { query, .. } => check_view(alloc, catalog, statement, query),
         Resolved::Insert { target, tuples } => {
-            let kinds = kinds_of_object(alloc, catalog, target)?;
-            check_insert(target, kinds.as_slice(), tuples.as_slice())
+            check_insert(alloc, catalog, target, tuples.as_slice())
         }
         Resolved::Update {
             target,
             sets,
             condition,
-        } => {
-            let kinds = kinds_of_one(alloc, catalog, target)?;
-            check_update(target, kinds.as_slice(), sets.as_slice(), condition)
-        }
-        Resolved::Delete { target, condition } => {
-            let kinds = kinds_of_one(alloc, catalog, target)?;
-            check_delete(target, kinds.as_slice(), condition)
-        }
+        } => check_update(alloc, catalog, target, sets.as_slice(), condition),
+        Resolved::Delete { target, condition } => check_delete(alloc, catalog, target, condition),
         Resolved::Select { query, order } => check_select(alloc, catalog, query, order),
         Resolved::Control => Ok(()),
     }

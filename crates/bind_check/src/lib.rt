@@ -4,20 +4,14 @@
 
 mod changing;
 mod checking;
-mod counting;
 mod creating;
-mod family;
 mod joining;
-mod kinds;
 mod objects;
 mod ordering;
-mod queries;
 mod refusing;
 mod shape;
 mod typing;
 mod view_joins;
-mod view_lists;
-mod widths;
 
 pub use checking::check;
 pub use objects::{as_table, number_of};

@@ -1,5 +1,5 @@
 //! Tests one after another.
-ghost use Rattle.std.specs.Prelude.{◌≡◌, nat_lt};
+ghost use Rattle.std.specs.Prelude.{◌≡◌};
 ghost use Rattle.iv_types.specs.declared.refusal.Refusal.TheVariants as refusal;
 ghost use Rattle.iv_meaning.specs.Tests.{at_most};
 ghost use Rattle.iv_meaning.specs.Binding.{refuse_if};
@@ -8,10 +8,6 @@ ghost use Rattle.bind_resolve.specs.Meant.{IsMeant};
 use iv_types::{Limit, Refusal, ShapeRule};
 
 /// A refusal where a test fails.
-///
-/// # Errors
-///
-/// It.
 pub fn refuse(fails: bool, refusal: Refusal) -> Result<(), Refusal>
     ensures { IsMeant (λ u. u) result (refuse_if (fails, refusal)) }
 {
@@ -19,10 +15,6 @@ pub fn refuse(fails: bool, refusal: Refusal) -> Result<(), Refusal>
 }
 
 /// The refusal of a shape rule that fails.
-///
-/// # Errors
-///
-/// `WrongShape` of it.
 pub fn rule(broken: ShapeRule, fails: bool) -> Result<(), Refusal>
     ensures { IsMeant (λ u. u) result (refuse_if (fails, refusal.WrongShape broken)) }
 {
@@ -30,10 +22,6 @@ pub fn rule(broken: ShapeRule, fails: bool) -> Result<(), Refusal>
 }
 
 /// The refusal of a limit that a count passes.
-///
-/// # Errors
-///
-/// `Limit` of it.
 pub fn limit(limit: Limit, count: u128) -> Result<(), Refusal>
     ensures { IsMeant (λ u. u) result (refuse_if (at_most limit count)) }
 {

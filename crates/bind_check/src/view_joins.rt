@@ -1,5 +1,5 @@
 //! The columns by which a view joins its second table, and the index by which it does.
-ghost use Rattle.std.specs.Prelude.{◌≡◌, find, map, IfOk};
+ghost use Rattle.std.specs.Prelude.{◌≡◌, find, IfOk};
 ghost use Rattle.std.specs.List.{filter_map};
 ghost use Rattle.std.specs.Option.{option_copied, option_map};
 ghost use Rattle.iv_meaning.specs.Tests.{begins_with, join_index};
@@ -92,10 +92,19 @@ fn serves(table: u32, columns: &[u32], definition: &Definition) -> bool
     ensures { result ≡ serves table columns.now (object_of definition.now) }
 {
     match definition {
-        Definition::Index(index) => index.table == table
-            && begins_with(columns, index.columns.as_slice()),
+        Definition::Index(index) => {
+            index.table == table && begins_with(columns, index.columns.as_slice())
+        }
         _ => false,
     }
+}
+
+// The first index of a table that begins with some columns.
+fn serving<'a>(catalog: &'a Catalog, table: u32, columns: &[u32]) -> Option<&'a Definition>
+    ensures { option_copied result ≡ find (λ d. serves table columns.now (object_of d)) catalog.now }
+{
+    let mut definitions = catalog.definitions().iter();
+    definitions.find(|d| serves(table, columns, d))
 }
 
 /// The first index of a table that begins with some columns, the primary one first.
@@ -112,21 +121,7 @@ pub fn join_index(catalog: &Catalog, table: &TableDef, columns: &[u32]) -> Optio
     }
 }
 
-// The first index of a table that begins with some columns.
-fn serving<'a>(catalog: &'a Catalog, table: u32, columns: &[u32]) -> Option<&'a Definition>
-    ensures { option_copied result ≡ find (λ d. serves table columns.now (object_of d)) catalog.now }
-{
-    catalog
-        .definitions()
-        .iter()
-        .find(|d| serves(table, columns, d))
-}
-
 /// Whether a join view of this first table lacks an index for its join.
-///
-/// # Errors
-///
-/// Where there is no memory for the columns of the join.
 pub fn lacks_index(
     alloc: Global,
     catalog: &Catalog,

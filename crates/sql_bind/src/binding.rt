@@ -10,12 +10,13 @@ ghost use Rattle.iv_meaning.specs.Binding as meant;
 ghost use Rattle.bind_resolve.specs.Meant.{IsMeant};
 ghost use Rattle.bind_resolve.specs.Seen.{resolved_seen};
 
-use crate::changes::{deletion, insertion, update};
 use crate::creating::{index, table, view};
 use crate::selecting::selection;
-use bind_check::check;
+use bind_check::{check, number_of};
 use bind_resolve::{Resolved, resolve};
-use iv_types::{Bound, Catalog, NoMemory, Refusal, Statement};
+use iv_types::{
+    Bound, BoundDelete, BoundInsert, BoundUpdate, Catalog, NoMemory, Refusal, Statement,
+};
 use std::alloc::Global;
 
 // What a resolved statement is bound to.
@@ -34,13 +35,26 @@ fn bound_of(alloc: Global, catalog: &Catalog, statement: Resolved<'_>) -> Result
             columns,
         } => index(alloc, catalog, name, target, columns),
         Resolved::View { name, query } => view(alloc, catalog, name, query),
-        Resolved::Insert { target, tuples } => Ok(insertion(target, tuples)),
+        Resolved::Insert { target, tuples } => {
+            let table = number_of(target);
+            Ok(Bound::Insert(BoundInsert { table, tuples }))
+        }
         Resolved::Update {
             target,
             sets,
             condition,
-        } => Ok(update(target, sets, condition)),
-        Resolved::Delete { target, condition } => Ok(deletion(target, condition)),
+        } => {
+            let table = number_of(target);
+            Ok(Bound::Update(BoundUpdate {
+                table,
+                sets,
+                condition,
+            }))
+        }
+        Resolved::Delete { target, condition } => {
+            let table = number_of(target);
+            Ok(Bound::Delete(BoundDelete { table, condition }))
+        }
         Resolved::Select { query, order } => selection(alloc, query, order),
         Resolved::Control => Ok(Bound::Control),
     }

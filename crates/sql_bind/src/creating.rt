@@ -149,25 +149,7 @@ fn made_view(
     })
 }
 
-fn view_of(
-    alloc: Global,
-    catalog: &Catalog,
-    name: &Bytes,
-    query: &ResolvedQuery<'_>,
-) -> Result<Bound, NoMemory>
-    ensures { IfOk result (λ b. bound_tree b ≡ meant.bound_of (schema_of catalog.now) (resolved.view name.now (query_seen query.now))) }
-{
-    match as_table(query.first) {
-        Some(first) => Ok(Bound::View(made_view(alloc, catalog, name, first, query)?)),
-        None => Ok(Bound::Control),
-    }
-}
-
 /// What a CREATE INDEXED VIEW is bound to. Its query is let go here alone, which is costly to prove.
-///
-/// # Errors
-///
-/// Where there is no memory for it.
 pub fn view(
     alloc: Global,
     catalog: &Catalog,
@@ -176,5 +158,8 @@ pub fn view(
 ) -> Result<Bound, NoMemory>
     ensures { IfOk result (λ b. bound_tree b ≡ meant.bound_of (schema_of catalog.now) (resolved.view name.now (query_seen query.entry))) }
 {
-    view_of(alloc, catalog, name, &query)
+    match as_table(query.first) {
+        Some(first) => Ok(Bound::View(made_view(alloc, catalog, name, first, &query)?)),
+        None => Ok(Bound::Control),
+    }
 }

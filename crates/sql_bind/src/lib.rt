@@ -2,7 +2,6 @@
 #![tactic(auto)]
 
 mod binding;
-mod changes;
 mod copies;
 mod creating;
 mod selecting;

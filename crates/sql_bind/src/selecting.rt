@@ -12,7 +12,7 @@ ghost use Rattle.iv_meaning.specs.Types.{sources_of};
 ghost use Rattle.bind_resolve.specs.Seen.{item_seen, joined_seen, query_seen};
 
 use bind_check::{item_named, number_of};
-use bind_resolve::{Joined, NamedItem, ResolvedQuery, ShortList};
+use bind_resolve::{Joined, NamedItem, ResolvedQuery, place};
 use iv_types::{
     Bound, BoundItem, BoundItemList, BoundOrder, BoundOrderList, BoundSelect, Expr, ExprList,
     NoMemory, Order, Places, Sequence,
@@ -32,29 +32,29 @@ fn relations_of(alloc: Global, query: &ResolvedQuery<'_>) -> Result<Places, NoMe
 }
 
 // The item by which a term of an ORDER BY sorts, and its direction.
-fn ordered(items: &ShortList<NamedItem<'_>>, order: &Order) -> Option<BoundOrder>
-    ensures { option_map order_tree result ≡ tests.ordered (map item_seen items.now) order.now }
+fn ordered(items: &[NamedItem<'_>], order: &Order) -> Result<Option<BoundOrder>, NoMemory>
+    ensures { IfOk result (λ by. option_map order_tree by ≡ tests.ordered (map item_seen items.now) order.now) }
 {
     match item_named(items, &order.by) {
-        Some(item) => Some(BoundOrder {
-            item,
+        Some(item) => Ok(Some(BoundOrder {
+            item: place(item)?,
             descending: order.descending,
-        }),
-        None => None,
+        })),
+        None => Ok(None),
     }
 }
 
 // Those of an ORDER BY.
 fn order_of(
     alloc: Global,
-    items: &ShortList<NamedItem<'_>>,
+    items: &[NamedItem<'_>],
     order: &[Order],
 ) -> Result<BoundOrderList, NoMemory>
     ensures { IfOk result (λ found. map order_tree found ≡ filter_map (tests.ordered (map item_seen items.now)) order.now) }
 {
     let mut found = BoundOrderList::new(alloc);
     for term in order {
-        if let Some(by) = ordered(items, term) {
+        if let Some(by) = ordered(items, term)? {
             found.push(by)?;
         }
     }
@@ -97,7 +97,7 @@ fn item_of(item: NamedItem<'_>) -> BoundItem
 
 // The items without their names.
 #[tactic(auto, using(crate::proofs::Parts::items_are))]
-fn items_of(alloc: Global, items: ShortList<NamedItem<'_>>) -> Result<BoundItemList, NoMemory>
+fn items_of(alloc: Global, items: Sequence<NamedItem<'_>>) -> Result<BoundItemList, NoMemory>
     ensures { IfOk result (λ found. map item_tree found ≡ map (λ i. i.item) (map item_seen items.entry)) }
 {
     let items = items.into_vec().into_iter();
@@ -150,6 +150,6 @@ pub fn selection(
     ensures { IfOk result (λ b. bound_tree b ≡ bound.select (bound_query (query_seen query.entry) order.now)) }
 {
     let relations = relations_of(alloc, &query)?;
-    let order = order_of(alloc, &query.items, order)?;
+    let order = order_of(alloc, query.items.as_slice(), order)?;
     select_of(alloc, query, relations, order)
 }
