@@ -18,12 +18,12 @@ ghost use Rattle.bind_resolve.specs.Seen.{item_seen, query_seen};
 ghost use Rattle.bind_check.specs.Checked.{index_tests, table_tests, view_limits};
 ghost use Rattle.bind_check.specs.Counting.{is_sum, width_of};
 
+use crate::checking::{limit, refuse, rule};
+use crate::joining::lacks_index;
 use crate::objects::{
     ObjectKind, as_table, count_of, have_many_readers, is_a, kinds_seen, primary_of,
 };
-use crate::refusing::{limit, refuse, rule};
 use crate::shape::repeats;
-use crate::view_joins::lacks_index;
 use bind_resolve::{NamedItem, ResolvedQuery, copied};
 use iv_types::{
     BoundItem, Catalog, ColumnAt, ColumnDef, Definition, Kind, KindList, Limit, NoMemory, Refusal,

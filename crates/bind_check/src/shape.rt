@@ -1,21 +1,24 @@
-//! The shape of queries.
-ghost use Rattle.std.specs.Prelude.{◌≡◌, ◌&&◌, ◌||◌, map, not, false, IfOk};
+//! The shape of queries, and the items by which an ORDER BY sorts.
+ghost use Rattle.std.specs.Prelude.{◌≡◌, ◌&&◌, ◌||◌, map, not, false, IfOk, None, Some, if◌then◌else◌, int_le, is_some, pos};
 ghost use Rattle.std.specs.List.{list_any, list_all};
 ghost use Rattle.std.specs.Option.{option_map_or};
 ghost use Rattle.iv_types.specs.Trees.{tree, perhaps_tree};
 ghost use Rattle.iv_meaning.specs.Bound.{item_tree};
-ghost use Rattle.iv_meaning.specs.Shape.{are_sums, has_arithmetic, is_aggregate, is_count_and_sums, is_empty, is_grouped, is_view_list, repeats, same_place};
-ghost use Rattle.iv_meaning.specs.Tests.{is_many_to_one, query_rules, view_rules};
+ghost use Rattle.iv_meaning.specs.Shape.{are_sums, has_arithmetic, is_aggregate, is_count_and_sums, is_empty, is_grouped, is_view_list, repeats, same_place, is_named};
+ghost use Rattle.iv_meaning.specs.Tests.{is_many_to_one, query_rules, view_rules, before_number, item_place, item_named};
 ghost use Rattle.iv_meaning.specs.Binding.{passed};
+ghost use Rattle.iv_meaning.specs.Resolving.{how_many};
 ghost use Rattle.bind_resolve.specs.Meant.{IsMeant};
 ghost use Rattle.bind_resolve.specs.Seen.{item_seen, query_seen};
 ghost use Rattle.bind_check.specs.Shapes.{is_arithmetic, is_named_count, is_named_sum};
 
+use crate::checking::rule;
 use crate::joining::joins_tables;
 use crate::objects::{ObjectKind, as_table, names_a};
-use crate::refusing::rule;
 use bind_resolve::{NamedItem, ResolvedQuery};
-use iv_types::{BoundItem, ColumnAt, Expr, NoMemory, Op, Refusal, ShapeRule};
+use iv_types::{
+    BoundItem, Bytes, ColumnAt, Expr, NoMemory, Op, Order, OrderKey, Refusal, ShapeRule,
+};
 use std::alloc::Global;
 
 // Whether something is one of some things.
@@ -81,30 +84,21 @@ fn lists_groups(query: &ResolvedQuery<'_>) -> bool
     items.all(|i| is_aggregate(&i.item) | is_grouped(group, &i.item))
 }
 
-// Whether FROM is one relation, or two tables of which the second is joined by its whole primary key.
-fn is_many_to_one(alloc: Global, query: &ResolvedQuery<'_>) -> Result<bool, NoMemory>
-    ensures { IfOk result (λ many. many ≡ is_many_to_one (query_seen query.now).first (query_seen query.now).joins) }
-{
-    match query.joins.as_slice() {
-        [] => Ok(true),
-        [join] => joins_tables(
-            alloc,
-            as_table(query.first),
-            as_table(join.object),
-            &join.on,
-        ),
-        _ => Ok(false),
-    }
-}
-
-// Whether a GROUP BY stands behind a FROM that may not be grouped.
+// Whether a GROUP BY stands behind a FROM that is neither one relation nor two tables of which the second is joined by its
+// whole primary key.
 fn groups_joined(alloc: Global, grouped: bool, query: &ResolvedQuery<'_>) -> Result<bool, NoMemory>
     ensures { IfOk result (λ joined. joined ≡ (grouped && not (is_many_to_one (query_seen query.now).first (query_seen query.now).joins))) }
 {
-    if grouped {
-        Ok(!is_many_to_one(alloc, query)?)
-    } else {
-        Ok(false)
+    if !grouped {
+        return Ok(false);
+    }
+    match query.joins.as_slice() {
+        [] => Ok(false),
+        [join] => {
+            let (first, second) = (as_table(query.first), as_table(join.object));
+            Ok(!joins_tables(alloc, first, second, &join.on)?)
+        }
+        _ => Ok(true),
     }
 }
 
@@ -215,4 +209,63 @@ pub fn check_view_query(query: &ResolvedQuery<'_>) -> Result<(), Refusal>
         condition_has_arithmetic(&query.condition),
     )?;
     rule(ShapeRule::ViewOfView, names_a(ObjectKind::View, query))
+}
+
+// Whether an item has this name.
+fn is_named(name: &Bytes, item: &NamedItem<'_>) -> bool
+    ensures { result ≡ is_named name.now (item_seen item.now) }
+{
+    match item.name {
+        Some(other) => name.as_slice() == other.as_slice(),
+        None => false,
+    }
+}
+
+// How many items have this name.
+#[tactic(auto, using(bind_resolve::proofs::Steps::count_seen))]
+fn how_many_named(name: &Bytes, items: &[NamedItem<'_>]) -> usize
+    ensures { result ≡ how_many (is_named name.now) (map item_seen items.now) }
+{
+    items.iter().filter(|i| is_named(name, i)).count()
+}
+
+// The place of the first item of this name.
+fn item_place(name: &Bytes, items: &[NamedItem<'_>]) -> usize
+    ensures { result ≡ item_place name.now 0 (map item_seen items.now) }
+{
+    for index in 0..items.len() {
+        if is_named(name, &items[index]) {
+            return index;
+        }
+    }
+    items.len()
+}
+
+/// The place of the item that a term of an ORDER BY names: by its number from 1, or by a name that it alone has.
+pub fn item_named(items: &[NamedItem<'_>], key: &OrderKey) -> Option<usize>
+    ensures { result ≡ item_named (map item_seen items.now) key.now }
+{
+    match key {
+        OrderKey::Place(number) => {
+            if 1 <= *number && *number <= items.len() as i128 {
+                Some((*number - 1) as usize)
+            } else {
+                None
+            }
+        }
+        OrderKey::Name(name) => {
+            if how_many_named(name, items) == 1 {
+                Some(item_place(name, items))
+            } else {
+                None
+            }
+        }
+    }
+}
+
+/// Whether each term of an ORDER BY names an item.
+pub fn are_named(items: &[NamedItem<'_>], order: &[Order]) -> bool
+    ensures { result ≡ list_all (λ o. is_some (item_named (map item_seen items.now) o.by)) order.now }
+{
+    order.iter().all(|o| item_named(items, &o.by).is_some())
 }

@@ -33,12 +33,6 @@ pub fn names_of(alloc: Global, columns: &[ColumnDef]) -> Result<Vec<&Bytes>, NoM
     Ok(names)
 }
 
-fn view_names(alloc: Global, view: &[Bytes]) -> Result<Vec<&Bytes>, NoMemory>
-    ensures { IfOk result (λ names. names_in names.items ≡ view.now) }
-{
-    Ok(view.iter().collect(alloc)?)
-}
-
 // The names of an object's columns.
 fn columns_of(alloc: Global, definition: &Definition) -> Result<Vec<&Bytes>, NoMemory>
     ensures { IfOk result (λ names. names_in names.items ≡ object_columns (object_of definition.now)) }
@@ -46,22 +40,7 @@ fn columns_of(alloc: Global, definition: &Definition) -> Result<Vec<&Bytes>, NoM
     match definition {
         Definition::Table(table) => names_of(alloc, table.columns.as_slice()),
         Definition::Index(_) => Ok(Vec::new(alloc)),
-        Definition::View(view) => view_names(alloc, view.names.as_slice()),
-    }
-}
-
-// The names of the columns of what a name stands for. What is not there has none.
-#[tactic(auto, using(crate::proofs::Objects::named_alike))]
-fn columns_named<'a>(
-    alloc: Global,
-    catalog: &'a Catalog,
-    name: &Bytes,
-) -> Result<Vec<&'a Bytes>, NoMemory>
-    ensures { IfOk result (λ names. names_in names.items ≡ option_map_or object_columns (schema.named (schema_of catalog.now) name.now) []) }
-{
-    match catalog.find(name.as_slice()) {
-        Some(definition) => columns_of(alloc, definition),
-        None => Ok(Vec::new(alloc)),
+        Definition::View(view) => Ok(view.names.as_slice().iter().collect(alloc)?),
     }
 }
 
@@ -85,8 +64,8 @@ pub fn empty_scope<'a>(alloc: Global) -> Scope<'a>
     }
 }
 
-// Adds a relation and its columns.
-fn add_relation<'a>(
+/// Adds a relation and its columns.
+pub fn add_relation<'a>(
     scope: &mut Scope<'a>,
     relation: &'a Bytes,
     names: &[&'a Bytes],
@@ -109,19 +88,6 @@ fn add_relation<'a>(
     scope.relations.push(relation)
 }
 
-/// One relation of these columns.
-pub fn scope_of_one<'a>(
-    alloc: Global,
-    name: &'a Bytes,
-    names: &[&'a Bytes],
-) -> Result<Scope<'a>, NoMemory>
-    ensures { IfOk result (λ scope. scope_seen scope ≡ meant.scope_of_one name.now (names_in names.now)) }
-{
-    let mut scope = empty_scope(alloc);
-    add_relation(&mut scope, name, names)?;
-    Ok(scope)
-}
-
 /// What a statement sees that changes an object.
 pub fn scope_of_object<'a>(
     alloc: Global,
@@ -131,7 +97,9 @@ pub fn scope_of_object<'a>(
     ensures { IfOk result (λ scope. scope_seen scope ≡ meant.scope_of_one name.now (object_columns (object_of definition.now))) }
 {
     let names = columns_of(alloc, definition)?;
-    scope_of_one(alloc, name, &names)
+    let mut scope = empty_scope(alloc);
+    add_relation(&mut scope, name, &names)?;
+    Ok(scope)
 }
 
 /// What a statement calls a relation.
@@ -144,7 +112,8 @@ pub fn called(relation: &Relation) -> &Bytes
     }
 }
 
-// Adds a relation of FROM.
+// Adds a relation of FROM. What is not there has no columns.
+#[tactic(auto, using(crate::proofs::Objects::named_alike))]
 fn add_source<'a>(
     alloc: Global,
     catalog: &'a Catalog,
@@ -154,8 +123,13 @@ fn add_source<'a>(
     ensures relations { OnOk result (names_in scope.new.relations ≡ names_in scope.old.relations ++ meant.called relation.now ∷ []) }
     ensures columns { OnOk result (map column_seen scope.new.columns ≡ map column_seen scope.old.columns ++ meant.columns_from (meant.called relation.now) (length scope.old.relations) 0 (option_map_or object_columns (schema.named (schema_of catalog.now) relation.now.name) [])) }
 {
-    let names = columns_named(alloc, catalog, &relation.name)?;
-    add_relation(scope, called(relation), &names)
+    match catalog.find(relation.name.as_slice()) {
+        Some(definition) => {
+            let names = columns_of(alloc, definition)?;
+            add_relation(scope, called(relation), &names)
+        }
+        None => add_relation(scope, called(relation), &[]),
+    }
 }
 
 /// What a query sees.

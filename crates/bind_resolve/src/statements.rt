@@ -14,29 +14,22 @@ use crate::Resolved;
 use crate::expressions::{assignments, condition, places, tuples};
 use crate::names::{Names, fresh, known, new_object};
 use crate::queries::query;
-use crate::scope::{names_of, scope_of_object, scope_of_one};
+use crate::scope::{add_relation, empty_scope, names_of, scope_of_object};
 use iv_types::{Bytes, Catalog, ColumnDef, Expr, Places, Refusal, Set, Statement};
 use std::alloc::Global;
 
 // The columns of a primary key among the columns of these names, which are distinct.
-fn key_places(
+fn key_places<'a>(
     alloc: Global,
-    table: &Bytes,
-    names: &[&Bytes],
+    table: &'a Bytes,
+    names: &[&'a Bytes],
     primary: &[Bytes],
 ) -> Result<Places, Refusal>
     ensures { IsMeant (λ places. places) result (meant.each (meant.place_of (meant.scope_of_one table.now (names_in names.now))) primary.now) }
 {
-    let scope = scope_of_one(alloc, table, names)?;
+    let mut scope = empty_scope(alloc);
+    add_relation(&mut scope, table, names)?;
     places(alloc, &scope, primary)
-}
-
-// Whether each of some names stands once.
-fn distinct(alloc: Global, names: &[&Bytes]) -> Result<(), Refusal>
-    ensures { IsMeant (λ free. free) result (meant.fresh [] (names_in names.now)) }
-{
-    let mut others = Names::new(alloc);
-    fresh(alloc, &mut others, names)
 }
 
 fn create_table<'a>(
@@ -50,7 +43,7 @@ fn create_table<'a>(
 {
     new_object(alloc, catalog, name)?;
     let names = names_of(alloc, columns)?;
-    distinct(alloc, &names)?;
+    fresh(alloc, &mut Names::new(alloc), &names)?;
     let primary = key_places(alloc, name, &names, primary)?;
     Ok(Resolved::Table {
         name,
@@ -99,20 +92,6 @@ fn update<'a>(
     })
 }
 
-fn delete<'a>(
-    alloc: Global,
-    catalog: &'a Catalog,
-    table: &'a Bytes,
-    where_: &Option<Expr>,
-) -> Result<Resolved<'a>, Refusal>
-    ensures { IsMeant resolved_seen result (meant.resolved (schema_of catalog.now) (syntax.delete table.now (perhaps_tree where_.now))) }
-{
-    let target = known(alloc, catalog, table)?;
-    let scope = scope_of_object(alloc, table, target)?;
-    let condition = condition(alloc, &scope, where_)?;
-    Ok(Resolved::Delete { target, condition })
-}
-
 /// A statement with objects and places for names.
 ///
 /// # Errors
@@ -154,7 +133,15 @@ pub fn resolve<'a>(
             sets,
             condition,
         } => update(alloc, catalog, table, sets.as_slice(), condition),
-        Statement::Delete { table, condition } => delete(alloc, catalog, table, condition),
+        Statement::Delete {
+            table,
+            condition: where_,
+        } => {
+            let target = known(alloc, catalog, table)?;
+            let scope = scope_of_object(alloc, table, target)?;
+            let condition = condition(alloc, &scope, where_)?;
+            Ok(Resolved::Delete { target, condition })
+        }
         Statement::Select { query: read, order } => {
             let query = query(alloc, false, catalog, read)?;
             let order = order.as_slice();

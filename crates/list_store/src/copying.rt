@@ -2,14 +2,16 @@
 ghost use Rattle.std.specs.Prelude.{◌≡◌, ◌++◌, ◌∷◌, [], IfOk, OnOk, OnErr};
 ghost use Rattle.iv_meaning.specs.Objects.{view_tree, object_of, schema_of};
 
+use crate::conditions::copied_condition;
 use iv_types::{
     Bytes, Catalog, ColumnAtList, Definition, IndexDef, NameList, NoMemory, Places, Second,
     TableDef, ViewDef,
 };
-use sql_bind::{copied_columns, copied_condition};
+use sql_bind::copied_columns;
 use std::alloc::Global;
 
-fn copied_name(alloc: Global, name: &Bytes) -> Result<Bytes, NoMemory>
+/// A copy of a name.
+pub fn copied_name(alloc: Global, name: &Bytes) -> Result<Bytes, NoMemory>
     ensures { IfOk result (λ copy. copy ≡ name.now) }
 {
     Ok(Bytes::from_vec(name.as_slice().to_vec(alloc)?))

@@ -2,6 +2,7 @@
 //! defines them.
 #![tactic(auto)]
 
+mod conditions;
 mod copying;
 mod evaluating;
 mod fetching;

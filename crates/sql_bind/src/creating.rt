@@ -12,12 +12,11 @@ ghost use Rattle.iv_meaning.specs.Schema as schema;
 ghost use Rattle.iv_meaning.specs.Tests as tests;
 ghost use Rattle.bind_resolve.specs.Seen.{item_seen, query_seen};
 
-use crate::copies::{copied_columns, copied_condition};
 use bind_check::{as_table, join_index, number_of, second_of};
 use bind_resolve::{NamedItem, ResolvedQuery, copied};
 use iv_types::{
-    Bound, BoundItem, Bytes, Catalog, ColumnAtList, ColumnDef, Definition, IndexDef, NameList,
-    NoMemory, Places, Second, TableDef, ViewDef,
+    Bound, BoundItem, Bytes, Catalog, ColumnAtList, ColumnDef, ColumnList, Definition, IndexDef,
+    NameList, NoMemory, Places, Second, TableDef, ViewDef,
 };
 use std::alloc::Global;
 
@@ -31,11 +30,31 @@ fn next_number(catalog: &Catalog) -> Result<u32, NoMemory>
     Ok(catalog.len() as u32 + 1)
 }
 
-/// What a CREATE TABLE is bound to.
+fn copied_column(alloc: Global, column: &ColumnDef) -> Result<ColumnDef, NoMemory>
+    ensures { IfOk result (λ copy. copy ≡ column.now) }
+{
+    Ok(ColumnDef {
+        name: copied(alloc, &column.name)?,
+        kind: column.kind,
+    })
+}
+
+/// A copy of the columns of a table.
 ///
 /// # Errors
 ///
 /// Where there is no memory for it.
+pub fn copied_columns(alloc: Global, columns: &[ColumnDef]) -> Result<ColumnList, NoMemory>
+    ensures { IfOk result (λ copy. copy ≡ columns.now) }
+{
+    let mut found = ColumnList::new(alloc);
+    for column in columns {
+        found.push(copied_column(alloc, column)?)?;
+    }
+    Ok(found)
+}
+
+/// What a CREATE TABLE is bound to.
 pub fn table(
     alloc: Global,
     catalog: &Catalog,
@@ -57,10 +76,6 @@ pub fn table(
 }
 
 /// What a CREATE INDEX is bound to.
-///
-/// # Errors
-///
-/// Where there is no memory for it.
 pub fn index(
     alloc: Global,
     catalog: &Catalog,
@@ -126,7 +141,7 @@ fn kept_second(
     }))
 }
 
-// The view that a query of this first table makes.
+// The view that a query of this first table makes, without the condition and the columns of GROUP BY.
 fn made_view(
     alloc: Global,
     catalog: &Catalog,
@@ -134,7 +149,7 @@ fn made_view(
     first: &TableDef,
     query: &ResolvedQuery<'_>,
 ) -> Result<ViewDef, NoMemory>
-    ensures { IfOk result (λ view. schema.view (view_tree view) ≡ meant.made_view (schema_of catalog.now) name.now (query_seen query.now) first.now) }
+    ensures { IfOk result (λ made. schema.view (view_tree (record made { condition = query.now.condition; group = query.now.group })) ≡ meant.made_view (schema_of catalog.now) name.now (query_seen query.now) first.now) }
 {
     let items = query.items.as_slice();
     Ok(ViewDef {
@@ -143,13 +158,13 @@ fn made_view(
         names: names_of(alloc, items)?,
         first: first.number,
         second: kept_second(alloc, catalog, first, query)?,
-        condition: copied_condition(alloc, &query.condition)?,
-        group: ColumnAtList::from_vec(query.group.as_slice().to_vec(alloc)?),
+        condition: None,
+        group: ColumnAtList::new(alloc),
         sums: sums_of(alloc, items)?,
     })
 }
 
-/// What a CREATE INDEXED VIEW is bound to. Its query is let go here alone, which is costly to prove.
+/// What a CREATE INDEXED VIEW is bound to.
 pub fn view(
     alloc: Global,
     catalog: &Catalog,
@@ -158,8 +173,16 @@ pub fn view(
 ) -> Result<Bound, NoMemory>
     ensures { IfOk result (λ b. bound_tree b ≡ meant.bound_of (schema_of catalog.now) (resolved.view name.now (query_seen query.entry))) }
 {
-    match as_table(query.first) {
-        Some(first) => Ok(Bound::View(made_view(alloc, catalog, name, first, &query)?)),
-        None => Ok(Bound::Control),
-    }
+    let Some(first) = as_table(query.first) else {
+        return Ok(Bound::Control);
+    };
+    let mut view = made_view(alloc, catalog, name, first, &query)?;
+    let ResolvedQuery {
+        condition,
+        group,
+        ..
+    } = query;
+    view.condition = condition;
+    view.group = group;
+    Ok(Bound::View(view))
 }

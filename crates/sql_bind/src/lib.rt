@@ -2,9 +2,8 @@
 #![tactic(auto)]
 
 mod binding;
-mod copies;
 mod creating;
 mod selecting;
 
 pub use binding::bind;
-pub use copies::{copied_columns, copied_condition};
+pub use creating::copied_columns;

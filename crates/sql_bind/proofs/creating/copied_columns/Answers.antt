@@ -1,6 +1,6 @@
 use Rattle.std.proofs.Common.{◌++◌, ◌∷◌, ◌∙◌, [], ap, refl}
 use Rattle.iv_types.proofs.Walks.{all_gathered, gathered}
-use Rattle.sql_bind.proofs.copies.copied_columns.Goals as goal
+use Rattle.sql_bind.proofs.creating.copied_columns.Goals as goal
 
 pub loop-column-preserved : goal.loop-column-preserved
 loop-column-preserved c =

@@ -1,9 +1,9 @@
-//! Copies of a statement's parts.
+//! Copies of conditions.
 ghost use Rattle.std.specs.Prelude.{◌≡◌, IfOk};
 ghost use Rattle.iv_types.specs.Trees.{tree, perhaps_tree};
 
-use bind_resolve::copied;
-use iv_types::{Bytes, ColumnDef, ColumnList, Expr, NoMemory, Ref};
+use crate::copying::copied_name;
+use iv_types::{Bytes, Expr, NoMemory, Ref};
 use std::alloc::Global;
 
 // A copy of a name that may be left out.
@@ -11,7 +11,7 @@ fn perhaps_copied(alloc: Global, name: &Option<Bytes>) -> Result<Option<Bytes>, 
     ensures { IfOk result (λ copy. copy ≡ name.now) }
 {
     match name {
-        Some(name) => Ok(Some(copied(alloc, name)?)),
+        Some(name) => Ok(Some(copied_name(alloc, name)?)),
         None => Ok(None),
     }
 }
@@ -21,7 +21,7 @@ fn copied_ref(alloc: Global, column: &Ref) -> Result<Ref, NoMemory>
 {
     Ok(Ref {
         qualifier: perhaps_copied(alloc, &column.qualifier)?,
-        name: copied(alloc, &column.name)?,
+        name: copied_name(alloc, &column.name)?,
     })
 }
 
@@ -30,7 +30,7 @@ fn copied_expression(alloc: Global, expression: &Expr) -> Result<Expr, NoMemory>
 {
     match expression {
         Expr::Number(number) => Ok(Expr::Number(*number)),
-        Expr::Word(word) => Ok(Expr::Word(copied(alloc, word)?)),
+        Expr::Word(word) => Ok(Expr::Word(copied_name(alloc, word)?)),
         Expr::Named(column) => Ok(Expr::Named(copied_ref(alloc, column)?)),
         Expr::At(place) => Ok(Expr::At(*place)),
         Expr::Not(operand) => {
@@ -61,28 +61,4 @@ pub fn copied_condition(alloc: Global, condition: &Option<Expr>) -> Result<Optio
         Some(condition) => Ok(Some(copied_expression(alloc, condition)?)),
         None => Ok(None),
     }
-}
-
-fn copied_column(alloc: Global, column: &ColumnDef) -> Result<ColumnDef, NoMemory>
-    ensures { IfOk result (λ copy. copy ≡ column.now) }
-{
-    Ok(ColumnDef {
-        name: copied(alloc, &column.name)?,
-        kind: column.kind,
-    })
-}
-
-/// A copy of the columns of a table.
-///
-/// # Errors
-///
-/// Where there is no memory for it.
-pub fn copied_columns(alloc: Global, columns: &[ColumnDef]) -> Result<ColumnList, NoMemory>
-    ensures { IfOk result (λ copy. copy ≡ columns.now) }
-{
-    let mut found = ColumnList::new(alloc);
-    for column in columns {
-        found.push(copied_column(alloc, column)?)?;
-    }
-    Ok(found)
 }

@@ -2,7 +2,7 @@ use Rattle.std.proofs.Common.{◌≡◌, map, ap, ◌∙◌, rules}
 use Rattle.iv_meaning.specs.Shape.{repeats}
 use Rattle.iv_meaning.specs.Tests.{same_number}
 use Rattle.bind_check.proofs.SeenLemmas.{set_twice}
-use Rattle.bind_check.proofs.changing.sets_twice.Goals as goal
+use Rattle.bind_check.proofs.checking.sets_twice.Goals as goal
 
 pub returns : goal.returns
 returns c =
