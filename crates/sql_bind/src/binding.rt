@@ -1,6 +1,4 @@
 //! Statements bound to what a database defines.
-#![tactic(auto, using(bind_resolve::proofs::Steps::stops, bind_resolve::proofs::Steps::goes_on))]
-
 ghost use Rattle.std.specs.Prelude.{◌≡◌, IfOk};
 ghost use Rattle.iv_types.specs.Printing.{statement_size};
 ghost use Rattle.iv_types.specs.Trees.{statement_tree};
@@ -65,16 +63,17 @@ fn let_go(statement: Resolved<'_>) {
     let _ = statement;
 }
 
-// What a resolved statement is bound to, unless one of its tests fails.
-#[tactic(auto, using(crate::proofs::Checked::passes))]
-fn checked(
-    alloc: Global,
-    catalog: &Catalog,
-    statement: &Statement,
-    resolved: Resolved<'_>,
-) -> Result<Bound, Refusal>
-    ensures { IsMeant bound_tree result (meant.checked (schema_of catalog.now) (statement_size (statement_tree statement.now)) (resolved_seen resolved.entry)) }
+/// A statement with numbers for the names of objects and places for the names of columns.
+///
+/// # Errors
+///
+/// The first fault of the first pass that finds one: `UnknownName` or `NameTaken` at the first place in the text; `WrongType`;
+/// `WrongShape` of the least rule that fails; `Limit` of the least number; `NeedsIndex`. `NoMemory` where there is none.
+#[tactic(auto, using(bind_resolve::proofs::Steps::stops, bind_resolve::proofs::Steps::goes_on, crate::proofs::Checked::passes))]
+pub fn bind(alloc: Global, catalog: &Catalog, statement: &Statement) -> Result<Bound, Refusal>
+    ensures { IsMeant bound_tree result (meant.bind (schema_of catalog.now) (statement_tree statement.now)) }
 {
+    let resolved = resolve(alloc, catalog, statement)?;
     match check(alloc, catalog, statement, &resolved) {
         Ok(()) => Ok(bound_of(alloc, catalog, resolved)?),
         Err(refusal) => {
@@ -82,17 +81,4 @@ fn checked(
             Err(refusal)
         }
     }
-}
-
-/// A statement with numbers for the names of objects and places for the names of columns.
-///
-/// # Errors
-///
-/// The first fault of the first pass that finds one: `UnknownName` or `NameTaken` at the first place in the text; `WrongType`;
-/// `WrongShape` of the least rule that fails; `Limit` of the least number; `NeedsIndex`. `NoMemory` where there is none.
-pub fn bind(alloc: Global, catalog: &Catalog, statement: &Statement) -> Result<Bound, Refusal>
-    ensures { IsMeant bound_tree result (meant.bind (schema_of catalog.now) (statement_tree statement.now)) }
-{
-    let resolved = resolve(alloc, catalog, statement)?;
-    checked(alloc, catalog, statement, resolved)
 }

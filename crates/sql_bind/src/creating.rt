@@ -30,15 +30,6 @@ fn next_number(catalog: &Catalog) -> Result<u32, NoMemory>
     Ok(catalog.len() as u32 + 1)
 }
 
-fn copied_column(alloc: Global, column: &ColumnDef) -> Result<ColumnDef, NoMemory>
-    ensures { IfOk result (λ copy. copy ≡ column.now) }
-{
-    Ok(ColumnDef {
-        name: copied(alloc, &column.name)?,
-        kind: column.kind,
-    })
-}
-
 /// A copy of the columns of a table.
 ///
 /// # Errors
@@ -49,7 +40,9 @@ pub fn copied_columns(alloc: Global, columns: &[ColumnDef]) -> Result<ColumnList
 {
     let mut found = ColumnList::new(alloc);
     for column in columns {
-        found.push(copied_column(alloc, column)?)?;
+        let name = copied(alloc, &column.name)?;
+        let kind = column.kind;
+        found.push(ColumnDef { name, kind })?;
     }
     Ok(found)
 }

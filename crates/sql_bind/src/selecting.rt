@@ -104,21 +104,16 @@ fn items_of(alloc: Global, items: Sequence<NamedItem<'_>>) -> Result<BoundItemLi
     Ok(BoundItemList::from_vec(items.map(item_of).collect(alloc)?))
 }
 
-// What a SELECT of these relations and this order is bound to.
-fn select_of(
+/// What a SELECT is bound to.
+pub fn selection(
     alloc: Global,
     query: ResolvedQuery<'_>,
-    relations: Places,
-    order: BoundOrderList,
+    order: &[Order],
 ) -> Result<Bound, NoMemory>
-    ensures { IfOk result (λ b. bound_tree b ≡ bound.select (record {
-      relations = relations;
-      conditions = map (λ j. j.on) (query_seen query.entry).joins ++ option_to_list (query_seen query.entry).condition;
-      items = map (λ i. i.item) (query_seen query.entry).items;
-      group = query.entry.group;
-      order = map order_tree order;
-    })) }
+    ensures { IfOk result (λ b. bound_tree b ≡ bound.select (bound_query (query_seen query.entry) order.now)) }
 {
+    let relations = relations_of(alloc, &query)?;
+    let order = order_of(alloc, query.items.as_slice(), order)?;
     let ResolvedQuery {
         items,
         first: _,
@@ -135,21 +130,4 @@ fn select_of(
         group,
         order,
     }))
-}
-
-/// What a SELECT is bound to.
-///
-/// # Errors
-///
-/// Where there is no memory for it.
-pub fn selection(
-    alloc: Global,
-    query: ResolvedQuery<'_>,
-    order: &[Order],
-) -> Result<Bound, NoMemory>
-    ensures { IfOk result (λ b. bound_tree b ≡ bound.select (bound_query (query_seen query.entry) order.now)) }
-{
-    let relations = relations_of(alloc, &query)?;
-    let order = order_of(alloc, query.items.as_slice(), order)?;
-    select_of(alloc, query, relations, order)
 }
