@@ -18,7 +18,7 @@ ghost use Rattle.bind_resolve.specs.Seen.{query_seen, resolved_seen};
 ghost use Rattle.bind_check.specs.Checked.{every_test, select_chain, view_chain};
 
 use crate::creating::{check_index, check_join, check_table, check_view_limits};
-use crate::objects::{ObjectKind, is_a, kinds_of_one, kinds_seen, primary_of, width_of};
+use crate::objects::{ObjectKind, is_a, kinds_seen, primary_of, width_of};
 use crate::shape::{are_named, check_query, check_view_query, repeats};
 use crate::typing::{condition_typed, query_typed, sets_typed, tuples_typed};
 use bind_resolve::{Resolved, ResolvedQuery};
@@ -100,8 +100,8 @@ pub fn check_update(
 ) -> Result<(), Refusal>
     ensures { IsMeant (λ u. u) result (passed (every_test (schema_of catalog.now) 0 (update (object_of target.now) (map set_tree sets.now) (perhaps_tree condition.now)))) }
 {
-    let kinds = kinds_of_one(alloc, catalog, target)?;
-    let typed = sets_typed(kinds.as_slice(), sets) & condition_typed(kinds.as_slice(), condition);
+    let kinds = [kinds_of_object(alloc, catalog, target)?];
+    let typed = sets_typed(&kinds, sets) & condition_typed(&kinds, condition);
     refuse(!typed, Refusal::WrongType)?;
     rule(ShapeRule::KeySet, sets_key(primary_of(target), sets))?;
     rule(ShapeRule::SetTwice, sets_twice(alloc, sets)?)?;
@@ -117,8 +117,8 @@ pub fn check_delete(
 ) -> Result<(), Refusal>
     ensures { IsMeant (λ u. u) result (passed (every_test (schema_of catalog.now) 0 (delete (object_of target.now) (perhaps_tree condition.now)))) }
 {
-    let kinds = kinds_of_one(alloc, catalog, target)?;
-    let typed = condition_typed(kinds.as_slice(), condition);
+    let kinds = [kinds_of_object(alloc, catalog, target)?];
+    let typed = condition_typed(&kinds, condition);
     refuse(!typed, Refusal::WrongType)?;
     rule(ShapeRule::NoTable, !is_a(ObjectKind::Table, target))
 }

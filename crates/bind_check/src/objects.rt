@@ -76,19 +76,6 @@ pub fn primary_of(definition: &Definition) -> &[u32]
     }
 }
 
-/// The kinds of its columns, as of a FROM of it alone.
-pub fn kinds_of_one(
-    alloc: Global,
-    catalog: &Catalog,
-    definition: &Definition,
-) -> Result<RelationKinds, NoMemory>
-    ensures { IfOk result (λ kinds. kinds ≡ object_kinds (schema_of catalog.now) (object_of definition.now) ∷ []) }
-{
-    let mut kinds = RelationKinds::new(alloc);
-    kinds.push(kinds_of_object(alloc, catalog, definition)?)?;
-    Ok(kinds)
-}
-
 /// The kinds of the columns of a query's relations, in FROM order.
 pub fn kinds_seen(
     alloc: Global,
@@ -97,7 +84,8 @@ pub fn kinds_seen(
 ) -> Result<RelationKinds, NoMemory>
     ensures { IfOk result (λ kinds. kinds ≡ meant.kinds_seen (schema_of catalog.now) (query_seen query.now)) }
 {
-    let mut kinds = kinds_of_one(alloc, catalog, query.first)?;
+    let mut kinds = RelationKinds::new(alloc);
+    kinds.push(kinds_of_object(alloc, catalog, query.first)?)?;
     for join in query.joins.as_slice() {
         kinds.push(kinds_of_object(alloc, catalog, join.object)?)?;
     }
