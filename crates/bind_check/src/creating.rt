@@ -4,15 +4,14 @@
 ghost use Rattle.std.specs.Prelude.{◌≡◌, ◌⊎◌, ◌≤◌, ◌++◌, map, Some, IfOk};
 ghost use Rattle.std.specs.List.{filter_map};
 ghost use Rattle.iv_types.specs.declared.refusal.Refusal.TheVariants as refusal;
-ghost use Rattle.iv_types.specs.declared.limit.Limit.TheVariants as limits;
 ghost use Rattle.iv_types.specs.Printing.{statement_size};
 ghost use Rattle.iv_types.specs.Trees.{statement_tree};
 ghost use Rattle.iv_meaning.specs.Schema.{items_at, kind_at, object_kinds, primary_of};
 ghost use Rattle.iv_meaning.specs.Objects.{object_of, schema_of};
 ghost use Rattle.iv_meaning.specs.Shape.{key_width, row_width, sums_in, width};
-ghost use Rattle.iv_meaning.specs.Tests.{at_most, index_test};
+ghost use Rattle.iv_meaning.specs.Tests.{index_test};
 ghost use Rattle.iv_meaning.specs.Types as types;
-ghost use Rattle.iv_meaning.specs.Binding.{passed, refuse_if};
+ghost use Rattle.iv_meaning.specs.Binding.{passed};
 ghost use Rattle.bind_resolve.specs.Meant.{IsMeant};
 ghost use Rattle.bind_resolve.specs.Seen.{item_seen, query_seen};
 ghost use Rattle.bind_check.specs.Checked.{index_tests, table_tests, view_limits};
@@ -150,16 +149,6 @@ fn sums_in(query: &ResolvedQuery<'_>) -> usize
     query.items.as_slice().iter().filter(|i| is_sum(i)).count()
 }
 
-// The limit of a CREATE statement's text.
-fn limit_text(statement: &Statement) -> Result<(), Refusal>
-    ensures { IsMeant (λ u. u) result (refuse_if (at_most limits.DefinitionBytes (statement_size (statement_tree statement.now)))) }
-{
-    limit(
-        Limit::DefinitionBytes,
-        u128::from(statement_bytes(statement)),
-    )
-}
-
 /// Those of a CREATE TABLE of these columns, whose primary key has these places.
 pub fn check_table(
     alloc: Global,
@@ -176,7 +165,8 @@ pub fn check_table(
     limit(Limit::Tables, tables + 1)?;
     limit(Limit::KeyWidth, new_key_width(alloc, columns, primary)?)?;
     limit(Limit::RowWidth, new_row_width(alloc, columns)?)?;
-    limit_text(statement)
+    let bytes = statement_bytes(statement);
+    limit(Limit::DefinitionBytes, u128::from(bytes))
 }
 
 /// Those of a CREATE INDEX of columns of these places.
@@ -198,7 +188,8 @@ pub fn check_index(
         Limit::KeyWidth,
         index_width(alloc, catalog, target, columns)?,
     )?;
-    limit_text(statement)
+    let bytes = statement_bytes(statement);
+    limit(Limit::DefinitionBytes, u128::from(bytes))
 }
 
 /// The limits of a CREATE INDEXED VIEW.
@@ -219,7 +210,8 @@ pub fn check_view_limits(
     )?;
     limit(Limit::KeyWidth, group_width(alloc, catalog, query)?)?;
     limit(Limit::Sums, sums_in(query) as u128)?;
-    limit_text(statement)
+    let bytes = statement_bytes(statement);
+    limit(Limit::DefinitionBytes, u128::from(bytes))
 }
 
 // The refusal of a table that lacks an index.

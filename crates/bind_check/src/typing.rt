@@ -5,8 +5,8 @@ ghost use Rattle.std.specs.Option.{option_copied, option_map};
 ghost use Rattle.iv_types.specs.Trees.{tree, trees, perhaps_tree};
 ghost use Rattle.iv_meaning.specs.Schema.{kind_at};
 ghost use Rattle.iv_meaning.specs.Bound.{item_tree, set_tree};
-ghost use Rattle.iv_meaning.specs.Types.{family_of_kind, is_number, is_text, is_truth, is_of, is_value, alike, typed, family_of_pair, family, condition_typed, item_typed, set_typed, tuple_typed};
-ghost use Rattle.bind_check.specs.Families.{family_of, perhaps_family};
+ghost use Rattle.iv_meaning.specs.Types.{family_of_kind, is_of, is_value, alike, typed, family_of_pair, family, condition_typed, item_typed, set_typed, tuple_typed};
+ghost use Rattle.bind_check.specs.Families.{family_of, is_a, perhaps_family};
 ghost use Rattle.bind_check.specs.Checked.{query_by, value_typed};
 
 use bind_resolve::ResolvedQuery;
@@ -14,29 +14,17 @@ use iv_types::{BoundItem, BoundSet, ColumnAt, Expr, ExprList, Kind, KindList, Op
 use object_kinds::kind_at;
 
 /// What an expression gives.
-#[derive(Clone, Copy)]
+#[derive(Clone, Copy, PartialEq)]
 pub enum Family {
     Number,
     Text,
     Truth,
 }
 
-fn is_number(family: Option<Family>) -> bool
-    ensures { result ≡ is_number (perhaps_family family) }
+fn is_a(wanted: Family, family: Option<Family>) -> bool
+    ensures { result ≡ is_a wanted (perhaps_family family) }
 {
-    matches!(family, Some(Family::Number))
-}
-
-fn is_text(family: Option<Family>) -> bool
-    ensures { result ≡ is_text (perhaps_family family) }
-{
-    matches!(family, Some(Family::Text))
-}
-
-fn is_truth(family: Option<Family>) -> bool
-    ensures { result ≡ is_truth (perhaps_family family) }
-{
-    matches!(family, Some(Family::Truth))
+    family == Some(wanted)
 }
 
 // Whether it is a number or a text.
@@ -51,8 +39,8 @@ fn is_of(kind: Kind, family: Option<Family>) -> bool
     ensures { result ≡ is_of kind (perhaps_family family) }
 {
     match kind {
-        Kind::Int | Kind::Huge => is_number(family),
-        Kind::Text => is_text(family),
+        Kind::Int | Kind::Huge => is_a(Family::Number, family),
+        Kind::Text => is_a(Family::Text, family),
     }
 }
 
@@ -61,8 +49,8 @@ fn alike(left: Option<Family>, right: Option<Family>) -> bool
     ensures { result ≡ alike (perhaps_family left) (perhaps_family right) }
 {
     match left {
-        Some(Family::Number) => is_number(right),
-        Some(Family::Text) => is_text(right),
+        Some(Family::Number) => is_a(Family::Number, right),
+        Some(Family::Text) => is_a(Family::Text, right),
         Some(Family::Truth) | None => false,
     }
 }
@@ -78,9 +66,9 @@ fn family_of_pair(op: Op, left: Option<Family>, right: Option<Family>) -> Option
     ensures { perhaps_family result ≡ family_of_pair op (perhaps_family left) (perhaps_family right) }
 {
     match op {
-        Op::Or | Op::And => typed(is_truth(left) & is_truth(right), Family::Truth),
+        Op::Or | Op::And => typed(is_a(Family::Truth, left) & is_a(Family::Truth, right), Family::Truth),
         Op::Add | Op::Subtract | Op::Multiply => {
-            typed(is_number(left) & is_number(right), Family::Number)
+            typed(is_a(Family::Number, left) & is_a(Family::Number, right), Family::Number)
         }
         Op::Equal | Op::NotEqual | Op::Less | Op::AtMost | Op::Greater | Op::AtLeast => {
             typed(alike(left, right), Family::Truth)
@@ -107,8 +95,8 @@ fn family_in(kinds: &[KindList], expression: &Expr) -> Option<Family>
         Expr::Word(_) => Some(Family::Text),
         Expr::Named(_) => None,
         Expr::At(place) => family_of_place(kinds, *place),
-        Expr::Not(operand) => typed(is_truth(family_in(kinds, operand)), Family::Truth),
-        Expr::Minus(operand) => typed(is_number(family_in(kinds, operand)), Family::Number),
+        Expr::Not(operand) => typed(is_a(Family::Truth, family_in(kinds, operand)), Family::Truth),
+        Expr::Minus(operand) => typed(is_a(Family::Number, family_in(kinds, operand)), Family::Number),
         Expr::Pair(op, left, right) => {
             let left = family_in(kinds, left);
             let right = family_in(kinds, right);
@@ -122,7 +110,7 @@ pub fn condition_typed(kinds: &[KindList], condition: &Option<Expr>) -> bool
     ensures { result ≡ condition_typed kinds.now (perhaps_tree condition.now) }
 {
     match condition {
-        Some(condition) => is_truth(family_in(kinds, condition)),
+        Some(condition) => is_a(Family::Truth, family_in(kinds, condition)),
         None => true,
     }
 }
@@ -152,7 +140,7 @@ fn item_typed(kinds: &[KindList], item: &BoundItem) -> bool
 {
     match item {
         BoundItem::Count => true,
-        BoundItem::Sum(place) => is_number(family_of_place(kinds, *place)),
+        BoundItem::Sum(place) => is_a(Family::Number, family_of_place(kinds, *place)),
         BoundItem::Plain(value) => is_value(family_in(kinds, value)),
     }
 }
@@ -170,7 +158,7 @@ pub fn query_typed(kinds: &[KindList], query: &ResolvedQuery<'_>) -> bool
         .joins
         .as_slice()
         .iter()
-        .all(|j| is_truth(family_in(kinds, &j.on)));
+        .all(|j| is_a(Family::Truth, family_in(kinds, &j.on)));
     items & joins & condition_typed(kinds, &query.condition)
 }
 
