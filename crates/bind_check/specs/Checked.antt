@@ -1,21 +1,20 @@
 -- No clause of `run` rests on this module: it serves contracts between crates.
 --
 -- Tests of resolved statements as they are made, part by part.
-use Rattle.std.specs.Prelude.{ℕ, ◌+◌, ◌&&◌, nat_lt, not, is_some, length, Bool, List, [], ◌∷◌, Option, Some, None, Result}
+use Rattle.std.specs.Prelude.{ℕ, ◌+◌, ◌&&◌, nat_lt, not, is_some, length, Bool, List, [], ◌∷◌, Result}
 use Rattle.std.specs.List.{filter_map, list_all, list_any}
 use Rattle.iv_types.specs.declared.value.Kind.{Kind}
 use Rattle.iv_types.specs.declared.statement.ColumnDef.{ColumnDef}
 use Rattle.iv_types.specs.declared.statement.Order.{Order}
 use Rattle.iv_types.specs.declared.refusal.Refusal.{Refusal}
 use Rattle.iv_types.specs.declared.refusal.Refusal.TheVariants.{Limit, WrongType}
-use Rattle.iv_types.specs.Syntax.{Tree}
 use Rattle.iv_types.specs.Trees.{perhaps_tree}
 use Rattle.iv_types.specs.declared.limit.Limit.TheVariants.{Columns, DefinitionBytes, KeyWidth, Readers, Sums, Views}
 use Rattle.iv_types.specs.declared.limit.ShapeRule.TheVariants.{NoItem}
 use Rattle.iv_types.specs.Limits.{most_of}
 use Rattle.iv_meaning.specs.Schema.{Schema, Object, as_view, kind_at}
 use Rattle.iv_meaning.specs.Shape.{key_width, object_number, readers, sums_in, width}
-use Rattle.iv_meaning.specs.Types.{family, is_of, is_truth, is_value, condition_typed, item_typed, kinds_seen, sources_of, query_typed, well_typed}
+use Rattle.iv_meaning.specs.Types.{family, is_truth, condition_typed, item_typed, kinds_seen, sources_of, query_typed, well_typed}
 use Rattle.iv_meaning.specs.Resolving as meant
 use Rattle.iv_meaning.specs.Resolving.{Resolved, table, index, and_then}
 use Rattle.iv_meaning.specs.Binding.{passed, refuse_if}
@@ -29,11 +28,6 @@ query_by kinds q =
     list_all (λ i. item_typed kinds (item_seen i).item) q.items
     && list_all (λ j. is_truth (family kinds (joined_seen j).on)) q.joins
     && condition_typed kinds (perhaps_tree q.condition)
-
--- a value of a column, or behind the last one
-abbrev pub value_typed : Option Kind → Tree → Bool
-value_typed None e = is_value (family [] e)
-value_typed (Some kind) e = is_of kind (family [] e)
 
 -- ---- CREATE
 

@@ -1,9 +1,8 @@
 //! The tests of CREATE statements.
 #![tactic(auto, using(bind_resolve::proofs::Steps::stops, bind_resolve::proofs::Steps::goes_on))]
 
-ghost use Rattle.std.specs.Prelude.{◌≡◌, ◌⊎◌, ◌≤◌, ◌++◌, map, Some, IfOk};
+ghost use Rattle.std.specs.Prelude.{◌≡◌, ◌≤◌, ◌++◌, map, Some, IfOk};
 ghost use Rattle.std.specs.List.{filter_map};
-ghost use Rattle.iv_types.specs.declared.refusal.Refusal.TheVariants as refusal;
 ghost use Rattle.iv_types.specs.Printing.{statement_size};
 ghost use Rattle.iv_types.specs.Trees.{statement_tree};
 ghost use Rattle.iv_meaning.specs.Schema.{items_at, kind_at, object_kinds, primary_of};
@@ -26,7 +25,7 @@ use crate::shape::repeats;
 use bind_resolve::{NamedItem, ResolvedQuery, copied};
 use iv_types::{
     BoundItem, Catalog, ColumnAt, ColumnDef, Definition, Kind, KindList, Limit, NoMemory, Refusal,
-    ShapeRule, Statement, TableDef,
+    ShapeRule, Statement,
 };
 use object_kinds::{kind_at, kinds_at, kinds_of_object};
 use sql_pieces::statement_bytes;
@@ -214,16 +213,6 @@ pub fn check_view_limits(
     limit(Limit::DefinitionBytes, u128::from(bytes))
 }
 
-// The refusal of a table that lacks an index.
-fn needs_index(alloc: Global, table: &TableDef) -> Refusal
-    ensures { (result ≡ refusal.NoMemory) ⊎ (result ≡ refusal.NeedsIndex table.now.name) }
-{
-    match copied(alloc, &table.name) {
-        Ok(name) => Refusal::NeedsIndex(name),
-        Err(_) => Refusal::NoMemory,
-    }
-}
-
 /// Whether the first table of a join view has the index that it needs.
 pub fn check_join(
     alloc: Global,
@@ -236,7 +225,7 @@ pub fn check_join(
         return Ok(());
     };
     if lacks_index(alloc, catalog, first, query)? {
-        return Err(needs_index(alloc, first));
+        return Err(Refusal::NeedsIndex(copied(alloc, &first.name)?));
     }
     Ok(())
 }

@@ -221,14 +221,6 @@ fn is_named(name: &Bytes, item: &NamedItem<'_>) -> bool
     }
 }
 
-// How many items have this name.
-#[tactic(auto, using(bind_resolve::proofs::Steps::count_seen))]
-fn how_many_named(name: &Bytes, items: &[NamedItem<'_>]) -> usize
-    ensures { result ≡ how_many (is_named name.now) (map item_seen items.now) }
-{
-    items.iter().filter(|i| is_named(name, i)).count()
-}
-
 // The place of the first item of this name.
 fn item_place(name: &Bytes, items: &[NamedItem<'_>]) -> usize
     ensures { result ≡ item_place name.now 0 (map item_seen items.now) }
@@ -242,6 +234,7 @@ fn item_place(name: &Bytes, items: &[NamedItem<'_>]) -> usize
 }
 
 /// The place of the item that a term of an ORDER BY names: by its number from 1, or by a name that it alone has.
+#[tactic(auto, using(bind_resolve::proofs::Steps::count_seen))]
 pub fn item_named(items: &[NamedItem<'_>], key: &OrderKey) -> Option<usize>
     ensures { result ≡ item_named (map item_seen items.now) key.now }
 {
@@ -254,7 +247,8 @@ pub fn item_named(items: &[NamedItem<'_>], key: &OrderKey) -> Option<usize>
             }
         }
         OrderKey::Name(name) => {
-            if how_many_named(name, items) == 1 {
+            let named = items.iter().filter(|i| is_named(name, i)).count();
+            if named == 1 {
                 Some(item_place(name, items))
             } else {
                 None

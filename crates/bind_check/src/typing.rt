@@ -1,13 +1,13 @@
 //! Whether resolved expressions have their types.
 ghost use Rattle.std.specs.Prelude.{◌≡◌, ◌&&◌, [], map};
 ghost use Rattle.std.specs.List.{list_all};
-ghost use Rattle.std.specs.Option.{option_copied, option_map};
+ghost use Rattle.std.specs.Option.{option_map};
 ghost use Rattle.iv_types.specs.Trees.{tree, trees, perhaps_tree};
 ghost use Rattle.iv_meaning.specs.Schema.{kind_at};
 ghost use Rattle.iv_meaning.specs.Bound.{item_tree, set_tree};
 ghost use Rattle.iv_meaning.specs.Types.{family_of_kind, is_of, is_value, alike, typed, family_of_pair, family, condition_typed, item_typed, set_typed, tuple_typed};
 ghost use Rattle.bind_check.specs.Families.{family_of, is_a, perhaps_family};
-ghost use Rattle.bind_check.specs.Checked.{query_by, value_typed};
+ghost use Rattle.bind_check.specs.Checked.{query_by};
 
 use bind_resolve::ResolvedQuery;
 use iv_types::{BoundItem, BoundSet, ColumnAt, Expr, ExprList, Kind, KindList, Op};
@@ -48,11 +48,7 @@ fn is_of(kind: Kind, family: Option<Family>) -> bool
 fn alike(left: Option<Family>, right: Option<Family>) -> bool
     ensures { result ≡ alike (perhaps_family left) (perhaps_family right) }
 {
-    match left {
-        Some(Family::Number) => is_a(Family::Number, right),
-        Some(Family::Text) => is_a(Family::Text, right),
-        Some(Family::Truth) | None => false,
-    }
+    is_value(left) & (left == right)
 }
 
 // A family, if the operands have their types.
@@ -66,9 +62,15 @@ fn family_of_pair(op: Op, left: Option<Family>, right: Option<Family>) -> Option
     ensures { perhaps_family result ≡ family_of_pair op (perhaps_family left) (perhaps_family right) }
 {
     match op {
-        Op::Or | Op::And => typed(is_a(Family::Truth, left) & is_a(Family::Truth, right), Family::Truth),
+        Op::Or | Op::And => typed(
+            is_a(Family::Truth, left) & is_a(Family::Truth, right),
+            Family::Truth,
+        ),
         Op::Add | Op::Subtract | Op::Multiply => {
-            typed(is_a(Family::Number, left) & is_a(Family::Number, right), Family::Number)
+            typed(
+                is_a(Family::Number, left) & is_a(Family::Number, right),
+                Family::Number,
+            )
         }
         Op::Equal | Op::NotEqual | Op::Less | Op::AtMost | Op::Greater | Op::AtLeast => {
             typed(alike(left, right), Family::Truth)
@@ -95,8 +97,14 @@ fn family_in(kinds: &[KindList], expression: &Expr) -> Option<Family>
         Expr::Word(_) => Some(Family::Text),
         Expr::Named(_) => None,
         Expr::At(place) => family_of_place(kinds, *place),
-        Expr::Not(operand) => typed(is_a(Family::Truth, family_in(kinds, operand)), Family::Truth),
-        Expr::Minus(operand) => typed(is_a(Family::Number, family_in(kinds, operand)), Family::Number),
+        Expr::Not(operand) => typed(
+            is_a(Family::Truth, family_in(kinds, operand)),
+            Family::Truth,
+        ),
+        Expr::Minus(operand) => typed(
+            is_a(Family::Number, family_in(kinds, operand)),
+            Family::Number,
+        ),
         Expr::Pair(op, left, right) => {
             let left = family_in(kinds, left);
             let right = family_in(kinds, right);
@@ -162,23 +170,17 @@ pub fn query_typed(kinds: &[KindList], query: &ResolvedQuery<'_>) -> bool
     items & joins & condition_typed(kinds, &query.condition)
 }
 
-// Whether a value may stand in a column of this kind, or behind the last one.
-fn value_typed(kind: Option<&Kind>, value: &Expr) -> bool
-    ensures { result ≡ value_typed (option_copied kind.entry) (tree value.now) }
-{
-    let family = family_in(&[], value);
-    match kind {
-        Some(kind) => is_of(*kind, family),
-        None => is_value(family),
-    }
-}
-
 // Whether the values of a tuple have the families of the columns.
 fn tuple_typed(kinds: &[Kind], tuple: &[Expr]) -> bool
     ensures { result ≡ tuple_typed kinds.now (trees tuple.now) }
 {
     for index in 0..tuple.len() {
-        if !value_typed(kinds.get(index), &tuple[index]) {
+        let family = family_in(&[], &tuple[index]);
+        let typed = match kinds.get(index) {
+            Some(kind) => is_of(*kind, family),
+            None => is_value(family),
+        };
+        if !typed {
             return false;
         }
     }
