@@ -7,7 +7,7 @@ use denote.Ref.{Bor}
 use Rattle.std.proofs.lemmas.List.{at_drop_more, at_drop_all}
 use Rattle.iv_types.specs.declared.refusal.Refusal.{Refusal}
 use Rattle.iv_types.specs.declared.refusal.Refusal.TheVariants.{NoMemory, NameTaken}
-use Rattle.iv_types.specs.Syntax.{ItemTree, JoinTree, QueryTree}
+use Rattle.iv_types.specs.Syntax.{ItemTree, JoinTree, QueryTree, Tree}
 use Rattle.iv_types.specs.declared.statement.Relation.{Relation}
 use Rattle.iv_meaning.specs.Schema.{Schema, Object}
 use Rattle.iv_meaning.specs.Resolving.{is_among, NamedItem, Scope, Joined, and_then, called, expression, fresh, items_for, items_resolved, joins_resolved, known, names_in, query_resolved, scope_from, source}
@@ -138,8 +138,16 @@ joins_alike objects scope xs ys (join ∷ joins) h =
 join_step : (objects : Schema) (scope : Scope) (others : List (List ℕ)) (join : JoinTree) (joins : List JoinTree)
     → joins_resolved objects scope others (join ∷ joins) ≡ and_then (next_join objects scope others join) (λ j. before (j ∷ []) (joins_resolved objects scope (called join.relation ∷ others) joins))
 join_step objects scope others join joins =
-    under (source objects others join.relation) _ _ (λ object. sym (nested (expression scope join.on) (λ on. Ok (record { object = object; on = on })) (λ (j : Joined). before (j ∷ []) (joins_resolved objects scope (called join.relation ∷ others) joins))))
-    ∙ sym (nested (source objects others join.relation) (λ object. and_then (expression scope join.on) (λ on. Ok (record { object = object; on = on }))) (λ (j : Joined). before (j ∷ []) (joins_resolved objects scope (called join.relation ∷ others) joins)))
+    let known_ : Result Object Refusal = known objects join.relation.name in
+    let new_ : Result (Unit {0}) Refusal = fresh others (called join.relation ∷ []) in
+    let on_ : Result Tree Refusal = expression scope join.on in
+    let rest : Joined → Result (List Joined) Refusal = λ j. before (j ∷ []) (joins_resolved objects scope (called join.relation ∷ others) joins) in
+    nested known_ (λ object. and_then new_ (λ new. Ok object)) (λ object. and_then on_ (λ on. rest (record { object = object; on = on })))
+    ∙ (under known_ _ _ (λ object.
+    nested new_ (λ new. Ok object) (λ object. and_then on_ (λ on. rest (record { object = object; on = on })))
+    ∙ (under new_ _ _ (λ new. sym (nested on_ (λ on. Ok (record { object = object; on = on })) rest))
+    ∙ sym (nested new_ (λ new. and_then on_ (λ on. Ok (record { object = object; on = on }))) rest)))
+    ∙ sym (nested known_ (λ object. and_then new_ (λ new. and_then on_ (λ on. Ok (record { object = object; on = on })))) rest))
 
 pub one_join : (objects : Schema) (scope : Scope) (others after : List (List ℕ)) (join : JoinTree) (joins : List JoinTree) (j : Joined)
     → next_join objects scope others join ≡ Ok j → Alike after (called join.relation ∷ others)

@@ -6,7 +6,7 @@ use Rattle.std.specs.Str.{bytes_eq}
 use Rattle.iv_types.specs.declared.refusal.Refusal.{Refusal}
 use Rattle.iv_types.specs.Syntax.{ItemTree, JoinTree, QueryTree}
 use Rattle.iv_meaning.specs.Schema.{Schema}
-use Rattle.iv_meaning.specs.Resolving.{Column, NamedItem, Scope, Joined, ResolvedQuery, and_then, called, column_of, each, expression, fresh, items_for, items_resolved, joins_resolved, known, names_in, perhaps, source}
+use Rattle.iv_meaning.specs.Resolving.{Column, NamedItem, Scope, Joined, ResolvedQuery, and_then, called, column_of, each, expression, fresh, items_for, items_resolved, joins_resolved, known, names_in, perhaps}
 use Rattle.bind_resolve.specs.Seen.{Alike}
 
 -- a column has this name, in a relation that is called so
@@ -19,7 +19,10 @@ abbrev pub next_items : Bool → Scope → List (List ℕ) → ItemTree → Resu
 next_items view scope others item = and_then (items_for scope item) (λ some. and_then (if view then fresh others (names_in some) else Ok tt) (λ new. Ok some))
 
 abbrev pub next_join : Schema → Scope → List (List ℕ) → JoinTree → Result Joined Refusal
-next_join objects scope others join = and_then (source objects others join.relation) (λ object. and_then (expression scope join.on) (λ on. Ok (record { object = object; on = on })))
+next_join objects scope others join =
+    and_then (known objects join.relation.name) (λ object.
+    and_then (fresh others (called join.relation ∷ [])) (λ new.
+    and_then (expression scope join.on) (λ on. Ok (record { object = object; on = on }))))
 
 -- in a view, names join others
 abbrev pub Joins : Bool → List (List ℕ) → List (List ℕ) → List (List ℕ) → Type 0

@@ -1,7 +1,6 @@
 //! Names of objects, and names that are taken.
-ghost use Rattle.std.specs.Prelude.{◌≡◌, ◌⊎◌, ◌∷◌, [], ◌++◌, IfOk, OnOk};
+ghost use Rattle.std.specs.Prelude.{◌≡◌, ◌∷◌, [], ◌++◌, IfOk, OnOk};
 ghost use Rattle.std.specs.Str.{bytes_eq};
-ghost use Rattle.iv_types.specs.declared.refusal.Refusal.TheVariants as refusal;
 ghost use Rattle.iv_meaning.specs.Objects.{schema_of, object_of};
 ghost use Rattle.iv_meaning.specs.Resolving.{is_among};
 ghost use Rattle.iv_meaning.specs.Resolving as meant;
@@ -33,26 +32,6 @@ pub fn same_name(name: &Bytes, other: &Bytes) -> bool
     name.as_slice() == other.as_slice()
 }
 
-/// The refusal of a name that stands for nothing.
-pub fn unknown(alloc: Global, name: &Bytes) -> Refusal
-    ensures { (result ≡ refusal.NoMemory) ⊎ (result ≡ refusal.UnknownName name.now) }
-{
-    match copied(alloc, name) {
-        Ok(name) => Refusal::UnknownName(name),
-        Err(_) => Refusal::NoMemory,
-    }
-}
-
-// The refusal of a name that is taken.
-fn taken(alloc: Global, name: &Bytes) -> Refusal
-    ensures { (result ≡ refusal.NoMemory) ⊎ (result ≡ refusal.NameTaken name.now) }
-{
-    match copied(alloc, name) {
-        Ok(name) => Refusal::NameTaken(name),
-        Err(_) => Refusal::NoMemory,
-    }
-}
-
 /// The object of a name, or the refusal of a name that has none.
 #[tactic(auto, using(crate::proofs::Objects::is_known, crate::proofs::Objects::is_unknown))]
 pub fn known<'a>(
@@ -64,7 +43,7 @@ pub fn known<'a>(
 {
     match catalog.find(name.as_slice()) {
         Some(definition) => Ok(definition),
-        None => Err(unknown(alloc, name)),
+        None => Err(Refusal::UnknownName(copied(alloc, name)?)),
     }
 }
 
@@ -74,7 +53,7 @@ pub fn new_object(alloc: Global, catalog: &Catalog, name: &Bytes) -> Result<(), 
     ensures { IsMeant (λ free. name.now) result (meant.new_object (schema_of catalog.now) name.now) }
 {
     if catalog.find(name.as_slice()).is_some() {
-        return Err(taken(alloc, name));
+        return Err(Refusal::NameTaken(copied(alloc, name)?));
     }
     Ok(())
 }
@@ -92,7 +71,7 @@ pub fn new_name<'a>(alloc: Global, others: &mut Names<'a>, name: &'a Bytes) -> R
     ensures joined { OnOk result (Alike (names_in others.new.keys) (name.now ∷ names_in others.old.keys)) }
 {
     if is_among(others, name) {
-        return Err(taken(alloc, name));
+        return Err(Refusal::NameTaken(copied(alloc, name)?));
     }
     others.insert(name.as_slice())?;
     Ok(())

@@ -4,7 +4,7 @@
 ghost use Rattle.std.specs.Prelude.{◌≡◌, ◌∷◌, [], map, IfOk, OnOk};
 ghost use Rattle.std.specs.Option.{option_copied};
 ghost use Rattle.iv_types.specs.Trees.{tree, item_tree, join_tree, query_tree};
-ghost use Rattle.iv_meaning.specs.Objects.{schema_of, object_of};
+ghost use Rattle.iv_meaning.specs.Objects.{schema_of};
 ghost use Rattle.iv_meaning.specs.Resolving.{item_name};
 ghost use Rattle.iv_meaning.specs.Resolving as meant;
 ghost use Rattle.bind_resolve.specs.Meant.{IsMeant};
@@ -16,8 +16,7 @@ use crate::names::{Names, fresh, known, new_name};
 use crate::scope::{called, column_of, scope_from};
 use crate::{Joined, NamedItem, ResolvedQuery, Scope};
 use iv_types::{
-    BoundItem, Bytes, Catalog, Definition, Expr, Item, Join, NoMemory, Query, Refusal, Relation,
-    Sequence,
+    BoundItem, Bytes, Catalog, Expr, Item, Join, NoMemory, Query, Refusal, Relation, Sequence,
 };
 use std::alloc::Global;
 
@@ -130,21 +129,6 @@ fn items<'a>(
     Ok(Sequence::from_vec(found))
 }
 
-// The object of a relation, whose name joins those of the relations before it.
-fn source<'a>(
-    alloc: Global,
-    catalog: &'a Catalog,
-    others: &mut Names<'a>,
-    relation: &'a Relation,
-) -> Result<&'a Definition, Refusal>
-    ensures object { IsMeant (λ d. object_of d.now) result (meant.source (schema_of catalog.now) (names_in others.old.keys) relation.now) }
-    ensures joined { OnOk result (Alike (names_in others.new.keys) (meant.called relation.now ∷ names_in others.old.keys)) }
-{
-    let object = known(alloc, catalog, &relation.name)?;
-    new_name(alloc, others, called(relation))?;
-    Ok(object)
-}
-
 // A further relation, whose name joins those before it.
 fn joined<'a>(
     alloc: Global,
@@ -156,7 +140,8 @@ fn joined<'a>(
     ensures join { IsMeant joined_seen result (next_join (schema_of catalog.now) (scope_seen scope.now) (names_in others.old.keys) (join_tree join.now)) }
     ensures joined { OnOk result (Alike (names_in others.new.keys) (meant.called join.now.relation ∷ names_in others.old.keys)) }
 {
-    let object = source(alloc, catalog, others, &join.relation)?;
+    let object = known(alloc, catalog, &join.relation.name)?;
+    new_name(alloc, others, called(&join.relation))?;
     let on = expression(alloc, scope, &join.on)?;
     Ok(Joined { object, on })
 }

@@ -8,29 +8,15 @@ ghost use Rattle.iv_types.specs.Trees as trees_of;
 ghost use Rattle.iv_meaning.specs.Objects.{schema_of};
 ghost use Rattle.iv_meaning.specs.Resolving as meant;
 ghost use Rattle.bind_resolve.specs.Meant.{IsMeant};
-ghost use Rattle.bind_resolve.specs.Seen.{names_in, resolved_seen};
+ghost use Rattle.bind_resolve.specs.Seen.{resolved_seen};
 
 use crate::Resolved;
 use crate::expressions::{assignments, condition, places, tuples};
 use crate::names::{Names, fresh, known, new_object};
 use crate::queries::query;
 use crate::scope::{add_relation, empty_scope, names_of, scope_of_object};
-use iv_types::{Bytes, Catalog, ColumnDef, Expr, Places, Refusal, Set, Statement};
+use iv_types::{Bytes, Catalog, ColumnDef, Expr, Refusal, Set, Statement};
 use std::alloc::Global;
-
-// The columns of a primary key among the columns of these names, which are distinct.
-fn key_places<'a>(
-    alloc: Global,
-    table: &'a Bytes,
-    names: &[&'a Bytes],
-    primary: &[Bytes],
-) -> Result<Places, Refusal>
-    ensures { IsMeant (λ places. places) result (meant.each (meant.place_of (meant.scope_of_one table.now (names_in names.now))) primary.now) }
-{
-    let mut scope = empty_scope(alloc);
-    add_relation(&mut scope, table, names)?;
-    places(alloc, &scope, primary)
-}
 
 fn create_table<'a>(
     alloc: Global,
@@ -44,7 +30,9 @@ fn create_table<'a>(
     new_object(alloc, catalog, name)?;
     let names = names_of(alloc, columns)?;
     fresh(alloc, &mut Names::new(alloc), &names)?;
-    let primary = key_places(alloc, name, &names, primary)?;
+    let mut scope = empty_scope(alloc);
+    add_relation(&mut scope, name, &names)?;
+    let primary = places(alloc, &scope, primary)?;
     Ok(Resolved::Table {
         name,
         columns,

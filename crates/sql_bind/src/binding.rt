@@ -8,8 +8,7 @@ ghost use Rattle.iv_meaning.specs.Binding as meant;
 ghost use Rattle.bind_resolve.specs.Meant.{IsMeant};
 ghost use Rattle.bind_resolve.specs.Seen.{resolved_seen};
 
-use crate::creating::{index, table, view};
-use crate::selecting::selection;
+use crate::creating::{index, selection, table, view};
 use bind_check::{check, number_of};
 use bind_resolve::{Resolved, resolve};
 use iv_types::{

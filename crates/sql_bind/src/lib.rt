@@ -3,7 +3,6 @@
 
 mod binding;
 mod creating;
-mod selecting;
 
 pub use binding::bind;
 pub use creating::copied_columns;

@@ -2,7 +2,7 @@ use Rattle.std.proofs.Common.{◌≡◌, ◌++◌, map, drop}
 use Rattle.iv_meaning.specs.Shape.{object_number}
 use Rattle.iv_meaning.specs.Types.{sources_of}
 use Rattle.bind_resolve.specs.Seen.{joined_seen, query_seen}
-use Rattle.sql_bind.proofs.selecting.relations_of.Given as goal
+use Rattle.sql_bind.proofs.creating.relations_of.Given as goal
 
 abbrev pub invariant-loop-join : goal.invariant-loop-join
 invariant-loop-join l =
