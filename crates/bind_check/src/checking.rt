@@ -12,15 +12,14 @@ ghost use Rattle.iv_meaning.specs.Bound.{set_tree};
 ghost use Rattle.iv_meaning.specs.Objects.{object_of, schema_of};
 ghost use Rattle.iv_meaning.specs.Shape.{repeats};
 ghost use Rattle.iv_meaning.specs.Resolving.{delete, insert, update};
-ghost use Rattle.iv_meaning.specs.Types.{query_typed};
 ghost use Rattle.bind_resolve.specs.Meant.{IsMeant};
 ghost use Rattle.bind_resolve.specs.Seen.{query_seen, resolved_seen};
 ghost use Rattle.bind_check.specs.Checked.{every_test, select_chain, view_chain};
 
 use crate::creating::{check_index, check_join, check_table, check_view_limits};
-use crate::objects::{ObjectKind, is_a, kinds_seen, primary_of, width_of};
+use crate::objects::{ObjectKind, is_a, primary_of, width_of};
 use crate::shape::{are_named, check_query, check_view_query, repeats};
-use crate::typing::{condition_typed, query_typed, sets_typed, tuples_typed};
+use crate::typing::{check_types, condition_typed, sets_typed, tuples_typed};
 use bind_resolve::{Resolved, ResolvedQuery};
 use iv_types::{
     BoundSet, Catalog, Definition, Expr, ExprList, Limit, NoMemory, Order, Refusal, ShapeRule,
@@ -121,14 +120,6 @@ pub fn check_delete(
     let typed = condition_typed(&kinds, condition);
     refuse(!typed, Refusal::WrongType)?;
     rule(ShapeRule::NoTable, !is_a(ObjectKind::Table, target))
-}
-
-// The types of a query.
-fn check_types(alloc: Global, catalog: &Catalog, query: &ResolvedQuery<'_>) -> Result<(), Refusal>
-    ensures { IsMeant (λ u. u) result (refuse_if (not (query_typed (schema_of catalog.now) (query_seen query.now)), refusal.WrongType)) }
-{
-    let kinds = kinds_seen(alloc, catalog, query)?;
-    refuse(!query_typed(kinds.as_slice(), query), Refusal::WrongType)
 }
 
 // Those of a CREATE INDEXED VIEW.

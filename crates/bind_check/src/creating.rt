@@ -17,7 +17,7 @@ ghost use Rattle.bind_check.specs.Checked.{index_tests, table_tests, view_limits
 ghost use Rattle.bind_check.specs.Counting.{is_sum, width_of};
 
 use crate::checking::{limit, refuse, rule};
-use crate::joining::lacks_index;
+use crate::joining::{join_index, second_of};
 use crate::objects::{
     ObjectKind, as_table, count_of, have_many_readers, is_a, kinds_seen, primary_of,
 };
@@ -98,12 +98,8 @@ fn new_key_width(alloc: Global, columns: &[ColumnDef], primary: &[u32]) -> Resul
 fn kinds_in(alloc: Global, kinds: &[KindList], places: &[ColumnAt]) -> Result<Vec<Kind>, NoMemory>
     ensures { IfOk result (λ found. found.items ≡ filter_map (kind_at kinds.now) places.now) }
 {
-    let places = places.iter();
-    Ok(
-        places
-            .filter_map(|place| kind_at(kinds, *place))
-            .collect(alloc)?,
-    )
+    let found = places.iter().filter_map(|place| kind_at(kinds, *place));
+    Ok(found.collect(alloc)?)
 }
 
 // Bytes of the columns of a GROUP BY in a key.
@@ -224,8 +220,11 @@ pub fn check_join(
     let Some(first) = as_table(query.first) else {
         return Ok(());
     };
-    if lacks_index(alloc, catalog, first, query)? {
-        return Err(Refusal::NeedsIndex(copied(alloc, &first.name)?));
+    let Some((_, columns)) = second_of(alloc, query)? else {
+        return Ok(());
+    };
+    if join_index(catalog, first, columns.as_slice()).is_some() {
+        return Ok(());
     }
-    Ok(())
+    Err(Refusal::NeedsIndex(copied(alloc, &first.name)?))
 }

@@ -105,11 +105,8 @@ pub fn names_a(kind: ObjectKind, query: &ResolvedQuery<'_>) -> bool
 pub fn count_of(kind: ObjectKind, catalog: &Catalog) -> usize
     ensures { result ≡ count_of kind (schema_of catalog.now) }
 {
-    catalog
-        .definitions()
-        .iter()
-        .filter(|d| is_a(kind, d))
-        .count()
+    let definitions = catalog.definitions().iter();
+    definitions.filter(|d| is_a(kind, d)).count()
 }
 
 // Whether an object is a view that reads a table.
@@ -139,10 +136,7 @@ fn has_many_readers(catalog: &Catalog, definition: &Definition) -> bool
 pub fn have_many_readers(catalog: &Catalog, query: &ResolvedQuery<'_>) -> bool
     ensures { result ≡ list_any (λ o. nat_lt 8 (readers (schema_of catalog.now) (object_number o) + 1)) (sources_of (query_seen query.now)) }
 {
-    let joined = query
-        .joins
-        .as_slice()
-        .iter()
-        .any(|j| has_many_readers(catalog, j.object));
+    let mut joins = query.joins.as_slice().iter();
+    let joined = joins.any(|j| has_many_readers(catalog, j.object));
     has_many_readers(catalog, query.first) || joined
 }

@@ -1,17 +1,26 @@
 //! Whether resolved expressions have their types.
-ghost use Rattle.std.specs.Prelude.{◌≡◌, ◌&&◌, [], map};
+ghost use Rattle.std.specs.Prelude.{◌≡◌, map, not};
 ghost use Rattle.std.specs.List.{list_all};
 ghost use Rattle.std.specs.Option.{option_map};
 ghost use Rattle.iv_types.specs.Trees.{tree, trees, perhaps_tree};
 ghost use Rattle.iv_meaning.specs.Schema.{kind_at};
 ghost use Rattle.iv_meaning.specs.Bound.{item_tree, set_tree};
-ghost use Rattle.iv_meaning.specs.Types.{family_of_kind, is_of, is_value, alike, typed, family_of_pair, family, condition_typed, item_typed, set_typed, tuple_typed};
+ghost use Rattle.iv_meaning.specs.Types.{family_of_kind, is_of, is_value, alike, typed, family_of_pair, family, condition_typed, item_typed, query_typed, set_typed, tuple_typed};
+ghost use Rattle.iv_meaning.specs.Objects.{schema_of};
+ghost use Rattle.iv_meaning.specs.Binding.{refuse_if};
+ghost use Rattle.iv_types.specs.declared.refusal.Refusal.TheVariants as refusal;
+ghost use Rattle.bind_resolve.specs.Meant.{IsMeant};
+ghost use Rattle.bind_resolve.specs.Seen.{query_seen};
 ghost use Rattle.bind_check.specs.Families.{family_of, is_a, perhaps_family};
-ghost use Rattle.bind_check.specs.Checked.{query_by};
 
+use crate::checking::refuse;
+use crate::objects::kinds_seen;
 use bind_resolve::ResolvedQuery;
-use iv_types::{BoundItem, BoundSet, ColumnAt, Expr, ExprList, Kind, KindList, Op};
+use iv_types::{
+    BoundItem, BoundSet, Catalog, ColumnAt, Expr, ExprList, Kind, KindList, Op, Refusal,
+};
 use object_kinds::kind_at;
+use std::alloc::Global;
 
 /// What an expression gives.
 #[derive(Clone, Copy, PartialEq)]
@@ -153,21 +162,22 @@ fn item_typed(kinds: &[KindList], item: &BoundItem) -> bool
     }
 }
 
-/// Whether the items and the conditions of a query have their types, where these are the kinds of its relations' columns.
-pub fn query_typed(kinds: &[KindList], query: &ResolvedQuery<'_>) -> bool
-    ensures { result ≡ query_by kinds.now query.now }
+/// The types of a query.
+pub fn check_types(
+    alloc: Global,
+    catalog: &Catalog,
+    query: &ResolvedQuery<'_>,
+) -> Result<(), Refusal>
+    ensures { IsMeant (λ u. u) result (refuse_if (not (query_typed (schema_of catalog.now) (query_seen query.now)), refusal.WrongType)) }
 {
-    let items = query
-        .items
-        .as_slice()
-        .iter()
-        .all(|i| item_typed(kinds, &i.item));
-    let joins = query
-        .joins
-        .as_slice()
-        .iter()
-        .all(|j| is_a(Family::Truth, family_in(kinds, &j.on)));
-    items & joins & condition_typed(kinds, &query.condition)
+    let seen = kinds_seen(alloc, catalog, query)?;
+    let kinds = seen.as_slice();
+    let mut items = query.items.as_slice().iter();
+    let items = items.all(|i| item_typed(kinds, &i.item));
+    let mut joins = query.joins.as_slice().iter();
+    let joins = joins.all(|j| is_a(Family::Truth, family_in(kinds, &j.on)));
+    let typed = items & joins & condition_typed(kinds, &query.condition);
+    refuse(!typed, Refusal::WrongType)
 }
 
 // Whether the values of a tuple have the families of the columns.
@@ -191,7 +201,6 @@ fn tuple_typed(kinds: &[Kind], tuple: &[Expr]) -> bool
 pub fn tuples_typed(kinds: &[Kind], tuples: &[ExprList]) -> bool
     ensures { result ≡ list_all (tuple_typed kinds.now) (map trees tuples.now) }
 {
-    tuples
-        .iter()
-        .all(|tuple| tuple_typed(kinds, tuple.as_slice()))
+    let mut tuples = tuples.iter();
+    tuples.all(|tuple| tuple_typed(kinds, tuple.as_slice()))
 }

@@ -177,12 +177,8 @@ fn named(
     ensures { IfOk result (λ found. found.items ≡ map (λ c. c.place) (filter (λ c. is_called (option_copied qualifier.entry) name.now (column_seen c)) scope.now.columns)) }
 {
     let columns = scope.columns.as_slice().iter();
-    Ok(
-        columns
-            .filter(|c| is_called(qualifier, name, c))
-            .map(|c| c.place)
-            .collect(alloc)?,
-    )
+    let columns = columns.filter(|c| is_called(qualifier, name, c));
+    Ok(columns.map(|c| c.place).collect(alloc)?)
 }
 
 // The one of some columns of a name.
