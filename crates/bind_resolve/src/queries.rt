@@ -80,10 +80,10 @@ fn items_for<'a>(
 }
 
 // The names of some items.
-fn names_of<'a>(alloc: Global, items: &[NamedItem<'a>]) -> Result<Vec<&'a Bytes>, NoMemory>
-    ensures { IfOk result (λ names. names_in names.items ≡ meant.names_in (map item_seen items.now)) }
+fn names_of<'a>(alloc: Global, items: &[NamedItem<'a>]) -> Result<Sequence<&'a Bytes>, NoMemory>
+    ensures { IfOk result (λ names. names_in names ≡ meant.names_in (map item_seen items.now)) }
 {
-    let mut names = Vec::new(alloc);
+    let mut names = Sequence::new(alloc);
     for item in items {
         if let Some(name) = item.name {
             names.push(name)?;
@@ -106,7 +106,7 @@ fn next_items<'a>(
     let some = items_for(alloc, scope, item)?;
     if view {
         let names = names_of(alloc, some.as_slice())?;
-        fresh(alloc, others, &names)?;
+        fresh(alloc, others, names.as_slice())?;
     }
     Ok(some)
 }

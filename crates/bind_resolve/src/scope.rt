@@ -23,10 +23,10 @@ use iv_types::{
 use std::alloc::Global;
 
 /// The names of some columns.
-pub fn names_of(alloc: Global, columns: &[ColumnDef]) -> Result<Vec<&Bytes>, NoMemory>
-    ensures { IfOk result (λ names. names_in names.items ≡ map (λ c. c.name) columns.now) }
+pub fn names_of(alloc: Global, columns: &[ColumnDef]) -> Result<Sequence<&Bytes>, NoMemory>
+    ensures { IfOk result (λ names. names_in names ≡ map (λ c. c.name) columns.now) }
 {
-    let mut names = Vec::new(alloc);
+    let mut names = Sequence::new(alloc);
     for column in columns {
         names.push(&column.name)?;
     }
@@ -34,13 +34,16 @@ pub fn names_of(alloc: Global, columns: &[ColumnDef]) -> Result<Vec<&Bytes>, NoM
 }
 
 // The names of an object's columns.
-fn columns_of(alloc: Global, definition: &Definition) -> Result<Vec<&Bytes>, NoMemory>
-    ensures { IfOk result (λ names. names_in names.items ≡ object_columns (object_of definition.now)) }
+fn columns_of(alloc: Global, definition: &Definition) -> Result<Sequence<&Bytes>, NoMemory>
+    ensures { IfOk result (λ names. names_in names ≡ object_columns (object_of definition.now)) }
 {
     match definition {
         Definition::Table(table) => names_of(alloc, table.columns.as_slice()),
-        Definition::Index(_) => Ok(Vec::new(alloc)),
-        Definition::View(view) => Ok(view.names.as_slice().iter().collect(alloc)?),
+        Definition::Index(_) => Ok(Sequence::new(alloc)),
+        Definition::View(view) => {
+            let names = view.names.as_slice().iter();
+            Ok(Sequence::from_vec(names.collect(alloc)?))
+        }
     }
 }
 
@@ -98,7 +101,7 @@ pub fn scope_of_object<'a>(
 {
     let names = columns_of(alloc, definition)?;
     let mut scope = empty_scope(alloc);
-    add_relation(&mut scope, name, &names)?;
+    add_relation(&mut scope, name, names.as_slice())?;
     Ok(scope)
 }
 
@@ -126,7 +129,7 @@ fn add_source<'a>(
     match catalog.find(relation.name.as_slice()) {
         Some(definition) => {
             let names = columns_of(alloc, definition)?;
-            add_relation(scope, called(relation), &names)
+            add_relation(scope, called(relation), names.as_slice())
         }
         None => add_relation(scope, called(relation), &[]),
     }

@@ -29,9 +29,9 @@ fn create_table<'a>(
 {
     new_object(alloc, catalog, name)?;
     let names = names_of(alloc, columns)?;
-    fresh(alloc, &mut Names::new(alloc), &names)?;
+    fresh(alloc, &mut Names::new(alloc), names.as_slice())?;
     let mut scope = empty_scope(alloc);
-    add_relation(&mut scope, name, &names)?;
+    add_relation(&mut scope, name, names.as_slice())?;
     let primary = places(alloc, &scope, primary)?;
     Ok(Resolved::Table {
         name,
