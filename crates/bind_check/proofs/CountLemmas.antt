@@ -1,15 +1,18 @@
 -- Lemmas on what the limits count.
-use Rattle.std.proofs.Common.{◌≡◌, ℕ, ◌+◌, Bool, true, false, cond, List, map, length, is_some, Option, Some, None, arith, if◌then◌else◌}
+use Rattle.std.proofs.Common.{◌≡◌, ℕ, ◌+◌, Bool, false, cond, List, length, is_some, Option, Some, None, arith}
 use mathlib.Core.Path.{refl, sym, ◌∙◌}
 use Rattle.std.specs.List.{count_by, filter_map, cons_option}
 use Rattle.std.specs.Option.{option_map_or}
 use Rattle.std.proofs.lemmas.List.Recursion.{is_count_by}
 use Rattle.iv_types.specs.declared.catalog.Definition.{Definition}
-use Rattle.iv_meaning.specs.Schema.{Object, ViewTree, as_view}
+use Rattle.iv_meaning.specs.Schema.{Object, ViewTree, as_index, as_table, as_view}
 use Rattle.iv_meaning.specs.Resolving.{how_many}
 use Rattle.iv_meaning.specs.Objects.{object_of, schema_of}
 use Rattle.iv_meaning.specs.Shape.{readers}
-use Rattle.bind_check.specs.Counting.{reads}
+use Rattle.bind_check.specs.Counting.{count_of, is_a, reads}
+use Rattle.bind_check.specs.declared.objects.ObjectKind.{ObjectKind}
+use Rattle.bind_check.specs.declared.objects.ObjectKind.TheVariants as kind
+use Rattle.bind_resolve.proofs.Steps.{one_more}
 
 -- ---- what passes a test
 
@@ -17,18 +20,16 @@ at_kept : {Y : Type 0} (o : Option Y) (ys : List Y) → length (cons_option o ys
 at_kept None ys = refl
 at_kept (Some y) ys = omega arith
 
-pub kept : {Y : Type 0} (f : Object → Option Y) (ds : List Definition) → count_by (λ d. is_some (f (object_of d))) ds ≡ length (filter_map f (schema_of ds))
-kept f ds = sym (is_count_by (λ xs. length (filter_map f (schema_of xs))) (λ d. is_some (f (object_of d))) refl (λ d xs. at_kept (f (object_of d)) (filter_map f (schema_of xs))) ds)
+kept_by : {Y : Type 0} (f : Object → Option Y) (ds : List Definition) → count_by (λ d. is_some (f (object_of d))) ds ≡ length (filter_map f (schema_of ds))
+kept_by f ds = sym (is_count_by (λ xs. length (filter_map f (schema_of xs))) (λ d. is_some (f (object_of d))) refl (λ d xs. at_kept (f (object_of d)) (filter_map f (schema_of xs))) ds)
 
-one_more : (t : Bool) (n : ℕ) → (if t then n + 1 else n) ≡ cond t (1 + n) n
-one_more true n = omega arith
-one_more false n = refl
+pub kept : (k : ObjectKind) (ds : List Definition) (n : ℕ) → n ≡ count_by (λ d. is_a k (object_of d)) ds → n ≡ count_of k (schema_of ds)
+kept kind.Table ds n e = e ∙ kept_by as_table ds
+kept kind.Index ds n e = e ∙ kept_by as_index ds
+kept kind.View ds n e = e ∙ kept_by as_view ds
 
 pub counted : {X : Type 0} (p : X → Bool) (xs : List X) (n : ℕ) → n ≡ count_by p xs → n ≡ how_many p xs
 counted p xs n e = e ∙ sym (is_count_by (how_many p) p refl (λ x ys. one_more (p x) (how_many p ys)) xs)
-
-pub count_seen : {X Y : Type 0} (p : Y → Bool) (f : X → Y) (xs : List X) (n : ℕ) → n ≡ count_by (λ x. p (f x)) xs → n ≡ how_many p (map f xs)
-count_seen p f xs n e = e ∙ sym (is_count_by (λ ys. how_many p (map f ys)) (λ x. p (f x)) refl (λ x ys. one_more (p (f x)) (how_many p (map f ys))) xs)
 
 -- ---- the views that read a table
 

@@ -1,10 +1,9 @@
 -- Lemmas on the terms by which two relations are joined.
-use Rattle.std.proofs.Common.{◌≡◌, ℕ, ◌+◌, ◌==◌, Bool, true, false, ◌&&◌, List, [], ◌∷◌, ◌++◌, map, Some, None, if◌then◌else◌}
+use Rattle.std.proofs.Common.{◌≡◌, ℕ, ◌+◌, ◌==◌, Bool, ◌&&◌, List, [], ◌∷◌, ◌++◌, map, Some, if◌then◌else◌}
 use mathlib.Core.Path.{refl, ap, ◌∙◌}
 use Rattle.std.specs.List.{list_all}
 use Rattle.std.proofs.lemmas.List.{map-append}
 use Rattle.std.proofs.lemmas.List.Folds.{list_all-map}
-use Rattle.iv_types.specs.declared.expression.Op.{Op}
 use Rattle.iv_types.specs.declared.expression.Op.TheVariants as op
 use Rattle.iv_types.specs.declared.expression.ColumnAt.{ColumnAt}
 use Rattle.iv_types.specs.declared.catalog.TableDef.{TableDef}
@@ -12,35 +11,12 @@ use Rattle.iv_types.specs.Syntax.{Tree, number, word, named, at, not, minus, pai
 use Rattle.iv_meaning.specs.Resolving.{how_many}
 use Rattle.iv_meaning.specs.Shape.{terms, joins_by, joins_key, joins_whole_key}
 use Rattle.bind_check.specs.Joining.{place_in}
-use Rattle.bind_check.specs.Joining.{is_and, is_equal, perhaps_joined, pairs_of, is_key, is_of_column}
+use Rattle.bind_check.specs.Joining.{perhaps_joined, pairs_of, is_key, is_of_column}
 
 -- ---- terms
 
-pub pairs_both : (op : Op) (a b : Tree) → is_and op ≡ true → pairs_of (pair op a b) ≡ pairs_of a ++ pairs_of b
-pairs_both op.And a b e = map-append joins_by (terms a) (terms b)
-pairs_both op.Or a b e = cc
-pairs_both op.Equal a b e = cc
-pairs_both op.NotEqual a b e = cc
-pairs_both op.Less a b e = cc
-pairs_both op.AtMost a b e = cc
-pairs_both op.Greater a b e = cc
-pairs_both op.AtLeast a b e = cc
-pairs_both op.Add a b e = cc
-pairs_both op.Subtract a b e = cc
-pairs_both op.Multiply a b e = cc
-
-pub pairs_one : (op : Op) (a b : Tree) → is_and op ≡ false → pairs_of (pair op a b) ≡ joins_by (pair op a b) ∷ []
-pairs_one op.And a b e = cc
-pairs_one op.Or a b e = refl
-pairs_one op.Equal a b e = refl
-pairs_one op.NotEqual a b e = refl
-pairs_one op.Less a b e = refl
-pairs_one op.AtMost a b e = refl
-pairs_one op.Greater a b e = refl
-pairs_one op.AtLeast a b e = refl
-pairs_one op.Add a b e = refl
-pairs_one op.Subtract a b e = refl
-pairs_one op.Multiply a b e = refl
+pub pairs_both : (a b : Tree) → pairs_of (pair op.And a b) ≡ pairs_of a ++ pairs_of b
+pairs_both a b = map-append joins_by (terms a) (terms b)
 
 left_place : (a : ColumnAt) (y : Tree) → joins_by (pair op.Equal (at a) y) ≡ perhaps_joined (Some a) (place_in y)
 left_place a (at b) = refl
@@ -60,31 +36,8 @@ equal_places (not e) y = refl
 equal_places (minus e) y = refl
 equal_places (pair o e f) y = refl
 
-pub joins_equal : (op : Op) (x y : Tree) → is_equal op ≡ true → joins_by (pair op x y) ≡ perhaps_joined (place_in x) (place_in y)
-joins_equal op.Equal x y e = equal_places x y
-joins_equal op.And x y e = cc
-joins_equal op.Or x y e = cc
-joins_equal op.NotEqual x y e = cc
-joins_equal op.Less x y e = cc
-joins_equal op.AtMost x y e = cc
-joins_equal op.Greater x y e = cc
-joins_equal op.AtLeast x y e = cc
-joins_equal op.Add x y e = cc
-joins_equal op.Subtract x y e = cc
-joins_equal op.Multiply x y e = cc
-
-pub joins_other : (op : Op) (x y : Tree) → is_equal op ≡ false → joins_by (pair op x y) ≡ None
-joins_other op.Equal x y e = cc
-joins_other op.And x y e = refl
-joins_other op.Or x y e = refl
-joins_other op.NotEqual x y e = refl
-joins_other op.Less x y e = refl
-joins_other op.AtMost x y e = refl
-joins_other op.Greater x y e = refl
-joins_other op.AtLeast x y e = refl
-joins_other op.Add x y e = refl
-joins_other op.Subtract x y e = refl
-joins_other op.Multiply x y e = refl
+pub pairs_equal : (a b : Tree) → pairs_of (pair op.Equal a b) ≡ perhaps_joined (place_in a) (place_in b) ∷ []
+pairs_equal a b = ap (λ p. p ∷ []) (equal_places a b)
 
 -- ---- two tables by a whole key
 

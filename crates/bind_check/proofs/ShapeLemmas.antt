@@ -1,14 +1,16 @@
 -- Lemmas on the items of a view, and on arithmetic.
-use Rattle.std.proofs.Common.{◌≡◌, ℕ, zero, suc, ◌+◌, drop, is_some, add-one, Bool, false, ◌&&◌, ◌||◌, List, [], ◌∷◌, slice_get, Option, Some, None}
+use Rattle.std.proofs.Common.{◌≡◌, is_some, Bool, false, ◌&&◌, ◌||◌, List, [], ◌∷◌, map}
 use mathlib.Core.Path.{refl, sym, ap, ◌∙◌}
 use Rattle.iv_types.specs.declared.expression.Op.{Op}
 use Rattle.iv_types.specs.declared.expression.Op.TheVariants as op
-use Rattle.iv_types.specs.declared.expression.ColumnAt.{ColumnAt}
+use Rattle.std.specs.List.{list_all}
 use Rattle.iv_types.specs.Syntax.{Tree, pair}
 use Rattle.iv_meaning.specs.Query.{BoundItem, count, sum, plain}
 use Rattle.iv_meaning.specs.Resolving.{NamedItem}
-use Rattle.iv_meaning.specs.Shape.{has_arithmetic, are_sums, is_count_and_sums, is_view_list}
-use Rattle.bind_check.specs.Shapes.{is_arithmetic, is_group_item, is_named_count, is_named_sum}
+use Rattle.iv_meaning.specs.Shape.{has_arithmetic, are_sums, is_count_and_sums}
+use Rattle.bind_check.specs.Shapes.{is_arithmetic, is_named_count, is_named_sum}
+use Rattle.bind_resolve.specs.declared.resolved.NamedItem.{NamedItem as Item}
+use Rattle.bind_resolve.specs.Seen.{item_seen}
 
 -- ---- arithmetic
 
@@ -31,24 +33,13 @@ sum_at : (i : NamedItem) (is : List NamedItem) → are_sums (i ∷ is) ≡ (is_n
 sum_at i is = elim i.item as (λ (b : BoundItem). (elim b [ sum place ↦ is_some i.name && are_sums is | count ↦ false | plain e ↦ false ])
     ≡ ((elim b [ sum place ↦ is_some i.name | count ↦ false | plain e ↦ false ]) && are_sums is)) [ sum place ↦ refl | count ↦ refl | plain e ↦ refl ]
 
-pub one_sum : (i : NamedItem) (is : List NamedItem) → are_sums (i ∷ is) ≡ (is_named_sum i && are_sums is)
-one_sum i is = sum_at i is
+sums_seen : (is : List Item) → list_all (λ i. is_named_sum (item_seen i)) is ≡ are_sums (map item_seen is)
+sums_seen [] = refl
+sums_seen (i ∷ is) = ap (λ t. is_named_sum (item_seen i) && t) (sums_seen is) ∙ sym (sum_at (item_seen i) (map item_seen is))
 
-abbrev count_behind : Option NamedItem → List NamedItem → Bool
-count_behind None is = false
-count_behind (Some i) is = is_named_count i && are_sums is
+pub sums_are : (is : List Item) (b : Bool) → b ≡ list_all (λ i. is_named_sum (item_seen i)) is → b ≡ are_sums (map item_seen is)
+sums_are is b e = e ∙ sums_seen is
 
 pub one_count : (i : NamedItem) (is : List NamedItem) → is_count_and_sums (i ∷ is) ≡ (is_named_count i && are_sums is)
 one_count i is = elim i.item as (λ (b : BoundItem). (elim b [ count ↦ is_some i.name && are_sums is | sum place ↦ false | plain e ↦ false ])
     ≡ ((elim b [ count ↦ is_some i.name | sum place ↦ false | plain e ↦ false ]) && are_sums is)) [ sum place ↦ refl | count ↦ refl | plain e ↦ refl ]
-
-one_column' : (place : ColumnAt) (group : List ColumnAt) (items : List NamedItem) (i : ℕ)
-    → is_view_list (place ∷ group) (drop i items) ≡ (is_group_item place (slice_get items i) && is_view_list group (drop (suc i) items))
-one_column' place group [] zero = refl
-one_column' place group [] (suc i) = refl
-one_column' place group (item ∷ items) zero = refl
-one_column' place group (item ∷ items) (suc i) = one_column' place group items i
-
-pub one_view_column : (place : ColumnAt) (group : List ColumnAt) (items : List NamedItem) (i : ℕ)
-    → is_view_list (place ∷ group) (drop i items) ≡ (is_group_item place (slice_get items i) && is_view_list group (drop (i + 1) items))
-one_view_column place group items i = one_column' place group items i ∙ ap (λ n. is_group_item place (slice_get items i) && is_view_list group (drop n items)) (sym (add-one i))

@@ -1,28 +1,24 @@
 -- No clause of `run` rests on this module: it serves contracts between crates.
 --
 -- Tests of resolved statements as they are made, part by part.
-use Rattle.std.specs.Prelude.{ℕ, pos, ◌+◌, ◌==◌, ◌&&◌, nat_lt, not, is_some, length, Bool, List, [], ◌∷◌, Option, Some, None, Result}
+use Rattle.std.specs.Prelude.{ℕ, ◌+◌, ◌&&◌, nat_lt, not, is_some, length, Bool, List, [], ◌∷◌, Result}
 use Rattle.std.specs.List.{filter_map, list_all, list_any}
 use Rattle.iv_types.specs.declared.value.Kind.{Kind}
-use Rattle.iv_types.specs.declared.bound.BoundSet.{BoundSet}
 use Rattle.iv_types.specs.declared.statement.ColumnDef.{ColumnDef}
 use Rattle.iv_types.specs.declared.statement.Order.{Order}
-use Rattle.iv_types.specs.declared.expression.Expr.{Expr}
 use Rattle.iv_types.specs.declared.refusal.Refusal.{Refusal}
 use Rattle.iv_types.specs.declared.refusal.Refusal.TheVariants.{Limit, WrongType}
-use Rattle.iv_types.specs.Syntax.{Tree}
-use Rattle.iv_types.specs.Trees.{perhaps_tree, trees}
+use Rattle.iv_types.specs.Trees.{perhaps_tree}
 use Rattle.iv_types.specs.declared.limit.Limit.TheVariants.{Columns, DefinitionBytes, KeyWidth, Readers, Sums, Views}
-use Rattle.iv_types.specs.declared.limit.ShapeRule.TheVariants.{KeySet, NoItem, NoTable, SetTwice, TupleLength}
+use Rattle.iv_types.specs.declared.limit.ShapeRule.TheVariants.{NoItem}
 use Rattle.iv_types.specs.Limits.{most_of}
-use Rattle.iv_meaning.specs.Schema.{Schema, Object, as_view, kind_at, object_columns, primary_of}
-use Rattle.iv_meaning.specs.Bound.{set_tree}
-use Rattle.iv_meaning.specs.Shape.{key_width, object_number, readers, repeats, sums_in, width}
-use Rattle.iv_meaning.specs.Types.{family, is_of, is_truth, is_value, condition_typed, item_typed, kinds_seen, set_typed, sources_of, tuple_typed, query_typed, well_typed}
+use Rattle.iv_meaning.specs.Schema.{Schema, Object, as_view, kind_at}
+use Rattle.iv_meaning.specs.Shape.{key_width, object_number, readers, sums_in, width}
+use Rattle.iv_meaning.specs.Types.{family, is_truth, condition_typed, item_typed, kinds_seen, sources_of, query_typed, well_typed}
 use Rattle.iv_meaning.specs.Resolving as meant
 use Rattle.iv_meaning.specs.Resolving.{Resolved, table, index, and_then}
 use Rattle.iv_meaning.specs.Binding.{passed, refuse_if}
-use Rattle.iv_meaning.specs.Tests.{Test, at_most, is_table, index_test, item_named, query_rules, rule, tests, view_rules}
+use Rattle.iv_meaning.specs.Tests.{Test, at_most, index_test, item_named, query_rules, rule, tests, view_rules}
 use Rattle.bind_resolve.specs.declared.resolved.ResolvedQuery.{ResolvedQuery}
 use Rattle.bind_resolve.specs.Seen.{item_seen, joined_seen}
 
@@ -32,31 +28,6 @@ query_by kinds q =
     list_all (λ i. item_typed kinds (item_seen i).item) q.items
     && list_all (λ j. is_truth (family kinds (joined_seen j).on)) q.joins
     && condition_typed kinds (perhaps_tree q.condition)
-
--- a value of a column, or behind the last one
-abbrev pub value_typed : Option Kind → Tree → Bool
-value_typed None e = is_value (family [] e)
-value_typed (Some kind) e = is_of kind (family [] e)
-
--- ---- changes of an object whose columns have these kinds
-
-abbrev pub insert_tests : Object → List Kind → List (List Expr) → List Test
-insert_tests o kinds tuples =
-    (not (list_all (λ tuple. tuple_typed kinds (trees tuple)) tuples), WrongType)
-    ∷ rule TupleLength (is_table o && not (list_all (λ tuple. length (trees tuple) == length (object_columns o)) tuples))
-    ∷ rule NoTable (not (is_table o))
-    ∷ []
-
-abbrev pub update_tests : Object → List (List Kind) → List BoundSet → Option Tree → List Test
-update_tests o kinds sets condition =
-    (not (list_all (λ a. set_typed kinds (set_tree a)) sets && condition_typed kinds condition), WrongType)
-    ∷ rule KeySet (list_any (λ a. list_any (λ key. key == a.column) (primary_of (Some o))) sets)
-    ∷ rule SetTwice (repeats (λ a b. a.column == b.column) sets)
-    ∷ rule NoTable (not (is_table o))
-    ∷ []
-
-abbrev pub delete_tests : Object → List (List Kind) → Option Tree → List Test
-delete_tests o kinds condition = (not (condition_typed kinds condition), WrongType) ∷ rule NoTable (not (is_table o)) ∷ []
 
 -- ---- CREATE
 

@@ -1,15 +1,28 @@
 -- No clause of `run` rests on this module: it serves contracts between crates.
 --
 -- What the limits count.
-use Rattle.std.specs.Prelude.{ℕ, ◌==◌, Bool, true, false}
-use Rattle.std.specs.List.{list_any}
+use Rattle.std.specs.Prelude.{ℕ, ◌==◌, Bool, true, false, is_some, length}
+use Rattle.std.specs.List.{filter_map, list_any}
 use Rattle.iv_types.specs.declared.value.Kind.{Kind}
-use Rattle.iv_meaning.specs.Schema.{ViewTree, sources_of}
+use Rattle.iv_meaning.specs.Schema.{Schema, Object, ViewTree, as_index, as_table, as_view, sources_of}
 use Rattle.iv_meaning.specs.Resolving.{NamedItem}
 use Rattle.iv_meaning.specs.Shape.{key_width, row_width}
 use Rattle.iv_meaning.specs.Query.{count, sum, plain}
-use Rattle.bind_check.specs.declared.widths.Width.{Width}
-use Rattle.bind_check.specs.declared.widths.Width.TheVariants.{Key, Row}
+use Rattle.bind_check.specs.declared.objects.ObjectKind.{ObjectKind}
+use Rattle.bind_check.specs.declared.objects.ObjectKind.TheVariants as kind
+use Rattle.bind_check.specs.declared.creating.Width.{Width}
+use Rattle.bind_check.specs.declared.creating.Width.TheVariants.{Key, Row}
+
+-- an object is of this kind
+abbrev pub is_a : ObjectKind → Object → Bool
+is_a kind.Table o = is_some (as_table o)
+is_a kind.Index o = is_some (as_index o)
+is_a kind.View o = is_some (as_view o)
+
+abbrev pub count_of : ObjectKind → Schema → ℕ
+count_of kind.Table objects = length (filter_map as_table objects)
+count_of kind.Index objects = length (filter_map as_index objects)
+count_of kind.View objects = length (filter_map as_view objects)
 
 abbrev pub reads : ℕ → ViewTree → Bool
 reads number v = list_any (λ n. n == number) (sources_of v)

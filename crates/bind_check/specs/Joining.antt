@@ -1,11 +1,9 @@
 -- No clause of `run` rests on this module: it serves contracts between crates.
 --
 -- The terms by which two tables are joined, and the index that a join needs.
-use Rattle.std.specs.Prelude.{ℕ, Bool, true, false, ◌&&◌, ◌==◌, List, map, slice_get, Option, Some, None, if◌then◌else◌}
+use Rattle.std.specs.Prelude.{ℕ, Bool, false, ◌&&◌, ◌==◌, List, map, slice_get, Option, Some, None, if◌then◌else◌}
 use Rattle.std.specs.List.{find, list_any}
 use Rattle.std.specs.Option.{option_and_then, option_map, option_map_or}
-use Rattle.iv_types.specs.declared.expression.Op.{Op}
-use Rattle.iv_types.specs.declared.expression.Op.TheVariants as op
 use Rattle.iv_types.specs.declared.expression.ColumnAt.{ColumnAt}
 use Rattle.iv_types.specs.declared.catalog.TableDef.{TableDef}
 use Rattle.iv_types.specs.Encoding.{kinds_of}
@@ -16,14 +14,6 @@ use Rattle.iv_meaning.specs.Shape.{terms, joins_by, both_kinds}
 use Rattle.iv_meaning.specs.Tests.{begins_with, join_columns}
 use Rattle.iv_meaning.specs.Resolving.{Joined}
 use denote.Ref.{Bor}
-
-abbrev pub is_and : Op → Bool
-is_and op.And = true
-is_and _ = false
-
-abbrev pub is_equal : Op → Bool
-is_equal op.Equal = true
-is_equal _ = false
 
 -- a column of the first relation and one of the second
 abbrev pub joined_by : ColumnAt → ColumnAt → Option (ℕ × ℕ)

@@ -1,24 +1,17 @@
 -- No clause of `run` rests on this module: it serves contracts between crates.
 --
 -- The items of a view, and arithmetic.
-use Rattle.std.specs.Prelude.{is_some, Bool, true, false, [], ◌∷◌, Option, Some, None}
+use Rattle.std.specs.Prelude.{is_some, Bool, true, false}
 use Rattle.iv_types.specs.declared.expression.Op.{Op}
 use Rattle.iv_types.specs.declared.expression.Op.TheVariants as op
-use Rattle.iv_types.specs.declared.expression.ColumnAt.{ColumnAt}
 use Rattle.iv_meaning.specs.Query.{count, sum, plain}
 use Rattle.iv_meaning.specs.Resolving.{NamedItem}
-use Rattle.iv_meaning.specs.Shape.{is_grouped}
 
 abbrev pub is_arithmetic : Op → Bool
 is_arithmetic op.Add = true
 is_arithmetic op.Subtract = true
 is_arithmetic op.Multiply = true
 is_arithmetic _ = false
-
--- the item of this place is a column of a view's group
-abbrev pub is_group_item : ColumnAt → Option NamedItem → Bool
-is_group_item place None = false
-is_group_item place (Some i) = is_grouped (place ∷ []) i.item
 
 -- it is a count, or a sum, with a name
 abbrev pub is_named_count : NamedItem → Bool

@@ -1,35 +1,125 @@
 //! The tests of a resolved statement, of which the first that fails refuses it.
 #![tactic(auto, using(bind_resolve::proofs::Steps::stops, bind_resolve::proofs::Steps::goes_on))]
 
-ghost use Rattle.std.specs.Prelude.{◌≡◌, not};
+ghost use Rattle.std.specs.Prelude.{◌≡◌, ◌==◌, IfOk, length, map, not};
+ghost use Rattle.std.specs.List.{list_all, list_any};
+ghost use Rattle.iv_types.specs.Trees.{perhaps_tree, trees, statement_tree};
 ghost use Rattle.iv_types.specs.Printing.{statement_size};
-ghost use Rattle.iv_types.specs.Trees.{statement_tree};
 ghost use Rattle.iv_types.specs.declared.refusal.Refusal.TheVariants as refusal;
-ghost use Rattle.iv_meaning.specs.Objects.{schema_of};
-ghost use Rattle.iv_meaning.specs.Types.{query_typed};
-ghost use Rattle.iv_meaning.specs.Binding.{passed, refuse_if};
+ghost use Rattle.iv_meaning.specs.Tests.{at_most};
+ghost use Rattle.iv_meaning.specs.Binding.{refuse_if, passed};
+ghost use Rattle.iv_meaning.specs.Bound.{set_tree};
+ghost use Rattle.iv_meaning.specs.Objects.{object_of, schema_of};
+ghost use Rattle.iv_meaning.specs.Shape.{repeats};
+ghost use Rattle.iv_meaning.specs.Resolving.{delete, insert, update};
 ghost use Rattle.bind_resolve.specs.Meant.{IsMeant};
 ghost use Rattle.bind_resolve.specs.Seen.{query_seen, resolved_seen};
 ghost use Rattle.bind_check.specs.Checked.{every_test, select_chain, view_chain};
 
-use crate::changing::{check_delete, check_insert, check_update};
 use crate::creating::{check_index, check_join, check_table, check_view_limits};
-use crate::kinds::{kinds_of_one, kinds_seen};
-use crate::ordering::are_named;
-use crate::queries::{check_query, check_view_query};
-use crate::refusing::{limit, refuse, rule};
-use crate::typing::query_typed;
+use crate::objects::{ObjectKind, is_a, primary_of, width_of};
+use crate::shape::{are_named, check_query, check_view_query, repeats};
+use crate::typing::{check_types, condition_typed, sets_typed, tuples_typed};
 use bind_resolve::{Resolved, ResolvedQuery};
-use iv_types::{Catalog, Limit, Order, Refusal, ShapeRule, Statement};
+use iv_types::{
+    BoundSet, Catalog, Definition, Expr, ExprList, Limit, NoMemory, Order, Refusal, ShapeRule,
+    Statement,
+};
 use object_kinds::kinds_of_object;
 use std::alloc::Global;
 
-// The types of a query.
-fn check_types(alloc: Global, catalog: &Catalog, query: &ResolvedQuery<'_>) -> Result<(), Refusal>
-    ensures { IsMeant (λ u. u) result (refuse_if (not (query_typed (schema_of catalog.now) (query_seen query.now)), refusal.WrongType)) }
+/// A refusal where a test fails.
+pub fn refuse(fails: bool, refusal: Refusal) -> Result<(), Refusal>
+    ensures { IsMeant (λ u. u) result (refuse_if (fails, refusal)) }
 {
-    let kinds = kinds_seen(alloc, catalog, query)?;
-    refuse(!query_typed(kinds.as_slice(), query), Refusal::WrongType)
+    if fails { Err(refusal) } else { Ok(()) }
+}
+
+/// The refusal of a shape rule that fails.
+pub fn rule(broken: ShapeRule, fails: bool) -> Result<(), Refusal>
+    ensures { IsMeant (λ u. u) result (refuse_if (fails, refusal.WrongShape broken)) }
+{
+    refuse(fails, Refusal::WrongShape(broken))
+}
+
+/// The refusal of a limit that a count passes.
+pub fn limit(limit: Limit, count: u128) -> Result<(), Refusal>
+    ensures { IsMeant (λ u. u) result (refuse_if (at_most limit count)) }
+{
+    refuse(count > limit.most(), Refusal::Limit(limit))
+}
+
+// Whether each tuple has so many values.
+fn have_length(count: usize, tuples: &[ExprList]) -> bool
+    ensures { result ≡ list_all (λ tuple. length tuple == count) (map trees tuples.now) }
+{
+    tuples.iter().all(|tuple| tuple.as_slice().len() == count)
+}
+
+/// Those of an INSERT into an object.
+pub fn check_insert(
+    alloc: Global,
+    catalog: &Catalog,
+    target: &Definition,
+    tuples: &[ExprList],
+) -> Result<(), Refusal>
+    ensures { IsMeant (λ u. u) result (passed (every_test (schema_of catalog.now) 0 (insert (object_of target.now) (map trees tuples.now)))) }
+{
+    let kinds = kinds_of_object(alloc, catalog, target)?;
+    let is_table = is_a(ObjectKind::Table, target);
+    let typed = tuples_typed(kinds.as_slice(), tuples);
+    refuse(!typed, Refusal::WrongType)?;
+    let long = have_length(width_of(target), tuples);
+    rule(ShapeRule::TupleLength, is_table & !long)?;
+    rule(ShapeRule::NoTable, !is_table)
+}
+
+// Whether a column of the key is set.
+fn sets_key(keys: &[u32], sets: &[BoundSet]) -> bool
+    ensures { result ≡ list_any (λ a. list_any (λ key. key == a.column) keys.now) (map set_tree sets.now) }
+{
+    sets.iter().any(|set| keys.contains(&set.column))
+}
+
+// Whether a column is set twice.
+fn sets_twice(alloc: Global, sets: &[BoundSet]) -> Result<bool, NoMemory>
+    ensures { IfOk result (λ twice. twice ≡ repeats (λ a b. a.column == b.column) (map set_tree sets.now)) }
+{
+    let columns: Vec<u32> = sets.iter().map(|set| set.column).collect(alloc)?;
+    Ok(repeats(columns.as_slice()))
+}
+
+/// Those of an UPDATE of an object.
+pub fn check_update(
+    alloc: Global,
+    catalog: &Catalog,
+    target: &Definition,
+    sets: &[BoundSet],
+    condition: &Option<Expr>,
+) -> Result<(), Refusal>
+    ensures { IsMeant (λ u. u) result (passed (every_test (schema_of catalog.now) 0 (update (object_of target.now) (map set_tree sets.now) (perhaps_tree condition.now)))) }
+{
+    let kinds = [kinds_of_object(alloc, catalog, target)?];
+    let typed = sets_typed(&kinds, sets) & condition_typed(&kinds, condition);
+    refuse(!typed, Refusal::WrongType)?;
+    rule(ShapeRule::KeySet, sets_key(primary_of(target), sets))?;
+    rule(ShapeRule::SetTwice, sets_twice(alloc, sets)?)?;
+    rule(ShapeRule::NoTable, !is_a(ObjectKind::Table, target))
+}
+
+/// Those of a DELETE from an object.
+pub fn check_delete(
+    alloc: Global,
+    catalog: &Catalog,
+    target: &Definition,
+    condition: &Option<Expr>,
+) -> Result<(), Refusal>
+    ensures { IsMeant (λ u. u) result (passed (every_test (schema_of catalog.now) 0 (delete (object_of target.now) (perhaps_tree condition.now)))) }
+{
+    let kinds = [kinds_of_object(alloc, catalog, target)?];
+    let typed = condition_typed(&kinds, condition);
+    refuse(!typed, Refusal::WrongType)?;
+    rule(ShapeRule::NoTable, !is_a(ObjectKind::Table, target))
 }
 
 // Those of a CREATE INDEXED VIEW.
@@ -59,7 +149,8 @@ fn check_select(
 {
     check_types(alloc, catalog, query)?;
     check_query(alloc, query)?;
-    rule(ShapeRule::NoItem, !are_named(&query.items, order))?;
+    let named = are_named(query.items.as_slice(), order);
+    rule(ShapeRule::NoItem, !named)?;
     limit(Limit::Columns, query.group.as_slice().len() as u128)
 }
 
@@ -89,21 +180,14 @@ pub fn check(
         } => check_index(alloc, catalog, statement, target, columns.as_slice()),
         Resolved::View { query, .. } => check_view(alloc, catalog, statement, query),
         Resolved::Insert { target, tuples } => {
-            let kinds = kinds_of_object(alloc, catalog, target)?;
-            check_insert(target, kinds.as_slice(), tuples.as_slice())
+            check_insert(alloc, catalog, target, tuples.as_slice())
         }
         Resolved::Update {
             target,
             sets,
             condition,
-        } => {
-            let kinds = kinds_of_one(alloc, catalog, target)?;
-            check_update(target, kinds.as_slice(), sets.as_slice(), condition)
-        }
-        Resolved::Delete { target, condition } => {
-            let kinds = kinds_of_one(alloc, catalog, target)?;
-            check_delete(target, kinds.as_slice(), condition)
-        }
+        } => check_update(alloc, catalog, target, sets.as_slice(), condition),
+        Resolved::Delete { target, condition } => check_delete(alloc, catalog, target, condition),
         Resolved::Select { query, order } => check_select(alloc, catalog, query, order),
         Resolved::Control => Ok(()),
     }

@@ -2,24 +2,14 @@
 //! first that fails refuses it.
 #![tactic(auto)]
 
-mod changing;
 mod checking;
-mod counting;
 mod creating;
-mod family;
 mod joining;
-mod kinds;
 mod objects;
-mod ordering;
-mod queries;
-mod refusing;
 mod shape;
 mod typing;
-mod view_joins;
-mod view_lists;
-mod widths;
 
 pub use checking::check;
+pub use joining::{join_index, second_of};
 pub use objects::{as_table, number_of};
-pub use ordering::item_named;
-pub use view_joins::{join_index, second_of};
+pub use shape::item_named;

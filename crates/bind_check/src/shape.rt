@@ -1,130 +1,121 @@
-//! The shape of queries and statements.
-ghost use Rattle.std.specs.Prelude.{◌≡◌, ◌==◌, ◌&&◌, ◌||◌, [], map, length, not, false, int_le, pos};
+//! The shape of queries, and the items by which an ORDER BY sorts.
+ghost use Rattle.std.specs.Prelude.{◌≡◌, ◌&&◌, ◌||◌, map, not, false, IfOk, None, Some, if◌then◌else◌, int_le, is_some, pos};
 ghost use Rattle.std.specs.List.{list_any, list_all};
 ghost use Rattle.std.specs.Option.{option_map_or};
-ghost use Rattle.iv_types.specs.Trees.{tree, trees, perhaps_tree};
-ghost use Rattle.iv_meaning.specs.Bound.{item_tree, set_tree};
+ghost use Rattle.iv_types.specs.Trees.{tree, perhaps_tree};
+ghost use Rattle.iv_meaning.specs.Bound.{item_tree};
+ghost use Rattle.iv_meaning.specs.Shape.{are_sums, has_arithmetic, is_aggregate, is_count_and_sums, is_empty, is_grouped, is_view_list, repeats, same_place, is_named};
+ghost use Rattle.iv_meaning.specs.Tests.{is_many_to_one, query_rules, view_rules, before_number, item_place, item_named};
+ghost use Rattle.iv_meaning.specs.Binding.{passed};
 ghost use Rattle.iv_meaning.specs.Resolving.{how_many};
-ghost use Rattle.iv_meaning.specs.Shape.{same_place, repeats, is_aggregate, is_empty, is_grouped, has_arithmetic, is_named};
-ghost use Rattle.iv_meaning.specs.Tests.{item_place, before_number, item_named, same_number};
-ghost use Rattle.bind_resolve.specs.Seen.{item_seen};
-ghost use Rattle.bind_check.specs.Shapes.{is_arithmetic};
+ghost use Rattle.bind_resolve.specs.Meant.{IsMeant};
+ghost use Rattle.bind_resolve.specs.Seen.{item_seen, query_seen};
+ghost use Rattle.bind_check.specs.Shapes.{is_arithmetic, is_named_count, is_named_sum};
 
-use bind_resolve::NamedItem;
-use iv_types::{BoundItem, BoundSet, Bytes, ColumnAt, Expr, ExprList, Op, Order, OrderKey};
+use crate::checking::rule;
+use crate::joining::joins_tables;
+use crate::objects::{ObjectKind, as_table, names_a};
+use bind_resolve::{NamedItem, ResolvedQuery};
+use iv_types::{
+    BoundItem, Bytes, ColumnAt, Expr, NoMemory, Op, Order, OrderKey, Refusal, ShapeRule,
+};
+use std::alloc::Global;
 
-fn same_place(a: ColumnAt, b: ColumnAt) -> bool
-    ensures { result ≡ same_place a b }
+// Whether something is one of some things.
+fn is_among<T: PartialEq>(item: &T, items: &[T]) -> bool
+    ensures { result ≡ list_any (T.eq item.now) items.now }
 {
-    a.source == b.source && a.column == b.column
+    items.iter().any(|other| item == other)
 }
 
-// Whether a column is among some.
-fn has_place(places: &[ColumnAt], place: ColumnAt) -> bool
-    ensures { result ≡ list_any (same_place place) places.now }
+/// Whether something stands twice.
+pub fn repeats<T: PartialEq>(items: &[T]) -> bool
+    ensures { result ≡ repeats T.eq items.now }
 {
-    places.iter().any(|other| same_place(place, *other))
-}
-
-/// Whether a column stands twice.
-pub fn repeats_place(places: &[ColumnAt]) -> bool
-    ensures { result ≡ repeats same_place places.now }
-{
-    match places.split_first() {
-        Some((place, rest)) => has_place(rest, *place) || repeats_place(rest),
+    match items.split_first() {
+        Some((first, rest)) => is_among(first, rest) || repeats(rest),
         None => false,
     }
 }
 
-// Whether a column is among some of its relation.
-fn has_column(columns: &[u32], column: u32) -> bool
-    ensures { result ≡ list_any (same_number column) columns.now }
-{
-    columns.iter().any(|other| column == *other)
-}
-
-/// Whether a column of a key stands twice.
-pub fn repeats_column(columns: &[u32]) -> bool
-    ensures { result ≡ repeats same_number columns.now }
-{
-    match columns.split_first() {
-        Some((column, rest)) => has_column(rest, *column) || repeats_column(rest),
-        None => false,
-    }
-}
-
-// Whether a column is one of the primary key.
-fn is_key(keys: &[u32], column: u32) -> bool
-    ensures { result ≡ list_any (λ key. key == column) keys.now }
-{
-    keys.iter().any(|key| *key == column)
-}
-
-/// Whether a column of the primary key is set.
-pub fn sets_key(keys: &[u32], sets: &[BoundSet]) -> bool
-    ensures { result ≡ list_any (λ a. list_any (λ key. key == a.column) keys.now) sets.now }
-{
-    sets.iter().any(|set| is_key(keys, set.column))
-}
-
-// Whether a column is set by one of some assignments.
-fn is_set(column: u32, sets: &[BoundSet]) -> bool
-    ensures { result ≡ list_any (λ b. column == b.column) sets.now }
-{
-    sets.iter().any(|other| column == other.column)
-}
-
-/// Whether a column is set twice.
-pub fn sets_twice(sets: &[BoundSet]) -> bool
-    ensures { result ≡ repeats (λ a b. a.column == b.column) sets.now }
-{
-    match sets.split_first() {
-        Some((set, rest)) => is_set(set.column, rest) || sets_twice(rest),
-        None => false,
-    }
-}
-
-/// Whether each tuple has so many values.
-pub fn have_length(count: usize, tuples: &[ExprList]) -> bool
-    ensures { result ≡ list_all (λ tuple. length (trees tuple) == count) tuples.now }
-{
-    tuples
-        .iter()
-        .all(|tuple| has_length(count, tuple.as_slice()))
-}
-
-fn has_length(count: usize, values: &[Expr]) -> bool
-    ensures { result ≡ (length (trees values.now) == count) }
-{
-    values.len() == count
-}
-
-/// Whether an item is COUNT(*) or SUM.
-pub fn is_aggregate(item: &BoundItem) -> bool
+// Whether an item is COUNT(*) or SUM.
+fn is_aggregate(item: &BoundItem) -> bool
     ensures { result ≡ is_aggregate (item_tree item.now) }
 {
     match item {
-        BoundItem::Count => true,
-        BoundItem::Sum(_) => true,
+        BoundItem::Count | BoundItem::Sum(_) => true,
         BoundItem::Plain(_) => false,
     }
 }
 
-/// Whether an item is a column by which the query groups.
-pub fn is_grouped(group: &[ColumnAt], item: &BoundItem) -> bool
+// Whether an item is a column by which the query groups.
+fn is_grouped(group: &[ColumnAt], item: &BoundItem) -> bool
     ensures { result ≡ is_grouped group.now (item_tree item.now) }
 {
     match item {
-        BoundItem::Plain(Expr::At(place)) => has_place(group, *place),
+        BoundItem::Plain(Expr::At(place)) => is_among(place, group),
         _ => false,
     }
 }
 
-/// Whether an item may stand in a query that groups.
-pub fn is_of_group(group: &[ColumnAt], item: &BoundItem) -> bool
-    ensures { result ≡ (is_aggregate (item_tree item.now) || is_grouped group.now (item_tree item.now)) }
+// Whether a query has a GROUP BY.
+fn is_grouping(query: &ResolvedQuery<'_>) -> bool
+    ensures { result ≡ not (is_empty (query_seen query.now).group) }
 {
-    is_aggregate(item) || is_grouped(group, item)
+    match query.group.as_slice() {
+        [] => false,
+        [_, ..] => true,
+    }
+}
+
+// Whether a query counts or sums.
+fn aggregates(query: &ResolvedQuery<'_>) -> bool
+    ensures { result ≡ list_any (λ i. is_aggregate i.item) (query_seen query.now).items }
+{
+    query.items.as_slice().iter().any(|i| is_aggregate(&i.item))
+}
+
+// Whether each item of a query may stand beside its GROUP BY.
+fn lists_groups(query: &ResolvedQuery<'_>) -> bool
+    ensures { result ≡ list_all (λ i. is_aggregate i.item || is_grouped (query_seen query.now).group i.item) (query_seen query.now).items }
+{
+    let group = query.group.as_slice();
+    let mut items = query.items.as_slice().iter();
+    items.all(|i| is_aggregate(&i.item) | is_grouped(group, &i.item))
+}
+
+// Whether a GROUP BY stands behind a FROM that is neither one relation nor two tables of which the second is joined by its
+// whole primary key.
+fn groups_joined(alloc: Global, grouped: bool, query: &ResolvedQuery<'_>) -> Result<bool, NoMemory>
+    ensures { IfOk result (λ joined. joined ≡ (grouped && not (is_many_to_one (query_seen query.now).first (query_seen query.now).joins))) }
+{
+    if !grouped {
+        return Ok(false);
+    }
+    match query.joins.as_slice() {
+        [] => Ok(false),
+        [join] => {
+            let (first, second) = (as_table(query.first), as_table(join.object));
+            Ok(!joins_tables(alloc, first, second, &join.on)?)
+        }
+        _ => Ok(true),
+    }
+}
+
+/// The shape rules of every query.
+#[tactic(auto, using(bind_resolve::proofs::Steps::stops, bind_resolve::proofs::Steps::goes_on))]
+pub fn check_query(alloc: Global, query: &ResolvedQuery<'_>) -> Result<(), Refusal>
+    ensures { IsMeant (λ u. u) result (passed (query_rules (query_seen query.now))) }
+{
+    let grouped = is_grouping(query);
+    rule(ShapeRule::ColumnTwice, repeats(query.group.as_slice()))?;
+    rule(ShapeRule::NoTable, names_a(ObjectKind::Index, query))?;
+    rule(ShapeRule::NoGroup, !grouped & aggregates(query))?;
+    rule(ShapeRule::OtherItem, grouped & !lists_groups(query))?;
+    rule(
+        ShapeRule::NotManyToOne,
+        groups_joined(alloc, grouped, query)?,
+    )
 }
 
 // Whether an operator is arithmetic.
@@ -139,24 +130,136 @@ fn has_arithmetic(expression: &Expr) -> bool
     ensures { result ≡ has_arithmetic (tree expression.now) }
 {
     match expression {
-        Expr::Number(_) => false,
-        Expr::Word(_) => false,
-        Expr::Named(_) => false,
-        Expr::At(_) => false,
+        Expr::Number(_) | Expr::Word(_) | Expr::Named(_) | Expr::At(_) => false,
         Expr::Not(operand) => has_arithmetic(operand),
         Expr::Minus(_) => true,
-        Expr::Pair(op, left, right) => is_arithmetic(*op)
-            || has_arithmetic(left)
-            || has_arithmetic(right),
+        Expr::Pair(op, left, right) => {
+            is_arithmetic(*op) || has_arithmetic(left) || has_arithmetic(right)
+        }
     }
 }
 
-/// Whether a condition has arithmetic.
-pub fn condition_has_arithmetic(condition: &Option<Expr>) -> bool
+fn condition_has_arithmetic(condition: &Option<Expr>) -> bool
     ensures { result ≡ option_map_or has_arithmetic (perhaps_tree condition.now) false }
 {
     match condition {
         Some(condition) => has_arithmetic(condition),
         None => false,
     }
+}
+
+fn is_named_sum(item: &NamedItem<'_>) -> bool
+    ensures { result ≡ is_named_sum (item_seen item.now) }
+{
+    match &item.item {
+        BoundItem::Sum(_) => item.name.is_some(),
+        BoundItem::Count | BoundItem::Plain(_) => false,
+    }
+}
+
+fn is_named_count(item: &NamedItem<'_>) -> bool
+    ensures { result ≡ is_named_count (item_seen item.now) }
+{
+    match &item.item {
+        BoundItem::Count => item.name.is_some(),
+        BoundItem::Sum(_) | BoundItem::Plain(_) => false,
+    }
+}
+
+// Whether all items are sums with names.
+fn are_sums(items: &[NamedItem<'_>]) -> bool
+    ensures { result ≡ are_sums (map item_seen items.now) }
+{
+    items.iter().all(|i| is_named_sum(i))
+}
+
+// Whether items are a count and sums with names.
+#[tactic(auto, using(crate::proofs::ShapeLemmas::one_count))]
+fn is_count_and_sums(items: &[NamedItem<'_>]) -> bool
+    ensures { result ≡ is_count_and_sums (map item_seen items.now) }
+{
+    match items.split_first() {
+        Some((count, sums)) => is_named_count(count) && are_sums(sums),
+        None => false,
+    }
+}
+
+// Whether the items are the group columns in their order, one count with a name, and sums with names.
+fn is_view_list(group: &[ColumnAt], items: &[NamedItem<'_>]) -> bool
+    ensures { result ≡ is_view_list group.now (map item_seen items.now) }
+{
+    let Some((place, group)) = group.split_first() else {
+        return is_count_and_sums(items);
+    };
+    match items.split_first() {
+        Some((item, items)) => is_grouped(&[*place], &item.item) && is_view_list(group, items),
+        None => false,
+    }
+}
+
+/// The shape rules of a view besides.
+#[tactic(auto, using(bind_resolve::proofs::Steps::stops, bind_resolve::proofs::Steps::goes_on))]
+pub fn check_view_query(query: &ResolvedQuery<'_>) -> Result<(), Refusal>
+    ensures { IsMeant (λ u. u) result (passed (view_rules (query_seen query.now))) }
+{
+    let listed = is_view_list(query.group.as_slice(), query.items.as_slice());
+    rule(ShapeRule::NoViewList, !is_grouping(query) | !listed)?;
+    rule(
+        ShapeRule::Arithmetic,
+        condition_has_arithmetic(&query.condition),
+    )?;
+    rule(ShapeRule::ViewOfView, names_a(ObjectKind::View, query))
+}
+
+// Whether an item has this name.
+fn is_named(name: &Bytes, item: &NamedItem<'_>) -> bool
+    ensures { result ≡ is_named name.now (item_seen item.now) }
+{
+    match item.name {
+        Some(other) => name.as_slice() == other.as_slice(),
+        None => false,
+    }
+}
+
+// The place of the first item of this name.
+fn item_place(name: &Bytes, items: &[NamedItem<'_>]) -> usize
+    ensures { result ≡ item_place name.now 0 (map item_seen items.now) }
+{
+    for index in 0..items.len() {
+        if is_named(name, &items[index]) {
+            return index;
+        }
+    }
+    items.len()
+}
+
+/// The place of the item that a term of an ORDER BY names: by its number from 1, or by a name that it alone has.
+#[tactic(auto, using(bind_resolve::proofs::Steps::count_seen))]
+pub fn item_named(items: &[NamedItem<'_>], key: &OrderKey) -> Option<usize>
+    ensures { result ≡ item_named (map item_seen items.now) key.now }
+{
+    match key {
+        OrderKey::Place(number) => {
+            if 1 <= *number && *number <= items.len() as i128 {
+                Some((*number - 1) as usize)
+            } else {
+                None
+            }
+        }
+        OrderKey::Name(name) => {
+            let named = items.iter().filter(|i| is_named(name, i)).count();
+            if named == 1 {
+                Some(item_place(name, items))
+            } else {
+                None
+            }
+        }
+    }
+}
+
+/// Whether each term of an ORDER BY names an item.
+pub fn are_named(items: &[NamedItem<'_>], order: &[Order]) -> bool
+    ensures { result ≡ list_all (λ o. is_some (item_named (map item_seen items.now) o.by)) order.now }
+{
+    order.iter().all(|o| item_named(items, &o.by).is_some())
 }

@@ -1,47 +1,39 @@
 //! Whether resolved expressions have their types.
-ghost use Rattle.std.specs.Prelude.{◌≡◌, ◌&&◌, ◌∷◌, [], map, slice_get};
+ghost use Rattle.std.specs.Prelude.{◌≡◌, map, not};
 ghost use Rattle.std.specs.List.{list_all};
-ghost use Rattle.std.specs.Option.{option_copied, option_map};
+ghost use Rattle.std.specs.Option.{option_map};
 ghost use Rattle.iv_types.specs.Trees.{tree, trees, perhaps_tree};
-ghost use Rattle.iv_meaning.specs.Schema.{object_kinds, kind_at};
-ghost use Rattle.iv_meaning.specs.Objects.{schema_of, object_of};
+ghost use Rattle.iv_meaning.specs.Schema.{kind_at};
 ghost use Rattle.iv_meaning.specs.Bound.{item_tree, set_tree};
-ghost use Rattle.iv_meaning.specs.Types.{family_of_kind, is_number, is_text, is_truth, is_of, is_value, alike, typed, family_of_pair, family, condition_typed, item_typed, query_typed, set_typed, tuple_typed};
-ghost use Rattle.bind_check.specs.Families.{family_of, perhaps_family};
-ghost use Rattle.bind_check.specs.Checked.{query_by, value_typed};
-ghost use Rattle.bind_resolve.specs.Seen.{item_seen, joined_seen, query_seen};
+ghost use Rattle.iv_meaning.specs.Types.{family_of_kind, is_of, is_value, alike, typed, family_of_pair, family, condition_typed, item_typed, query_typed, set_typed, tuple_typed};
+ghost use Rattle.iv_meaning.specs.Objects.{schema_of};
+ghost use Rattle.iv_meaning.specs.Binding.{refuse_if};
+ghost use Rattle.iv_types.specs.declared.refusal.Refusal.TheVariants as refusal;
+ghost use Rattle.bind_resolve.specs.Meant.{IsMeant};
+ghost use Rattle.bind_resolve.specs.Seen.{query_seen};
+ghost use Rattle.bind_check.specs.Families.{family_of, is_a, perhaps_family};
 
-use crate::family::Family;
-use bind_resolve::{Joined, NamedItem, ResolvedQuery};
-use iv_types::{BoundItem, BoundSet, ColumnAt, Expr, ExprList, Kind, KindList, Op};
+use crate::checking::refuse;
+use crate::objects::kinds_seen;
+use bind_resolve::ResolvedQuery;
+use iv_types::{
+    BoundItem, BoundSet, Catalog, ColumnAt, Expr, ExprList, Kind, KindList, Op, Refusal,
+};
 use object_kinds::kind_at;
+use std::alloc::Global;
 
-fn family_of_kind(kind: Kind) -> Family
-    ensures { family_of result ≡ family_of_kind kind }
-{
-    match kind {
-        Kind::Int => Family::Number,
-        Kind::Huge => Family::Number,
-        Kind::Text => Family::Text,
-    }
+/// What an expression gives.
+#[derive(Clone, Copy, PartialEq)]
+pub enum Family {
+    Number,
+    Text,
+    Truth,
 }
 
-fn is_number(family: Option<Family>) -> bool
-    ensures { result ≡ is_number (perhaps_family family) }
+fn is_a(wanted: Family, family: Option<Family>) -> bool
+    ensures { result ≡ is_a wanted (perhaps_family family) }
 {
-    matches!(family, Some(Family::Number))
-}
-
-fn is_text(family: Option<Family>) -> bool
-    ensures { result ≡ is_text (perhaps_family family) }
-{
-    matches!(family, Some(Family::Text))
-}
-
-fn is_truth(family: Option<Family>) -> bool
-    ensures { result ≡ is_truth (perhaps_family family) }
-{
-    matches!(family, Some(Family::Truth))
+    family == Some(wanted)
 }
 
 // Whether it is a number or a text.
@@ -56,9 +48,8 @@ fn is_of(kind: Kind, family: Option<Family>) -> bool
     ensures { result ≡ is_of kind (perhaps_family family) }
 {
     match kind {
-        Kind::Int => is_number(family),
-        Kind::Huge => is_number(family),
-        Kind::Text => is_text(family),
+        Kind::Int | Kind::Huge => is_a(Family::Number, family),
+        Kind::Text => is_a(Family::Text, family),
     }
 }
 
@@ -66,12 +57,7 @@ fn is_of(kind: Kind, family: Option<Family>) -> bool
 fn alike(left: Option<Family>, right: Option<Family>) -> bool
     ensures { result ≡ alike (perhaps_family left) (perhaps_family right) }
 {
-    match left {
-        Some(Family::Number) => is_number(right),
-        Some(Family::Text) => is_text(right),
-        Some(Family::Truth) => false,
-        None => false,
-    }
+    is_value(left) & (left == right)
 }
 
 // A family, if the operands have their types.
@@ -81,33 +67,23 @@ fn typed(holds: bool, family: Family) -> Option<Family>
     if holds { Some(family) } else { None }
 }
 
-fn both_truths(left: Option<Family>, right: Option<Family>) -> bool
-    ensures { result ≡ (is_truth (perhaps_family left) && is_truth (perhaps_family right)) }
-{
-    is_truth(left) && is_truth(right)
-}
-
-fn both_numbers(left: Option<Family>, right: Option<Family>) -> bool
-    ensures { result ≡ (is_number (perhaps_family left) && is_number (perhaps_family right)) }
-{
-    is_number(left) && is_number(right)
-}
-
 fn family_of_pair(op: Op, left: Option<Family>, right: Option<Family>) -> Option<Family>
     ensures { perhaps_family result ≡ family_of_pair op (perhaps_family left) (perhaps_family right) }
 {
     match op {
-        Op::Or => typed(both_truths(left, right), Family::Truth),
-        Op::And => typed(both_truths(left, right), Family::Truth),
-        Op::Add => typed(both_numbers(left, right), Family::Number),
-        Op::Subtract => typed(both_numbers(left, right), Family::Number),
-        Op::Multiply => typed(both_numbers(left, right), Family::Number),
-        Op::Equal => typed(alike(left, right), Family::Truth),
-        Op::NotEqual => typed(alike(left, right), Family::Truth),
-        Op::Less => typed(alike(left, right), Family::Truth),
-        Op::AtMost => typed(alike(left, right), Family::Truth),
-        Op::Greater => typed(alike(left, right), Family::Truth),
-        Op::AtLeast => typed(alike(left, right), Family::Truth),
+        Op::Or | Op::And => typed(
+            is_a(Family::Truth, left) & is_a(Family::Truth, right),
+            Family::Truth,
+        ),
+        Op::Add | Op::Subtract | Op::Multiply => {
+            typed(
+                is_a(Family::Number, left) & is_a(Family::Number, right),
+                Family::Number,
+            )
+        }
+        Op::Equal | Op::NotEqual | Op::Less | Op::AtMost | Op::Greater | Op::AtLeast => {
+            typed(alike(left, right), Family::Truth)
+        }
     }
 }
 
@@ -115,13 +91,14 @@ fn family_of_place(kinds: &[KindList], place: ColumnAt) -> Option<Family>
     ensures { perhaps_family result ≡ option_map family_of_kind (kind_at kinds.now place) }
 {
     match kind_at(kinds, place) {
-        Some(kind) => Some(family_of_kind(kind)),
+        Some(Kind::Int | Kind::Huge) => Some(Family::Number),
+        Some(Kind::Text) => Some(Family::Text),
         None => None,
     }
 }
 
 // The family of a bound expression, or none where a type is wrong.
-fn family(kinds: &[KindList], expression: &Expr) -> Option<Family>
+fn family_in(kinds: &[KindList], expression: &Expr) -> Option<Family>
     ensures { perhaps_family result ≡ family kinds.now (tree expression.now) }
 {
     match expression {
@@ -129,11 +106,17 @@ fn family(kinds: &[KindList], expression: &Expr) -> Option<Family>
         Expr::Word(_) => Some(Family::Text),
         Expr::Named(_) => None,
         Expr::At(place) => family_of_place(kinds, *place),
-        Expr::Not(operand) => typed(is_truth(family(kinds, operand)), Family::Truth),
-        Expr::Minus(operand) => typed(is_number(family(kinds, operand)), Family::Number),
+        Expr::Not(operand) => typed(
+            is_a(Family::Truth, family_in(kinds, operand)),
+            Family::Truth,
+        ),
+        Expr::Minus(operand) => typed(
+            is_a(Family::Number, family_in(kinds, operand)),
+            Family::Number,
+        ),
         Expr::Pair(op, left, right) => {
-            let left = family(kinds, left);
-            let right = family(kinds, right);
+            let left = family_in(kinds, left);
+            let right = family_in(kinds, right);
             family_of_pair(*op, left, right)
         }
     }
@@ -144,7 +127,7 @@ pub fn condition_typed(kinds: &[KindList], condition: &Option<Expr>) -> bool
     ensures { result ≡ condition_typed kinds.now (perhaps_tree condition.now) }
 {
     match condition {
-        Some(condition) => is_truth(family(kinds, condition)),
+        Some(condition) => is_a(Family::Truth, family_in(kinds, condition)),
         None => true,
     }
 }
@@ -157,14 +140,14 @@ fn set_typed(kinds: &[KindList], set: &BoundSet) -> bool
         column: set.column,
     };
     match kind_at(kinds, place) {
-        Some(kind) => is_of(kind, family(kinds, &set.value)),
+        Some(kind) => is_of(kind, family_in(kinds, &set.value)),
         None => false,
     }
 }
 
 /// Whether assignments have the families of their columns.
 pub fn sets_typed(kinds: &[KindList], sets: &[BoundSet]) -> bool
-    ensures { result ≡ list_all (λ a. set_typed kinds.now (set_tree a)) sets.now }
+    ensures { result ≡ list_all (set_typed kinds.now) (map set_tree sets.now) }
 {
     sets.iter().all(|set| set_typed(kinds, set))
 }
@@ -174,41 +157,27 @@ fn item_typed(kinds: &[KindList], item: &BoundItem) -> bool
 {
     match item {
         BoundItem::Count => true,
-        BoundItem::Sum(place) => is_number(family_of_place(kinds, *place)),
-        BoundItem::Plain(value) => is_value(family(kinds, value)),
+        BoundItem::Sum(place) => is_a(Family::Number, family_of_place(kinds, *place)),
+        BoundItem::Plain(value) => is_value(family_in(kinds, value)),
     }
 }
 
-fn items_typed(kinds: &[KindList], items: &[NamedItem<'_>]) -> bool
-    ensures { result ≡ list_all (λ i. item_typed kinds.now (item_seen i).item) items.now }
+/// The types of a query.
+pub fn check_types(
+    alloc: Global,
+    catalog: &Catalog,
+    query: &ResolvedQuery<'_>,
+) -> Result<(), Refusal>
+    ensures { IsMeant (λ u. u) result (refuse_if (not (query_typed (schema_of catalog.now) (query_seen query.now)), refusal.WrongType)) }
 {
-    items.iter().all(|i| item_typed(kinds, &i.item))
-}
-
-fn joins_typed(kinds: &[KindList], joins: &[Joined<'_>]) -> bool
-    ensures { result ≡ list_all (λ j. is_truth (family kinds.now (joined_seen j).on)) joins.now }
-{
-    joins.iter().all(|j| is_truth(family(kinds, &j.on)))
-}
-
-/// Whether the items and the conditions of a query have their types, where these are the kinds of its relations' columns.
-pub fn query_typed(kinds: &[KindList], query: &ResolvedQuery<'_>) -> bool
-    ensures { result ≡ query_by kinds.now query.now }
-{
-    let items = items_typed(kinds, query.items.as_slice());
-    let joins = joins_typed(kinds, query.joins.as_slice());
-    items && joins && condition_typed(kinds, &query.condition)
-}
-
-// Whether a value may stand in a column of this kind, or behind the last one.
-fn value_typed(kind: Option<&Kind>, value: &Expr) -> bool
-    ensures { result ≡ value_typed (option_copied kind.entry) (tree value.now) }
-{
-    let family = family(&[], value);
-    match kind {
-        Some(kind) => is_of(*kind, family),
-        None => is_value(family),
-    }
+    let seen = kinds_seen(alloc, catalog, query)?;
+    let kinds = seen.as_slice();
+    let mut items = query.items.as_slice().iter();
+    let items = items.all(|i| item_typed(kinds, &i.item));
+    let mut joins = query.joins.as_slice().iter();
+    let joins = joins.all(|j| is_a(Family::Truth, family_in(kinds, &j.on)));
+    let typed = items & joins & condition_typed(kinds, &query.condition);
+    refuse(!typed, Refusal::WrongType)
 }
 
 // Whether the values of a tuple have the families of the columns.
@@ -216,7 +185,12 @@ fn tuple_typed(kinds: &[Kind], tuple: &[Expr]) -> bool
     ensures { result ≡ tuple_typed kinds.now (trees tuple.now) }
 {
     for index in 0..tuple.len() {
-        if !value_typed(kinds.get(index), &tuple[index]) {
+        let family = family_in(&[], &tuple[index]);
+        let typed = match kinds.get(index) {
+            Some(kind) => is_of(*kind, family),
+            None => is_value(family),
+        };
+        if !typed {
             return false;
         }
     }
@@ -225,9 +199,8 @@ fn tuple_typed(kinds: &[Kind], tuple: &[Expr]) -> bool
 
 /// Whether the values of tuples have the families of the columns, which are of these kinds.
 pub fn tuples_typed(kinds: &[Kind], tuples: &[ExprList]) -> bool
-    ensures { result ≡ list_all (λ tuple. tuple_typed kinds.now (trees tuple)) tuples.now }
+    ensures { result ≡ list_all (tuple_typed kinds.now) (map trees tuples.now) }
 {
-    tuples
-        .iter()
-        .all(|tuple| tuple_typed(kinds, tuple.as_slice()))
+    let mut tuples = tuples.iter();
+    tuples.all(|tuple| tuple_typed(kinds, tuple.as_slice()))
 }

@@ -12,6 +12,7 @@ use Rattle.std.specs.BTreeSet.{insert_key}
 use Rattle.std.proofs.lemmas.Map.Text.{is_eq-slice_cmp}
 use Rattle.iv_meaning.specs.Resolving.{is_among}
 use Rattle.bind_resolve.specs.Seen.{names_in, Alike}
+use Rattle.bind_resolve.proofs.Walks.{or_turned}
 
 abbrev pub by_now : Bor (List ℕ) → Bor (List ℕ) → Ordering
 by_now a b = slice_cmp nat_cmp a.now b.now
@@ -21,11 +22,6 @@ found_by name [] = refl
 found_by name (k ∷ keys) =
     ap (λ t. t || list_any (λ j. is_eq (slice_cmp nat_cmp name j.now)) keys) (is_eq-slice_cmp name k.now)
     ∙ ap (λ t. bytes_eq name k.now || t) (found_by name keys)
-
-or_turned : (a b c : Bool) → (a || (b || c)) ≡ (b || (a || c))
-or_turned true true c = refl
-or_turned true false c = refl
-or_turned false b c = refl
 
 or_same : (a b : Bool) → (a || b) ≡ (a || (a || b))
 or_same true b = refl

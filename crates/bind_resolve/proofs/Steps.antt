@@ -1,13 +1,15 @@
 -- Lemmas on steps that give what is meant, one behind the other.
-use Rattle.std.proofs.Common.{◌≡◌, ◌⊎◌, ℕ, ◌==◌, if◌then◌else◌, Bool, true, false, cond, List, [], ◌∷◌, map, filter, Result, Ok, Err}
+use Rattle.std.proofs.Common.{◌≡◌, ◌⊎◌, ℕ, ◌+◌, ◌==◌, arith, if◌then◌else◌, Bool, true, false, cond, List, [], ◌∷◌, map, filter, Result, Ok, Err}
 use mathlib.Core.Path.{refl, sym, ap, subst, ◌∙◌}
 use mathlib.Core.Logic.{inl, inr}
+use Rattle.std.specs.List.{count_by}
 use Rattle.std.specs.Result.{IsErrAnd}
+use Rattle.std.proofs.lemmas.List.Recursion.{is_count_by}
 use Rattle.std.proofs.lemmas.Result.{err_from_is_err_and}
 use Rattle.iv_types.specs.declared.refusal.Refusal.{Refusal}
 use Rattle.iv_types.specs.declared.refusal.Refusal.TheVariants.{NoMemory}
 use Rattle.iv_types.specs.declared.expression.ColumnAt.{ColumnAt}
-use Rattle.iv_meaning.specs.Resolving.{and_then}
+use Rattle.iv_meaning.specs.Resolving.{and_then, how_many}
 use Rattle.iv_meaning.specs.Resolving as defined
 use Rattle.bind_resolve.specs.declared.resolved.Column.{Column}
 use Rattle.bind_resolve.specs.Meant.{IsMeant}
@@ -36,6 +38,14 @@ places_seen test (c ∷ cs) = one_seen (test (column_seen c)) c (filter (λ c. t
 -- the one relation that is called so
 pub when_one : (n m : ℕ) (result : Result ColumnAt Refusal) (x y : Result ColumnAt Refusal) → n ≡ m → n ≡ 1 → IsMeant (λ place. place) result x → IsMeant (λ place. place) result (if m == 1 then x else y)
 when_one n m result x y is one h = subst (λ (k : ℕ). IsMeant (λ place. place) result (if k == 1 then x else y)) (sym one ∙ is) h
+
+pub one_more : (t : Bool) (n : ℕ) → (if t then n + 1 else n) ≡ cond t (1 + n) n
+one_more true n = omega arith
+one_more false n = refl
+
+-- how many pass a test, of what is seen
+pub count_seen : {X Y : Type 0} (p : Y → Bool) (f : X → Y) (xs : List X) (n : ℕ) → n ≡ count_by (λ x. p (f x)) xs → n ≡ how_many p (map f xs)
+count_seen p f xs n e = e ∙ sym (is_count_by (λ ys. how_many p (map f ys)) (λ x. p (f x)) refl (λ x ys. one_more (p (f x)) (how_many p (map f ys))) xs)
 
 -- the exit of a `?`
 pub exits_gives : {A B : Type 0} (f : A → B) (result : Result A Refusal) (r : Refusal) (meant : Result B Refusal) → IsErrAnd result (λ y. y ≡ r) → (r ≡ NoMemory) ⊎ (meant ≡ Err r) → IsMeant f result meant

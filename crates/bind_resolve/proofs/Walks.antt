@@ -1,17 +1,18 @@
 -- Lemmas on items and relations one after another.
-use Rattle.std.proofs.Common.{◌≡◌, ◌⊎◌, ℕ, ◌+◌, ◌<◌, ◌≤◌, Bool, true, false, ◌||◌, IsTrue, List, [], ◌∷◌, ◌++◌, length, drop, get_or, Result, Ok, Err, append-nil, append_assoc, if◌then◌else◌}
-use mathlib.Core.Path.{refl, sym, ap, subst, ◌∙◌}
+use Rattle.std.proofs.Common.{◌≡◌, ◌⊎◌, ℕ, ◌+◌, ◌<◌, ◌≤◌, Bool, true, false, ◌||◌, IsTrue, List, [], ◌∷◌, ◌++◌, map, length, drop, get_or, Result, Ok, Err, append-nil, append_assoc, if◌then◌else◌}
+use mathlib.Core.Path.{refl, sym, ap, ◌∙◌}
 use mathlib.Core.Logic.{inl, inr}
 use Rattle.std.specs.Str.{bytes_eq}
+use denote.Ref.{Bor}
 use Rattle.std.proofs.lemmas.List.{at_drop_more, at_drop_all}
-use Rattle.std.proofs.lemmas.List.Folds.{list_any-append}
 use Rattle.iv_types.specs.declared.refusal.Refusal.{Refusal}
 use Rattle.iv_types.specs.declared.refusal.Refusal.TheVariants.{NoMemory, NameTaken}
-use Rattle.iv_types.specs.Syntax.{ItemTree, JoinTree}
-use Rattle.iv_meaning.specs.Schema.{Schema}
-use Rattle.iv_meaning.specs.Resolving.{is_among, NamedItem, Scope, Joined, and_then, called, expression, fresh, items_for, items_resolved, joins_resolved, known, names_in, source}
+use Rattle.iv_types.specs.Syntax.{ItemTree, JoinTree, QueryTree, Tree}
+use Rattle.iv_types.specs.declared.statement.Relation.{Relation}
+use Rattle.iv_meaning.specs.Schema.{Schema, Object}
+use Rattle.iv_meaning.specs.Resolving.{is_among, NamedItem, Scope, Joined, and_then, called, expression, fresh, items_for, items_resolved, joins_resolved, known, names_in, query_resolved, scope_from, source}
 use Rattle.bind_resolve.specs.Seen.{Alike}
-use Rattle.bind_resolve.specs.Walking.{next_items, next_join, Joins}
+use Rattle.bind_resolve.specs.Walking.{next_items, next_join, query_by, Joins}
 
 -- ---- steps
 
@@ -48,20 +49,20 @@ ends found rest whole none e = sym e ∙ (ap (before found) none ∙ ap Ok (appe
 
 -- ---- names in whatever order
 
-or_turned : (a b : Bool) → (a || b) ≡ (b || a)
-or_turned true true = refl
-or_turned true false = refl
-or_turned false true = refl
-or_turned false false = refl
-
-pub turned : (xs ys : List (List ℕ)) → Alike (xs ++ ys) (ys ++ xs)
-turned xs ys name =
-    list_any-append (bytes_eq name) xs ys
-    ∙ (or_turned (is_among xs name) (is_among ys name) ∙ sym (list_any-append (bytes_eq name) ys xs))
+-- in whatever order two tests are made
+pub or_turned : (a b c : Bool) → (a || (b || c)) ≡ (b || (a || c))
+or_turned true true c = refl
+or_turned true false c = refl
+or_turned false b c = refl
 
 pub behind_alike : (names xs ys : List (List ℕ)) → Alike xs ys → Alike (names ++ xs) (names ++ ys)
 behind_alike [] xs ys h = h
 behind_alike (n ∷ names) xs ys h = λ name. ap (λ t. bytes_eq name n || t) (behind_alike names xs ys h name)
+
+first_alike : (names : List (List ℕ)) (n : List ℕ) (others : List (List ℕ)) → Alike (names ++ n ∷ others) (n ∷ (names ++ others))
+first_alike [] n others = λ name. refl
+first_alike (m ∷ names) n others = λ name.
+    ap (λ t. bytes_eq name m || t) (first_alike names n others name) ∙ or_turned (bytes_eq name m) (bytes_eq name n) (is_among (names ++ others) name)
 
 pub fresh_alike : (xs ys names : List (List ℕ)) → Alike xs ys → fresh xs names ≡ fresh ys names
 fresh_alike xs ys [] h = refl
@@ -70,10 +71,6 @@ fresh_alike xs ys (n ∷ names) h =
     ∙ ap (λ m. if is_among ys n then Err (NameTaken n) else m) (fresh_alike (n ∷ xs) (n ∷ ys) names (λ m. ap (λ t. bytes_eq m n || t) (h m)))
 
 -- ---- new names one after another
-
--- a name that joins others behind them
-pub joined_behind : (others after : List (List ℕ)) (n : List ℕ) → after ≡ others ++ n ∷ [] → Alike after (n ∷ others)
-joined_behind others after n is = subst (λ a. Alike a (n ∷ others)) (sym is) (turned others (n ∷ []))
 
 abbrev tested : Bool → List ℕ → Result (Unit {0}) Refusal → Result (Unit {0}) Refusal
 tested t n free = if t then Err (NameTaken n) else free
@@ -114,12 +111,12 @@ item_step view scope others item items =
     ∙ sym (nested (items_for scope item) (λ some. and_then (if view then fresh others (names_in some) else Ok tt) (λ new. Ok some)) (λ some. before some (items_resolved view scope (names_in some ++ others) items)))
 
 pub one_item : (view : Bool) (scope : Scope) (others after : List (List ℕ)) (item : ItemTree) (items : List ItemTree) (some : List NamedItem)
-    → next_items view scope others item ≡ Ok some → Joins view others (names_in some) after
+    → next_items view scope others item ≡ Ok some → Joins view (names_in some) others after
     → items_resolved view scope others (item ∷ items) ≡ before some (items_resolved view scope after items)
 one_item view scope others after item items some given joins =
     item_step view scope others item items
     ∙ (ap (λ m. and_then m (λ found. before found (items_resolved view scope (names_in found ++ others) items))) given
-    ∙ ap (before some) (items_alike view scope (names_in some ++ others) after items (λ is. subst (Alike (names_in some ++ others)) (sym (joins is)) (turned (names_in some) others))))
+    ∙ ap (before some) (items_alike view scope (names_in some ++ others) after items (λ is name. sym (joins is name))))
 
 pub no_item : (view : Bool) (scope : Scope) (others : List (List ℕ)) (item : ItemTree) (items : List ItemTree) (r : Refusal)
     → (r ≡ NoMemory) ⊎ (next_items view scope others item ≡ Err r) → (r ≡ NoMemory) ⊎ (items_resolved view scope others (item ∷ items) ≡ Err r)
@@ -141,22 +138,37 @@ joins_alike objects scope xs ys (join ∷ joins) h =
 join_step : (objects : Schema) (scope : Scope) (others : List (List ℕ)) (join : JoinTree) (joins : List JoinTree)
     → joins_resolved objects scope others (join ∷ joins) ≡ and_then (next_join objects scope others join) (λ j. before (j ∷ []) (joins_resolved objects scope (called join.relation ∷ others) joins))
 join_step objects scope others join joins =
-    under (source objects others join.relation) _ _ (λ object. sym (nested (expression scope join.on) (λ on. Ok (record { object = object; on = on })) (λ (j : Joined). before (j ∷ []) (joins_resolved objects scope (called join.relation ∷ others) joins))))
-    ∙ sym (nested (source objects others join.relation) (λ object. and_then (expression scope join.on) (λ on. Ok (record { object = object; on = on }))) (λ (j : Joined). before (j ∷ []) (joins_resolved objects scope (called join.relation ∷ others) joins)))
+    let known_ : Result Object Refusal = known objects join.relation.name in
+    let new_ : Result (Unit {0}) Refusal = fresh others (called join.relation ∷ []) in
+    let on_ : Result Tree Refusal = expression scope join.on in
+    let rest : Joined → Result (List Joined) Refusal = λ j. before (j ∷ []) (joins_resolved objects scope (called join.relation ∷ others) joins) in
+    nested known_ (λ object. and_then new_ (λ new. Ok object)) (λ object. and_then on_ (λ on. rest (record { object = object; on = on })))
+    ∙ (under known_ _ _ (λ object.
+    nested new_ (λ new. Ok object) (λ object. and_then on_ (λ on. rest (record { object = object; on = on })))
+    ∙ (under new_ _ _ (λ new. sym (nested on_ (λ on. Ok (record { object = object; on = on })) rest))
+    ∙ sym (nested new_ (λ new. and_then on_ (λ on. Ok (record { object = object; on = on }))) rest)))
+    ∙ sym (nested known_ (λ object. and_then new_ (λ new. and_then on_ (λ on. Ok (record { object = object; on = on })))) rest))
 
 pub one_join : (objects : Schema) (scope : Scope) (others after : List (List ℕ)) (join : JoinTree) (joins : List JoinTree) (j : Joined)
-    → next_join objects scope others join ≡ Ok j → after ≡ others ++ called join.relation ∷ []
+    → next_join objects scope others join ≡ Ok j → Alike after (called join.relation ∷ others)
     → joins_resolved objects scope others (join ∷ joins) ≡ before (j ∷ []) (joins_resolved objects scope after joins)
 one_join objects scope others after join joins j given is =
     join_step objects scope others join joins
     ∙ (ap (λ m. and_then m (λ (k : Joined). before (k ∷ []) (joins_resolved objects scope (called join.relation ∷ others) joins))) given
-    ∙ ap (before (j ∷ [])) (joins_alike objects scope (called join.relation ∷ others) after joins (subst (Alike (called join.relation ∷ others)) (sym is) (turned (called join.relation ∷ []) others))))
+    ∙ ap (before (j ∷ [])) (joins_alike objects scope (called join.relation ∷ others) after joins (λ name. sym (is name))))
 
 pub no_join : (objects : Schema) (scope : Scope) (others : List (List ℕ)) (join : JoinTree) (joins : List JoinTree) (r : Refusal)
     → (r ≡ NoMemory) ⊎ (next_join objects scope others join ≡ Err r) → (r ≡ NoMemory) ⊎ (joins_resolved objects scope others (join ∷ joins) ≡ Err r)
 no_join objects scope others join joins r (inl e) = inl e
 no_join objects scope others join joins r (inr e) =
     inr (join_step objects scope others join joins ∙ ap (λ m. and_then m (λ (k : Joined). before (k ∷ []) (joins_resolved objects scope (called join.relation ∷ others) joins))) e)
+
+first_known : {A : Type 0} (objects : Schema) (first : Relation) (more : Object → Result A Refusal) → and_then (source objects [] first) more ≡ and_then (known objects first.name) more
+first_known objects first more = nested (known objects first.name) (λ object. Ok object) more
+
+-- a query by what it sees
+pub query_is : (view : Bool) (objects : Schema) (query : QueryTree) → query_by view objects (scope_from objects query) query ≡ query_resolved view objects query
+query_is view objects query = under (items_resolved view (scope_from objects query) [] query.items) _ _ (λ items. sym (first_known objects query.first _))
 
 -- ---- loops: G is what the rest gives
 
@@ -176,3 +188,15 @@ all_done G whole end xs i le none e = sym e ∙ (at_drop_all G xs i le ∙ none)
 -- what stands at a place, and what behind it
 pub rest_at : {X : Type 0} (xs : List X) (i : ℕ) (x : X) → i < length xs → x ≡ get_or xs i x → drop i xs ≡ x ∷ drop (i + 1) xs
 rest_at xs i x lt at = at_drop_more (λ ys. ys) xs i x lt ∙ ap (λ y. y ∷ drop (i + 1) xs) (sym at)
+
+-- ---- names that join others one after another
+
+pub joined_on : (xs : List (Bor (List ℕ))) (i : ℕ) (x : Bor (List ℕ)) (old new whole : List (List ℕ)) → i < length xs → x ≡ get_or xs i x
+    → Alike new (x.now ∷ old) → Alike (map (λ b. b.now) (drop i xs) ++ old) whole → Alike (map (λ b. b.now) (drop (i + 1) xs) ++ new) whole
+joined_on xs i x old new whole lt at joined h = λ name.
+    behind_alike (map (λ b. b.now) (drop (i + 1) xs)) new (x.now ∷ old) joined name
+    ∙ (first_alike (map (λ b. b.now) (drop (i + 1) xs)) x.now old name
+    ∙ (ap (λ ys. is_among (map (λ b. b.now) ys ++ old) name) (sym (rest_at xs i x lt at)) ∙ h name))
+
+pub all_joined : (xs : List (Bor (List ℕ))) (i : ℕ) (new whole : List (List ℕ)) → length xs ≤ i → Alike (map (λ b. b.now) (drop i xs) ++ new) whole → Alike new whole
+all_joined xs i new whole le h = λ name. ap (λ ys. is_among (map (λ b. b.now) ys ++ new) name) (sym (at_drop_all (λ ys. ys) xs i le)) ∙ h name

@@ -1,28 +1,38 @@
 -- No clause of `run` rests on this module: it serves contracts between crates.
 --
--- Items and relations one after another, each behind the names of those before it.
-use Rattle.std.specs.Prelude.{◌≡◌, ℕ, List, [], ◌∷◌, ◌++◌, Bool, IsTrue, Result, Ok, if◌then◌else◌}
+-- Columns by a name, and items and relations one after another, each behind the names of those before it.
+use Rattle.std.specs.Prelude.{ℕ, List, [], ◌∷◌, ◌++◌, Bool, ◌&&◌, IsTrue, Option, Some, None, Result, Ok, if◌then◌else◌}
+use Rattle.std.specs.Str.{bytes_eq}
 use Rattle.iv_types.specs.declared.refusal.Refusal.{Refusal}
 use Rattle.iv_types.specs.Syntax.{ItemTree, JoinTree, QueryTree}
 use Rattle.iv_meaning.specs.Schema.{Schema}
-use Rattle.iv_meaning.specs.Resolving.{NamedItem, Scope, Joined, ResolvedQuery, and_then, called, column_of, each, expression, fresh, items_for, items_resolved, joins_resolved, names_in, perhaps, source}
+use Rattle.iv_meaning.specs.Resolving.{Column, NamedItem, Scope, Joined, ResolvedQuery, and_then, called, column_of, each, expression, fresh, items_for, items_resolved, joins_resolved, known, names_in, perhaps}
+use Rattle.bind_resolve.specs.Seen.{Alike}
+
+-- a column has this name, in a relation that is called so
+abbrev pub is_called : Option (List ℕ) → List ℕ → Column → Bool
+is_called None name c = bytes_eq name c.name
+is_called (Some qualifier) name c = bytes_eq qualifier c.relation && bytes_eq name c.name
 
 -- what an item stands for, if its names are new in a view
 abbrev pub next_items : Bool → Scope → List (List ℕ) → ItemTree → Result (List NamedItem) Refusal
 next_items view scope others item = and_then (items_for scope item) (λ some. and_then (if view then fresh others (names_in some) else Ok tt) (λ new. Ok some))
 
 abbrev pub next_join : Schema → Scope → List (List ℕ) → JoinTree → Result Joined Refusal
-next_join objects scope others join = and_then (source objects others join.relation) (λ object. and_then (expression scope join.on) (λ on. Ok (record { object = object; on = on })))
+next_join objects scope others join =
+    and_then (known objects join.relation.name) (λ object.
+    and_then (fresh others (called join.relation ∷ [])) (λ new.
+    and_then (expression scope join.on) (λ on. Ok (record { object = object; on = on }))))
 
 -- in a view, names join others
 abbrev pub Joins : Bool → List (List ℕ) → List (List ℕ) → List (List ℕ) → Type 0
-Joins view others names after = IsTrue view → after ≡ others ++ names
+Joins view names others after = IsTrue view → Alike after (names ++ others)
 
--- a query that sees these relations
+-- a query that sees these relations, of which the first has a name of its own
 abbrev pub query_by : Bool → Schema → Scope → QueryTree → Result ResolvedQuery Refusal
 query_by view objects scope query =
     and_then (items_resolved view scope [] query.items) (λ items.
-    and_then (source objects [] query.first) (λ first.
+    and_then (known objects query.first.name) (λ first.
     and_then (joins_resolved objects scope (called query.first ∷ []) query.joins) (λ joins.
     and_then (perhaps (expression scope) query.condition) (λ condition.
     and_then (each (column_of scope) query.group) (λ group.

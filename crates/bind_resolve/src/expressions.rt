@@ -1,30 +1,46 @@
 //! Expressions with places for names.
 #![tactic(auto, using(crate::proofs::Steps::stops, crate::proofs::Steps::goes_on))]
 
+ghost use Rattle.std.specs.Fn.{FnReturnsAt};
 ghost use Rattle.std.specs.Prelude.{◌≡◌, [], map};
 ghost use Rattle.iv_types.specs.Trees.{tree, trees, perhaps_tree};
 ghost use Rattle.iv_types.specs.Trees as trees_of;
 ghost use Rattle.iv_meaning.specs.Bound.{set_tree};
 ghost use Rattle.iv_meaning.specs.Resolving as meant;
+ghost use Rattle.bind_resolve.specs.Each.{EachBy};
 ghost use Rattle.bind_resolve.specs.Meant.{IsMeant};
 ghost use Rattle.bind_resolve.specs.Seen.{scope_seen};
 
 use crate::Scope;
-use crate::columns::{column_of, place_of};
 use crate::names::copied;
-use crate::scope::empty_scope;
-use crate::stepping::each;
+use crate::scope::{column_of, empty_scope, place_of};
 use iv_types::{
-    BoundSet, BoundSetList, Bytes, ColumnAtList, Expr, ExprList, Places, Ref, Refusal, Set,
-    TupleList,
+    BoundSet, BoundSetList, Bytes, ColumnAtList, Expr, ExprList, Places, Ref, Refusal, Sequence,
+    Set, TupleList,
 };
 use std::alloc::Global;
 
-/// An expression with places for names.
+/// What a step gives at each of some things, up to the first refusal.
 ///
 /// # Errors
 ///
-/// `UnknownName` of the first that stands for no column, and `NoMemory`.
+/// The first refusal, and `NoMemory`.
+pub fn each<T, U: Drop, F: Fn(&T) -> Result<U, Refusal>>(
+    alloc: Global,
+    items: &[T],
+    step: F,
+) -> Result<Sequence<U>, Refusal>
+    requires { F.IsAlwaysCallable step }
+    ensures { EachBy (λ x r. FnReturnsAt F.Fn step x r) items.now result }
+{
+    let mut found = Sequence::new(alloc);
+    for item in items {
+        found.push(step(item)?)?;
+    }
+    Ok(found)
+}
+
+/// An expression with places for names.
 pub fn expression(alloc: Global, scope: &Scope<'_>, e: &Expr) -> Result<Expr, Refusal>
     ensures { IsMeant tree result (meant.expression (scope_seen scope.now) (tree e.now)) }
 {
@@ -49,11 +65,7 @@ pub fn expression(alloc: Global, scope: &Scope<'_>, e: &Expr) -> Result<Expr, Re
     }
 }
 
-/// A condition that may be left out, with places for names.
-///
-/// # Errors
-///
-/// Those of `expression`.
+/// A condition that may be left out.
 pub fn condition(
     alloc: Global,
     scope: &Scope<'_>,
@@ -67,7 +79,6 @@ pub fn condition(
     }
 }
 
-// An assignment with places for names.
 fn assignment(alloc: Global, scope: &Scope<'_>, set: &Set) -> Result<BoundSet, Refusal>
     ensures { IsMeant set_tree result (meant.assignment (scope_seen scope.now) (trees_of.set_tree set.now)) }
 {
@@ -76,11 +87,7 @@ fn assignment(alloc: Global, scope: &Scope<'_>, set: &Set) -> Result<BoundSet, R
     Ok(BoundSet { column, value })
 }
 
-/// Assignments with places for names.
-///
-/// # Errors
-///
-/// `UnknownName` of the first that stands for no column, and `NoMemory`.
+/// The assignments of an UPDATE.
 pub fn assignments(alloc: Global, scope: &Scope<'_>, sets: &[Set]) -> Result<BoundSetList, Refusal>
     ensures { IsMeant (map set_tree) result (meant.each (meant.assignment (scope_seen scope.now)) (map trees_of.set_tree sets.now)) }
 {
@@ -93,34 +100,19 @@ fn tuple(alloc: Global, scope: &Scope<'_>, values: &[Expr]) -> Result<ExprList, 
     each(alloc, values, |e| expression(alloc, scope, e))
 }
 
-// Tuples with places for names.
-fn tuples(alloc: Global, scope: &Scope<'_>, tuples: &[ExprList]) -> Result<TupleList, Refusal>
-    ensures { IsMeant (map trees) result (meant.each (meant.each (meant.expression (scope_seen scope.now))) (map trees tuples.now)) }
+/// The tuples of an INSERT, whose values name no columns.
+pub fn tuples(alloc: Global, tuples: &[ExprList]) -> Result<TupleList, Refusal>
+    ensures { IsMeant (map trees) result (meant.each (meant.each (meant.expression (record { relations = []; columns = [] }))) (map trees tuples.now)) }
 {
+    let scope = empty_scope(alloc);
     each(
         alloc,
         tuples,
-        |values| tuple(alloc, scope, values.as_slice()),
+        |values| tuple(alloc, &scope, values.as_slice()),
     )
 }
 
-/// The tuples of an INSERT, whose values name no columns.
-///
-/// # Errors
-///
-/// `UnknownName` of the first name, and `NoMemory`.
-pub fn values(alloc: Global, values: &[ExprList]) -> Result<TupleList, Refusal>
-    ensures { IsMeant (map trees) result (meant.each (meant.each (meant.expression (record { relations = []; columns = [] }))) (map trees values.now)) }
-{
-    let scope = empty_scope(alloc);
-    tuples(alloc, &scope, values)
-}
-
 /// The places of some columns in their relation.
-///
-/// # Errors
-///
-/// `UnknownName` of the first that stands for no column, and `NoMemory`.
 pub fn places(alloc: Global, scope: &Scope<'_>, names: &[Bytes]) -> Result<Places, Refusal>
     ensures { IsMeant (λ places. places) result (meant.each (meant.place_of (scope_seen scope.now)) names.now) }
 {
@@ -128,10 +120,6 @@ pub fn places(alloc: Global, scope: &Scope<'_>, names: &[Bytes]) -> Result<Place
 }
 
 /// The columns of a GROUP BY.
-///
-/// # Errors
-///
-/// `UnknownName` of the first that stands for no column, and `NoMemory`.
 pub fn group(alloc: Global, scope: &Scope<'_>, columns: &[Ref]) -> Result<ColumnAtList, Refusal>
     ensures { IsMeant (λ group. group) result (meant.each (meant.column_of (scope_seen scope.now)) columns.now) }
 {

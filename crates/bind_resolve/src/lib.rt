@@ -2,20 +2,16 @@
 //! is taken. Each name is looked up once, and all that is known of a statement behind this crate is what it gives.
 #![tactic(auto)]
 
-mod columns;
 mod expressions;
-mod items;
 mod names;
 mod queries;
 mod resolved;
 mod scope;
-mod short_list;
-mod sorted_names;
 mod statements;
-mod stepping;
 
+pub use expressions::each;
 pub use names::copied;
-pub use resolved::{Column, Joined, NamedItem, Resolved, ResolvedQuery, Scope};
-pub use short_list::ShortList;
+pub use resolved::{Joined, NamedItem, Resolved, ResolvedQuery};
+use resolved::{Column, Scope};
+pub use scope::place;
 pub use statements::resolve;
-pub use stepping::each;

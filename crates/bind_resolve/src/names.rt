@@ -1,8 +1,6 @@
 //! Names of objects, and names that are taken.
-ghost use Rattle.std.specs.Prelude.{◌≡◌, ◌⊎◌, ◌∷◌, [], ◌++◌, map, is_some, IfOk, OnOk};
+ghost use Rattle.std.specs.Prelude.{◌≡◌, ◌∷◌, [], ◌++◌, IfOk, OnOk};
 ghost use Rattle.std.specs.Str.{bytes_eq};
-ghost use Rattle.iv_types.specs.declared.refusal.Refusal.TheVariants as refusal;
-ghost use Rattle.iv_meaning.specs.Schema.{named};
 ghost use Rattle.iv_meaning.specs.Objects.{schema_of, object_of};
 ghost use Rattle.iv_meaning.specs.Resolving.{is_among};
 ghost use Rattle.iv_meaning.specs.Resolving as meant;
@@ -11,6 +9,10 @@ ghost use Rattle.bind_resolve.specs.Seen.{names_in, Alike};
 
 use iv_types::{Bytes, Catalog, Definition, NoMemory, Refusal};
 use std::alloc::Global;
+use std::collections::BTreeSet;
+
+/// Names that are taken, in the order of their bytes.
+pub type Names<'a> = BTreeSet<&'a [u8]>;
 
 /// A copy of a name.
 ///
@@ -30,31 +32,7 @@ pub fn same_name(name: &Bytes, other: &Bytes) -> bool
     name.as_slice() == other.as_slice()
 }
 
-/// The refusal of a name that stands for nothing.
-pub fn unknown(alloc: Global, name: &Bytes) -> Refusal
-    ensures { (result ≡ refusal.NoMemory) ⊎ (result ≡ refusal.UnknownName name.now) }
-{
-    match copied(alloc, name) {
-        Ok(name) => Refusal::UnknownName(name),
-        Err(_) => Refusal::NoMemory,
-    }
-}
-
-/// The refusal of a name that is taken.
-pub fn taken(alloc: Global, name: &Bytes) -> Refusal
-    ensures { (result ≡ refusal.NoMemory) ⊎ (result ≡ refusal.NameTaken name.now) }
-{
-    match copied(alloc, name) {
-        Ok(name) => Refusal::NameTaken(name),
-        Err(_) => Refusal::NoMemory,
-    }
-}
-
-/// The object of a name.
-///
-/// # Errors
-///
-/// `UnknownName` where there is none, and `NoMemory`.
+/// The object of a name, or the refusal of a name that has none.
 #[tactic(auto, using(crate::proofs::Objects::is_known, crate::proofs::Objects::is_unknown))]
 pub fn known<'a>(
     alloc: Global,
@@ -65,79 +43,47 @@ pub fn known<'a>(
 {
     match catalog.find(name.as_slice()) {
         Some(definition) => Ok(definition),
-        None => Err(unknown(alloc, name)),
+        None => Err(Refusal::UnknownName(copied(alloc, name)?)),
     }
 }
 
-// Whether there is an object of a name.
+/// The refusal of a new object's name, if there is an object of it.
 #[tactic(auto, using(crate::proofs::Objects::is_object))]
-fn is_object(catalog: &Catalog, name: &Bytes) -> bool
-    ensures { result ≡ is_some (named (schema_of catalog.now) name.now) }
-{
-    catalog.find(name.as_slice()).is_some()
-}
-
-/// Whether a name is free for a new object.
-///
-/// # Errors
-///
-/// `NameTaken` where there is an object of the name, and `NoMemory`.
 pub fn new_object(alloc: Global, catalog: &Catalog, name: &Bytes) -> Result<(), Refusal>
     ensures { IsMeant (λ free. name.now) result (meant.new_object (schema_of catalog.now) name.now) }
 {
-    if is_object(catalog, name) {
-        return Err(taken(alloc, name));
+    if catalog.find(name.as_slice()).is_some() {
+        return Err(Refusal::NameTaken(copied(alloc, name)?));
     }
     Ok(())
 }
 
 // Whether a name is one of some others.
-fn is_among(names: &[&Bytes], name: &Bytes) -> bool
-    ensures { result ≡ is_among (names_in names.now) name.now }
+fn is_among(names: &Names<'_>, name: &Bytes) -> bool
+    ensures { result ≡ is_among (names_in names.now.keys) name.now }
 {
-    for other in names {
-        if same_name(name, other) {
-            return true;
-        }
-    }
-    false
+    names.contains(name.as_slice())
 }
 
-/// A new name that stands behind some others, which it joins.
-///
-/// # Errors
-///
-/// `NameTaken` where it is one of them, and `NoMemory`.
-pub fn fresh_name<'a>(
-    alloc: Global,
-    others: &mut Vec<&'a Bytes>,
-    name: &'a Bytes,
-) -> Result<(), Refusal>
-    ensures free { IsMeant (λ free. free) result (meant.fresh (names_in others.old.items) (name.now ∷ [])) }
-    ensures joined { OnOk result (names_in others.new.items ≡ names_in others.old.items ++ name.now ∷ []) }
+/// A new name joins some others, or is refused where it is one of them.
+pub fn new_name<'a>(alloc: Global, others: &mut Names<'a>, name: &'a Bytes) -> Result<(), Refusal>
+    ensures free { IsMeant (λ free. free) result (meant.fresh (names_in others.old.keys) (name.now ∷ [])) }
+    ensures joined { OnOk result (Alike (names_in others.new.keys) (name.now ∷ names_in others.old.keys)) }
 {
     if is_among(others, name) {
-        return Err(taken(alloc, name));
+        return Err(Refusal::NameTaken(copied(alloc, name)?));
     }
-    others.push(name)?;
+    others.insert(name.as_slice())?;
     Ok(())
 }
 
-/// New names that stand behind some others, which they join.
-///
-/// # Errors
-///
-/// `NameTaken` of the first that is taken, and `NoMemory`.
-pub fn fresh<'a>(
-    alloc: Global,
-    others: &mut Vec<&'a Bytes>,
-    names: &[&'a Bytes],
-) -> Result<(), Refusal>
-    ensures free { IsMeant (λ free. free) result (meant.fresh (names_in others.old.items) (names_in names.now)) }
-    ensures joined { OnOk result (names_in others.new.items ≡ names_in others.old.items ++ names_in names.now) }
+/// New names join some others, or the first that is taken is refused.
+pub fn fresh<'a>(alloc: Global, others: &mut Names<'a>, names: &[&'a Bytes]) -> Result<(), Refusal>
+    ensures free { IsMeant (λ free. free) result (meant.fresh (names_in others.old.keys) (names_in names.now)) }
+    ensures joined { OnOk result (Alike (names_in others.new.keys) (names_in names.now ++ names_in others.old.keys)) }
 {
     for index in 0..names.len() {
-        fresh_name(alloc, others, names[index])?;
+        new_name(alloc, others, names[index])?;
     }
     Ok(())
 }

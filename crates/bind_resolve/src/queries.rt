@@ -1,35 +1,132 @@
 //! Queries with objects and places for names.
 #![tactic(auto, using(crate::proofs::Steps::stops, crate::proofs::Steps::goes_on))]
 
-ghost use Rattle.std.specs.Prelude.{◌≡◌, ◌∷◌, [], ◌++◌, map, OnOk};
-ghost use Rattle.iv_types.specs.Trees.{join_tree, query_tree};
-ghost use Rattle.iv_meaning.specs.Objects.{schema_of, object_of};
+ghost use Rattle.std.specs.Prelude.{◌≡◌, ◌∷◌, [], map, IfOk, OnOk};
+ghost use Rattle.std.specs.Option.{option_copied};
+ghost use Rattle.iv_types.specs.Trees.{tree, item_tree, join_tree, query_tree};
+ghost use Rattle.iv_meaning.specs.Objects.{schema_of};
+ghost use Rattle.iv_meaning.specs.Resolving.{item_name};
 ghost use Rattle.iv_meaning.specs.Resolving as meant;
 ghost use Rattle.bind_resolve.specs.Meant.{IsMeant};
-ghost use Rattle.bind_resolve.specs.Seen.{names_in, joined_seen, query_seen, scope_seen};
-ghost use Rattle.bind_resolve.specs.Walking.{next_join, query_by};
+ghost use Rattle.bind_resolve.specs.Seen.{Alike, names_in, item_seen, joined_seen, query_seen, scope_seen};
+ghost use Rattle.bind_resolve.specs.Walking.{next_items, next_join, query_by, Joins};
 
 use crate::expressions::{condition, expression, group};
-use crate::items::items;
-use crate::names::{fresh_name, known};
-use crate::scope::{called, scope_from};
-use crate::{Joined, ResolvedQuery, Scope};
-use iv_types::{Bytes, Catalog, Definition, Join, Query, Refusal, Relation, Sequence};
+use crate::names::{Names, fresh, known, new_name};
+use crate::scope::{called, column_of, scope_from};
+use crate::{Joined, NamedItem, ResolvedQuery, Scope};
+use iv_types::{
+    BoundItem, Bytes, Catalog, Expr, Item, Join, NoMemory, Query, Refusal, Relation, Sequence,
+};
 use std::alloc::Global;
 
-// The object of a relation, whose name joins those of the relations before it.
-fn source<'a>(
-    alloc: Global,
-    catalog: &'a Catalog,
-    others: &mut Vec<&'a Bytes>,
-    relation: &'a Relation,
-) -> Result<&'a Definition, Refusal>
-    ensures object { IsMeant (λ d. object_of d.now) result (meant.source (schema_of catalog.now) (names_in others.old.items) relation.now) }
-    ensures joined { OnOk result (names_in others.new.items ≡ names_in others.old.items ++ meant.called relation.now ∷ []) }
+// All columns of FROM.
+fn all_columns<'a>(alloc: Global, scope: &Scope<'a>) -> Result<Sequence<NamedItem<'a>>, NoMemory>
+    ensures { IfOk result (λ items. map item_seen items ≡ map meant.item_at (scope_seen scope.now).columns) }
 {
-    let object = known(alloc, catalog, &relation.name)?;
-    fresh_name(alloc, others, called(relation))?;
-    Ok(object)
+    let mut items = Sequence::new(alloc);
+    for column in scope.columns.as_slice() {
+        items.push(NamedItem {
+            item: BoundItem::Plain(Expr::At(column.place)),
+            name: Some(column.name),
+        })?;
+    }
+    Ok(items)
+}
+
+// The name of an item that is an expression: that of AS, or else that of its column.
+fn item_name<'a>(expression: &'a Expr, name: &'a Option<Bytes>) -> Option<&'a Bytes>
+    ensures { option_copied result ≡ item_name (tree expression.now) name.now }
+{
+    match (name, expression) {
+        (Some(name), _) => Some(name),
+        (None, Expr::Named(column)) => Some(&column.name),
+        _ => None,
+    }
+}
+
+fn one<'a>(
+    alloc: Global,
+    item: BoundItem,
+    name: Option<&'a Bytes>,
+) -> Result<Sequence<NamedItem<'a>>, NoMemory>
+    ensures { IfOk result (λ items. items ≡ (record { item = item; name = name.entry }) ∷ []) }
+{
+    let mut items = Sequence::new(alloc);
+    items.push(NamedItem { item, name })?;
+    Ok(items)
+}
+
+// What an item stands for.
+fn items_for<'a>(
+    alloc: Global,
+    scope: &Scope<'a>,
+    item: &'a Item,
+) -> Result<Sequence<NamedItem<'a>>, Refusal>
+    ensures { IsMeant (map item_seen) result (meant.items_for (scope_seen scope.now) (item_tree item.now)) }
+{
+    match item {
+        Item::All => Ok(all_columns(alloc, scope)?),
+        Item::Count(name) => Ok(one(alloc, BoundItem::Count, name.as_ref())?),
+        Item::Sum(column, name) => {
+            let place = column_of(alloc, scope, column)?;
+            Ok(one(alloc, BoundItem::Sum(place), name.as_ref())?)
+        }
+        Item::Plain(e, name) => {
+            let value = expression(alloc, scope, e)?;
+            Ok(one(alloc, BoundItem::Plain(value), item_name(e, name))?)
+        }
+    }
+}
+
+// The names of some items.
+fn names_of<'a>(alloc: Global, items: &[NamedItem<'a>]) -> Result<Sequence<&'a Bytes>, NoMemory>
+    ensures { IfOk result (λ names. names_in names ≡ meant.names_in (map item_seen items.now)) }
+{
+    let mut names = Sequence::new(alloc);
+    for item in items {
+        if let Some(name) = item.name {
+            names.push(name)?;
+        }
+    }
+    Ok(names)
+}
+
+// What an item stands for; its names join those of the items before it, which are others in a view.
+fn next_items<'a>(
+    alloc: Global,
+    view: bool,
+    scope: &Scope<'a>,
+    others: &mut Names<'a>,
+    item: &'a Item,
+) -> Result<Sequence<NamedItem<'a>>, Refusal>
+    ensures items { IsMeant (map item_seen) result (next_items view (scope_seen scope.now) (names_in others.old.keys) (item_tree item.now)) }
+    ensures joined { IfOk result (λ some. Joins view (meant.names_in (map item_seen some)) (names_in others.old.keys) (names_in others.new.keys)) }
+{
+    let some = items_for(alloc, scope, item)?;
+    if view {
+        let names = names_of(alloc, some.as_slice())?;
+        fresh(alloc, others, names.as_slice())?;
+    }
+    Ok(some)
+}
+
+// The items of a SELECT or of a view.
+fn items<'a>(
+    alloc: Global,
+    view: bool,
+    scope: &Scope<'a>,
+    items: &'a [Item],
+) -> Result<Sequence<NamedItem<'a>>, Refusal>
+    ensures { IsMeant (map item_seen) result (meant.items_resolved view (scope_seen scope.now) [] (map item_tree items.now)) }
+{
+    let mut found = Vec::new(alloc);
+    let mut others = Names::new(alloc);
+    for item in items {
+        let some = next_items(alloc, view, scope, &mut others, item)?;
+        found.append(&mut some.into_vec())?;
+    }
+    Ok(Sequence::from_vec(found))
 }
 
 // A further relation, whose name joins those before it.
@@ -37,30 +134,33 @@ fn joined<'a>(
     alloc: Global,
     catalog: &'a Catalog,
     scope: &Scope<'a>,
-    others: &mut Vec<&'a Bytes>,
+    others: &mut Names<'a>,
     join: &'a Join,
 ) -> Result<Joined<'a>, Refusal>
-    ensures join { IsMeant joined_seen result (next_join (schema_of catalog.now) (scope_seen scope.now) (names_in others.old.items) (join_tree join.now)) }
-    ensures joined { OnOk result (names_in others.new.items ≡ names_in others.old.items ++ meant.called join.now.relation ∷ []) }
+    ensures join { IsMeant joined_seen result (next_join (schema_of catalog.now) (scope_seen scope.now) (names_in others.old.keys) (join_tree join.now)) }
+    ensures joined { OnOk result (Alike (names_in others.new.keys) (meant.called join.now.relation ∷ names_in others.old.keys)) }
 {
-    let object = source(alloc, catalog, others, &join.relation)?;
+    let object = known(alloc, catalog, &join.relation.name)?;
+    new_name(alloc, others, called(&join.relation))?;
     let on = expression(alloc, scope, &join.on)?;
     Ok(Joined { object, on })
 }
 
-// The further relations, behind those of some names.
+// The relations behind the first.
 fn joins<'a>(
     alloc: Global,
     catalog: &'a Catalog,
     scope: &Scope<'a>,
-    others: &mut Vec<&'a Bytes>,
+    first: &'a Relation,
     joins: &'a [Join],
 ) -> Result<Sequence<Joined<'a>>, Refusal>
-    ensures { IsMeant (map joined_seen) result (meant.joins_resolved (schema_of catalog.now) (scope_seen scope.now) (names_in others.old.items) (map join_tree joins.now)) }
+    ensures { IsMeant (map joined_seen) result (meant.joins_resolved (schema_of catalog.now) (scope_seen scope.now) (meant.called first.now ∷ []) (map join_tree joins.now)) }
 {
     let mut found = Sequence::new(alloc);
+    let mut others = Names::new(alloc);
+    others.insert(called(first).as_slice())?;
     for join in joins {
-        found.push(joined(alloc, catalog, scope, others, join)?)?;
+        found.push(joined(alloc, catalog, scope, &mut others, join)?)?;
     }
     Ok(found)
 }
@@ -76,9 +176,8 @@ fn query_in<'a>(
     ensures { IsMeant query_seen result (query_by view (schema_of catalog.now) (scope_seen scope.now) (query_tree query.now)) }
 {
     let items = items(alloc, view, scope, query.items.as_slice())?;
-    let mut others = Vec::new(alloc);
-    let first = source(alloc, catalog, &mut others, &query.first)?;
-    let joins = joins(alloc, catalog, scope, &mut others, query.joins.as_slice())?;
+    let first = known(alloc, catalog, &query.first.name)?;
+    let joins = joins(alloc, catalog, scope, &query.first, query.joins.as_slice())?;
     let condition = condition(alloc, scope, &query.condition)?;
     let group = group(alloc, scope, query.group.as_slice())?;
     Ok(ResolvedQuery {
@@ -91,10 +190,6 @@ fn query_in<'a>(
 }
 
 /// A query, or that of a view, whose items have names of their own.
-///
-/// # Errors
-///
-/// `UnknownName` or `NameTaken` at the first place of the text, and `NoMemory`.
 pub fn query<'a>(
     alloc: Global,
     view: bool,

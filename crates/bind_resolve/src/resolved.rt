@@ -1,5 +1,4 @@
 //! What a statement sees, and what it is resolved to.
-use crate::ShortList;
 use iv_types::{
     BoundItem, BoundSetList, Bytes, ColumnAt, ColumnAtList, ColumnDef, Definition, Expr, Order,
     Places, Sequence, TupleList,
@@ -18,7 +17,7 @@ pub struct Column<'a> {
 #[derive(Drop)]
 pub struct Scope<'a> {
     /// What the statement calls them.
-    pub relations: ShortList<&'a Bytes>,
+    pub relations: Sequence<&'a Bytes>,
     pub columns: Sequence<Column<'a>>,
 }
 
@@ -40,7 +39,7 @@ pub struct Joined<'a> {
 #[derive(Drop)]
 pub struct ResolvedQuery<'a> {
     /// `*` stands for all columns of FROM.
-    pub items: ShortList<NamedItem<'a>>,
+    pub items: Sequence<NamedItem<'a>>,
     pub first: &'a Definition,
     pub joins: Sequence<Joined<'a>>,
     pub condition: Option<Expr>,

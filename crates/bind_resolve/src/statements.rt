@@ -2,37 +2,21 @@
 #![tactic(auto, using(crate::proofs::Steps::stops, crate::proofs::Steps::goes_on))]
 
 ghost use Rattle.std.specs.Prelude.{◌≡◌, [], map};
-ghost use Rattle.iv_types.specs.Trees.{trees, perhaps_tree, query_tree, statement_tree};
+ghost use Rattle.iv_types.specs.Trees.{perhaps_tree, statement_tree};
 ghost use Rattle.iv_types.specs.Syntax as syntax;
 ghost use Rattle.iv_types.specs.Trees as trees_of;
 ghost use Rattle.iv_meaning.specs.Objects.{schema_of};
 ghost use Rattle.iv_meaning.specs.Resolving as meant;
 ghost use Rattle.bind_resolve.specs.Meant.{IsMeant};
-ghost use Rattle.bind_resolve.specs.Seen.{names_in, resolved_seen};
+ghost use Rattle.bind_resolve.specs.Seen.{resolved_seen};
 
-use crate::expressions::{assignments, condition, places, values};
-use crate::names::{known, new_object};
+use crate::Resolved;
+use crate::expressions::{assignments, condition, places, tuples};
+use crate::names::{Names, fresh, known, new_object};
 use crate::queries::query;
-use crate::scope::{names_of, scope_of_object, scope_of_one};
-use crate::sorted_names::distinct;
-use crate::{Resolved, ShortList};
-use iv_types::{
-    Bytes, Catalog, ColumnDef, Expr, ExprList, Order, Places, Query, Refusal, Set, Statement,
-};
+use crate::scope::{add_relation, empty_scope, names_of, scope_of_object};
+use iv_types::{Bytes, Catalog, ColumnDef, Expr, Refusal, Set, Statement};
 use std::alloc::Global;
-
-// The columns of a primary key among the columns of these names, which are distinct.
-fn key_places(
-    alloc: Global,
-    table: &Bytes,
-    names: &ShortList<&Bytes>,
-    primary: &[Bytes],
-) -> Result<Places, Refusal>
-    ensures { IsMeant (λ places. places) result (meant.each (meant.place_of (meant.scope_of_one table.now (names_in names.now))) primary.now) }
-{
-    let scope = scope_of_one(alloc, table, names)?;
-    places(alloc, &scope, primary)
-}
 
 fn create_table<'a>(
     alloc: Global,
@@ -45,8 +29,10 @@ fn create_table<'a>(
 {
     new_object(alloc, catalog, name)?;
     let names = names_of(alloc, columns)?;
-    distinct(alloc, names.as_slice())?;
-    let primary = key_places(alloc, name, &names, primary)?;
+    fresh(alloc, &mut Names::new(alloc), names.as_slice())?;
+    let mut scope = empty_scope(alloc);
+    add_relation(&mut scope, name, names.as_slice())?;
+    let primary = places(alloc, &scope, primary)?;
     Ok(Resolved::Table {
         name,
         columns,
@@ -74,32 +60,6 @@ fn create_index<'a>(
     })
 }
 
-fn create_view<'a>(
-    alloc: Global,
-    catalog: &'a Catalog,
-    name: &'a Bytes,
-    statement: &'a Query,
-) -> Result<Resolved<'a>, Refusal>
-    ensures { IsMeant resolved_seen result (meant.resolved (schema_of catalog.now) (syntax.create_view name.now (query_tree statement.now))) }
-{
-    new_object(alloc, catalog, name)?;
-    let query = query(alloc, true, catalog, statement)?;
-    Ok(Resolved::View { name, query })
-}
-
-fn insert<'a>(
-    alloc: Global,
-    catalog: &'a Catalog,
-    table: &Bytes,
-    tuples: &[ExprList],
-) -> Result<Resolved<'a>, Refusal>
-    ensures { IsMeant resolved_seen result (meant.resolved (schema_of catalog.now) (syntax.insert table.now (map trees tuples.now))) }
-{
-    let target = known(alloc, catalog, table)?;
-    let tuples = values(alloc, tuples)?;
-    Ok(Resolved::Insert { target, tuples })
-}
-
 fn update<'a>(
     alloc: Global,
     catalog: &'a Catalog,
@@ -118,32 +78,6 @@ fn update<'a>(
         sets,
         condition,
     })
-}
-
-fn delete<'a>(
-    alloc: Global,
-    catalog: &'a Catalog,
-    table: &'a Bytes,
-    where_: &Option<Expr>,
-) -> Result<Resolved<'a>, Refusal>
-    ensures { IsMeant resolved_seen result (meant.resolved (schema_of catalog.now) (syntax.delete table.now (perhaps_tree where_.now))) }
-{
-    let target = known(alloc, catalog, table)?;
-    let scope = scope_of_object(alloc, table, target)?;
-    let condition = condition(alloc, &scope, where_)?;
-    Ok(Resolved::Delete { target, condition })
-}
-
-fn select<'a>(
-    alloc: Global,
-    catalog: &'a Catalog,
-    statement: &'a Query,
-    order: &'a [Order],
-) -> Result<Resolved<'a>, Refusal>
-    ensures { IsMeant resolved_seen result (meant.resolved (schema_of catalog.now) (syntax.select (query_tree statement.now) order.now)) }
-{
-    let query = query(alloc, false, catalog, statement)?;
-    Ok(Resolved::Select { query, order })
 }
 
 /// A statement with objects and places for names.
@@ -169,18 +103,41 @@ pub fn resolve<'a>(
             table,
             columns,
         } => create_index(alloc, catalog, name, table, columns.as_slice()),
-        Statement::CreateView { name, query } => create_view(alloc, catalog, name, query),
-        Statement::Insert { table, tuples } => insert(alloc, catalog, table, tuples.as_slice()),
+        Statement::CreateView { name, query: made } => {
+            new_object(alloc, catalog, name)?;
+            let query = query(alloc, true, catalog, made)?;
+            Ok(Resolved::View { name, query })
+        }
+        Statement::Insert {
+            table,
+            tuples: rows,
+        } => {
+            let target = known(alloc, catalog, table)?;
+            let tuples = tuples(alloc, rows.as_slice())?;
+            Ok(Resolved::Insert { target, tuples })
+        }
         Statement::Update {
             table,
             sets,
             condition,
         } => update(alloc, catalog, table, sets.as_slice(), condition),
-        Statement::Delete { table, condition } => delete(alloc, catalog, table, condition),
-        Statement::Select { query, order } => select(alloc, catalog, query, order.as_slice()),
-        Statement::Begin(_) => Ok(Resolved::Control),
-        Statement::Commit => Ok(Resolved::Control),
-        Statement::Rollback { .. } => Ok(Resolved::Control),
-        Statement::Savepoint { .. } => Ok(Resolved::Control),
+        Statement::Delete {
+            table,
+            condition: where_,
+        } => {
+            let target = known(alloc, catalog, table)?;
+            let scope = scope_of_object(alloc, table, target)?;
+            let condition = condition(alloc, &scope, where_)?;
+            Ok(Resolved::Delete { target, condition })
+        }
+        Statement::Select { query: read, order } => {
+            let query = query(alloc, false, catalog, read)?;
+            let order = order.as_slice();
+            Ok(Resolved::Select { query, order })
+        }
+        Statement::Begin(_)
+        | Statement::Commit
+        | Statement::Rollback { .. }
+        | Statement::Savepoint { .. } => Ok(Resolved::Control),
     }
 }

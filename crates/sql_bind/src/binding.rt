@@ -1,6 +1,4 @@
 //! Statements bound to what a database defines.
-#![tactic(auto, using(bind_resolve::proofs::Steps::stops, bind_resolve::proofs::Steps::goes_on))]
-
 ghost use Rattle.std.specs.Prelude.{◌≡◌, IfOk};
 ghost use Rattle.iv_types.specs.Printing.{statement_size};
 ghost use Rattle.iv_types.specs.Trees.{statement_tree};
@@ -10,12 +8,12 @@ ghost use Rattle.iv_meaning.specs.Binding as meant;
 ghost use Rattle.bind_resolve.specs.Meant.{IsMeant};
 ghost use Rattle.bind_resolve.specs.Seen.{resolved_seen};
 
-use crate::changes::{deletion, insertion, update};
-use crate::creating::{index, table, view};
-use crate::selecting::selection;
-use bind_check::check;
+use crate::creating::{index, selection, table, view};
+use bind_check::{check, number_of};
 use bind_resolve::{Resolved, resolve};
-use iv_types::{Bound, Catalog, NoMemory, Refusal, Statement};
+use iv_types::{
+    Bound, BoundDelete, BoundInsert, BoundUpdate, Catalog, NoMemory, Refusal, Statement,
+};
 use std::alloc::Global;
 
 // What a resolved statement is bound to.
@@ -34,13 +32,26 @@ fn bound_of(alloc: Global, catalog: &Catalog, statement: Resolved<'_>) -> Result
             columns,
         } => index(alloc, catalog, name, target, columns),
         Resolved::View { name, query } => view(alloc, catalog, name, query),
-        Resolved::Insert { target, tuples } => Ok(insertion(target, tuples)),
+        Resolved::Insert { target, tuples } => {
+            let table = number_of(target);
+            Ok(Bound::Insert(BoundInsert { table, tuples }))
+        }
         Resolved::Update {
             target,
             sets,
             condition,
-        } => Ok(update(target, sets, condition)),
-        Resolved::Delete { target, condition } => Ok(deletion(target, condition)),
+        } => {
+            let table = number_of(target);
+            Ok(Bound::Update(BoundUpdate {
+                table,
+                sets,
+                condition,
+            }))
+        }
+        Resolved::Delete { target, condition } => {
+            let table = number_of(target);
+            Ok(Bound::Delete(BoundDelete { table, condition }))
+        }
         Resolved::Select { query, order } => selection(alloc, query, order),
         Resolved::Control => Ok(Bound::Control),
     }
@@ -51,16 +62,17 @@ fn let_go(statement: Resolved<'_>) {
     let _ = statement;
 }
 
-// What a resolved statement is bound to, unless one of its tests fails.
-#[tactic(auto, using(crate::proofs::Checked::passes))]
-fn checked(
-    alloc: Global,
-    catalog: &Catalog,
-    statement: &Statement,
-    resolved: Resolved<'_>,
-) -> Result<Bound, Refusal>
-    ensures { IsMeant bound_tree result (meant.checked (schema_of catalog.now) (statement_size (statement_tree statement.now)) (resolved_seen resolved.entry)) }
+/// A statement with numbers for the names of objects and places for the names of columns.
+///
+/// # Errors
+///
+/// The first fault of the first pass that finds one: `UnknownName` or `NameTaken` at the first place in the text; `WrongType`;
+/// `WrongShape` of the least rule that fails; `Limit` of the least number; `NeedsIndex`. `NoMemory` where there is none.
+#[tactic(auto, using(bind_resolve::proofs::Steps::stops, bind_resolve::proofs::Steps::goes_on, crate::proofs::Checked::passes))]
+pub fn bind(alloc: Global, catalog: &Catalog, statement: &Statement) -> Result<Bound, Refusal>
+    ensures { IsMeant bound_tree result (meant.bind (schema_of catalog.now) (statement_tree statement.now)) }
 {
+    let resolved = resolve(alloc, catalog, statement)?;
     match check(alloc, catalog, statement, &resolved) {
         Ok(()) => Ok(bound_of(alloc, catalog, resolved)?),
         Err(refusal) => {
@@ -68,17 +80,4 @@ fn checked(
             Err(refusal)
         }
     }
-}
-
-/// A statement with numbers for the names of objects and places for the names of columns.
-///
-/// # Errors
-///
-/// The first fault of the first pass that finds one: `UnknownName` or `NameTaken` at the first place in the text; `WrongType`;
-/// `WrongShape` of the least rule that fails; `Limit` of the least number; `NeedsIndex`. `NoMemory` where there is none.
-pub fn bind(alloc: Global, catalog: &Catalog, statement: &Statement) -> Result<Bound, Refusal>
-    ensures { IsMeant bound_tree result (meant.bind (schema_of catalog.now) (statement_tree statement.now)) }
-{
-    let resolved = resolve(alloc, catalog, statement)?;
-    checked(alloc, catalog, statement, resolved)
 }

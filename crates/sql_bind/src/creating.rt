@@ -1,31 +1,30 @@
-//! What CREATE statements are bound to.
-ghost use Rattle.std.specs.Prelude.{◌≡◌, map, IfOk};
+//! What CREATE statements and queries are bound to.
+ghost use Rattle.std.specs.Prelude.{◌≡◌, map, IfOk, ◌++◌};
 ghost use Rattle.std.specs.List.{filter_map};
-ghost use Rattle.std.specs.Option.{option_map};
-ghost use Rattle.iv_types.specs.Trees.{perhaps_tree};
-ghost use Rattle.iv_meaning.specs.Binding.{second_kept, summed};
-ghost use Rattle.iv_meaning.specs.Bound.{bound_tree};
+ghost use Rattle.std.specs.Option.{option_map, option_to_list};
+ghost use Rattle.iv_types.specs.Trees.{perhaps_tree, trees};
+ghost use Rattle.iv_meaning.specs.Binding.{second_kept, summed, bound_query};
+ghost use Rattle.iv_meaning.specs.Bound.{bound_tree, item_tree, order_tree};
 ghost use Rattle.iv_meaning.specs.Objects.{object_of, schema_of, view_tree};
+ghost use Rattle.iv_meaning.specs.Shape.{object_number};
+ghost use Rattle.iv_meaning.specs.Types.{sources_of};
 ghost use Rattle.iv_meaning.specs.Binding as meant;
 ghost use Rattle.iv_meaning.specs.Resolving as resolved;
 ghost use Rattle.iv_meaning.specs.Schema as schema;
 ghost use Rattle.iv_meaning.specs.Tests as tests;
-ghost use Rattle.bind_resolve.specs.Seen.{item_seen, query_seen};
+ghost use Rattle.iv_meaning.specs.Statement as bound;
+ghost use Rattle.bind_resolve.specs.Seen.{item_seen, query_seen, joined_seen};
 
-use crate::copies::{copied_columns, copied_condition};
-use bind_check::{as_table, join_index, number_of, second_of};
-use bind_resolve::{NamedItem, ResolvedQuery, copied};
+use bind_check::{as_table, item_named, join_index, number_of, second_of};
+use bind_resolve::{Joined, NamedItem, ResolvedQuery, place};
 use iv_types::{
-    Bound, BoundItem, Bytes, Catalog, ColumnAtList, ColumnDef, Definition, IndexDef, NameList,
-    NoMemory, Places, Second, TableDef, ViewDef,
+    Bound, BoundItem, BoundItemList, BoundOrder, BoundOrderList, BoundSelect, Bytes, Catalog,
+    ColumnAtList, ColumnDef, Definition, Expr, ExprList, IndexDef, NameList, NoMemory, Order, Places,
+    Second, Sequence, TableDef, ViewDef, copied_columns,
 };
 use std::alloc::Global;
 
 /// What a CREATE TABLE is bound to.
-///
-/// # Errors
-///
-/// Where there is no memory for it.
 pub fn table(
     alloc: Global,
     catalog: &Catalog,
@@ -36,7 +35,7 @@ pub fn table(
     ensures { IfOk result (λ b. bound_tree b ≡ meant.bound_of (schema_of catalog.now) (resolved.table name.now columns.now primary)) }
 {
     let number = catalog.next_number();
-    let name = copied(alloc, name)?;
+    let name = name.copied(alloc)?;
     let columns = copied_columns(alloc, columns)?;
     Ok(Bound::Table(TableDef {
         number,
@@ -47,10 +46,6 @@ pub fn table(
 }
 
 /// What a CREATE INDEX is bound to.
-///
-/// # Errors
-///
-/// Where there is no memory for it.
 pub fn index(
     alloc: Global,
     catalog: &Catalog,
@@ -61,7 +56,7 @@ pub fn index(
     ensures { IfOk result (λ b. bound_tree b ≡ meant.bound_of (schema_of catalog.now) (resolved.index name.now (object_of target.now) columns)) }
 {
     let number = catalog.next_number();
-    let name = copied(alloc, name)?;
+    let name = name.copied(alloc)?;
     Ok(Bound::Index(IndexDef {
         number,
         name,
@@ -77,7 +72,7 @@ fn names_of(alloc: Global, items: &[NamedItem<'_>]) -> Result<NameList, NoMemory
     let mut names = NameList::new(alloc);
     for item in items {
         if let Some(name) = item.name {
-            names.push(copied(alloc, name)?)?;
+            names.push(name.copied(alloc)?)?;
         }
     }
     Ok(names)
@@ -116,7 +111,7 @@ fn kept_second(
     }))
 }
 
-// The view that a query of this first table makes.
+// The view that a query of this first table makes, without the condition and the columns of GROUP BY.
 fn made_view(
     alloc: Global,
     catalog: &Catalog,
@@ -124,40 +119,22 @@ fn made_view(
     first: &TableDef,
     query: &ResolvedQuery<'_>,
 ) -> Result<ViewDef, NoMemory>
-    ensures { IfOk result (λ view. schema.view (view_tree view) ≡ meant.made_view (schema_of catalog.now) name.now (query_seen query.now) first.now) }
+    ensures { IfOk result (λ made. schema.view (view_tree (record made { condition = query.now.condition; group = query.now.group })) ≡ meant.made_view (schema_of catalog.now) name.now (query_seen query.now) first.now) }
 {
     let items = query.items.as_slice();
     Ok(ViewDef {
         number: catalog.next_number(),
-        name: copied(alloc, name)?,
+        name: name.copied(alloc)?,
         names: names_of(alloc, items)?,
         first: first.number,
         second: kept_second(alloc, catalog, first, query)?,
-        condition: copied_condition(alloc, &query.condition)?,
-        group: ColumnAtList::from_vec(query.group.as_slice().to_vec(alloc)?),
+        condition: None,
+        group: ColumnAtList::new(alloc),
         sums: sums_of(alloc, items)?,
     })
 }
 
-fn view_of(
-    alloc: Global,
-    catalog: &Catalog,
-    name: &Bytes,
-    query: &ResolvedQuery<'_>,
-) -> Result<Bound, NoMemory>
-    ensures { IfOk result (λ b. bound_tree b ≡ meant.bound_of (schema_of catalog.now) (resolved.view name.now (query_seen query.now))) }
-{
-    match as_table(query.first) {
-        Some(first) => Ok(Bound::View(made_view(alloc, catalog, name, first, query)?)),
-        None => Ok(Bound::Control),
-    }
-}
-
-/// What a CREATE INDEXED VIEW is bound to. Its query is let go here alone, which is costly to prove.
-///
-/// # Errors
-///
-/// Where there is no memory for it.
+/// What a CREATE INDEXED VIEW is bound to.
 pub fn view(
     alloc: Global,
     catalog: &Catalog,
@@ -166,5 +143,129 @@ pub fn view(
 ) -> Result<Bound, NoMemory>
     ensures { IfOk result (λ b. bound_tree b ≡ meant.bound_of (schema_of catalog.now) (resolved.view name.now (query_seen query.entry))) }
 {
-    view_of(alloc, catalog, name, &query)
+    let Some(first) = as_table(query.first) else {
+        return Ok(Bound::Control);
+    };
+    let mut view = made_view(alloc, catalog, name, first, &query)?;
+    let ResolvedQuery {
+        condition,
+        group,
+        ..
+    } = query;
+    view.condition = condition;
+    view.group = group;
+    Ok(Bound::View(view))
+}
+
+// The numbers of the objects of FROM.
+fn relations_of(alloc: Global, query: &ResolvedQuery<'_>) -> Result<Places, NoMemory>
+    ensures { IfOk result (λ numbers. numbers ≡ map object_number (sources_of (query_seen query.now))) }
+{
+    let mut numbers = Places::new(alloc);
+    numbers.push(number_of(query.first))?;
+    for join in query.joins.as_slice() {
+        numbers.push(number_of(join.object))?;
+    }
+    Ok(numbers)
+}
+
+// The item by which a term of an ORDER BY sorts, and its direction.
+fn ordered(items: &[NamedItem<'_>], order: &Order) -> Result<Option<BoundOrder>, NoMemory>
+    ensures { IfOk result (λ by. option_map order_tree by ≡ tests.ordered (map item_seen items.now) order.now) }
+{
+    match item_named(items, &order.by) {
+        Some(item) => Ok(Some(BoundOrder {
+            item: place(item)?,
+            descending: order.descending,
+        })),
+        None => Ok(None),
+    }
+}
+
+// Those of an ORDER BY.
+fn order_of(
+    alloc: Global,
+    items: &[NamedItem<'_>],
+    order: &[Order],
+) -> Result<BoundOrderList, NoMemory>
+    ensures { IfOk result (λ found. map order_tree found ≡ filter_map (tests.ordered (map item_seen items.now)) order.now) }
+{
+    let mut found = BoundOrderList::new(alloc);
+    for term in order {
+        if let Some(by) = ordered(items, term)? {
+            found.push(by)?;
+        }
+    }
+    Ok(found)
+}
+
+fn on_of(join: Joined<'_>) -> Expr
+    ensures { result ≡ join.entry.on }
+{
+    let Joined { object: _, on } = join;
+    on
+}
+
+// The conditions of ON, and then that of WHERE.
+#[tactic(auto, using(crate::proofs::Parts::ons_alone, crate::proofs::Parts::ons_and))]
+fn conditions(
+    alloc: Global,
+    joins: Sequence<Joined<'_>>,
+    condition: Option<Expr>,
+) -> Result<ExprList, NoMemory>
+    ensures { IfOk result (λ found. trees found ≡ map (λ j. j.on) (map joined_seen joins.entry) ++ option_to_list (perhaps_tree condition)) }
+{
+    let joins = joins.into_vec().into_iter();
+    let mut found = ExprList::from_vec(joins.map(on_of).collect(alloc)?);
+    match condition {
+        Some(condition) => {
+            found.push(condition)?;
+            Ok(found)
+        }
+        None => Ok(found),
+    }
+}
+
+fn item_of(item: NamedItem<'_>) -> BoundItem
+    ensures { result ≡ item.entry.item }
+{
+    let NamedItem { item, name: _ } = item;
+    item
+}
+
+// The items without their names.
+#[tactic(auto, using(crate::proofs::Parts::items_are))]
+fn items_of(alloc: Global, items: Sequence<NamedItem<'_>>) -> Result<BoundItemList, NoMemory>
+    ensures { IfOk result (λ found. map item_tree found ≡ map (λ i. i.item) (map item_seen items.entry)) }
+{
+    let items = items.into_vec().into_iter();
+    Ok(BoundItemList::from_vec(items.map(item_of).collect(alloc)?))
+}
+
+/// What a SELECT is bound to.
+pub fn selection(
+    alloc: Global,
+    query: ResolvedQuery<'_>,
+    order: &[Order],
+) -> Result<Bound, NoMemory>
+    ensures { IfOk result (λ b. bound_tree b ≡ bound.select (bound_query (query_seen query.entry) order.now)) }
+{
+    let relations = relations_of(alloc, &query)?;
+    let order = order_of(alloc, query.items.as_slice(), order)?;
+    let ResolvedQuery {
+        items,
+        first: _,
+        joins,
+        condition,
+        group,
+    } = query;
+    let conditions = conditions(alloc, joins, condition)?;
+    let items = items_of(alloc, items)?;
+    Ok(Bound::Select(BoundSelect {
+        relations,
+        conditions,
+        items,
+        group,
+        order,
+    }))
 }

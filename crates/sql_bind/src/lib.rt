@@ -2,10 +2,6 @@
 #![tactic(auto)]
 
 mod binding;
-mod changes;
-mod copies;
 mod creating;
-mod selecting;
 
 pub use binding::bind;
-pub use copies::{copied_columns, copied_condition};

@@ -1,13 +1,14 @@
-use Rattle.std.proofs.Common.{◌∙◌, subst, sym}
+use Rattle.std.proofs.Common.{subst, sym, map}
 use Rattle.iv_types.specs.Printing.{statement_size}
-use Rattle.iv_types.specs.Trees.{perhaps_tree, statement_tree}
+use Rattle.iv_types.specs.Trees.{perhaps_tree, statement_tree, trees}
+use Rattle.iv_meaning.specs.Bound.{set_tree}
 use Rattle.iv_meaning.specs.Objects.{object_of, schema_of}
 use Rattle.iv_meaning.specs.Resolving as meant
 use Rattle.iv_meaning.specs.Binding.{passed}
 use Rattle.bind_resolve.specs.Meant.{IsMeant}
 use Rattle.bind_resolve.specs.Seen.{query_seen, resolved_seen}
 use Rattle.bind_check.specs.Checked.{every_test}
-use Rattle.bind_check.proofs.TestLemmas.{insert_read, select_is, update_read, view_is}
+use Rattle.bind_check.proofs.TestLemmas.{select_is, view_is}
 use Rattle.bind_check.proofs.checking.check.Goals as goal
 
 pub returns-in-Table : goal.returns-in-Table
@@ -27,19 +28,17 @@ returns-in-View c =
     subst (λ r. IsMeant (λ u. u) c.check_view.result (passed (every_test (schema_of c.args.catalog.now) (statement_size (statement_tree c.args.statement.now)) (resolved_seen r)))) (sym c.in-View.is)
     (subst (IsMeant (λ u. u) c.check_view.result) (view_is (schema_of c.args.catalog.now) (statement_size (statement_tree c.args.statement.now)) c.in-View.name.now (query_seen c.in-View.query)) c.check_view.ensures)
 
-pub returns-in_ok-kinds-in-Insert : goal.returns-in_ok-kinds-in-Insert
-returns-in_ok-kinds-in-Insert c =
+pub returns-in-Insert : goal.returns-in-Insert
+returns-in-Insert c =
     subst (λ r. IsMeant (λ u. u) c.check_insert.result (passed (every_test (schema_of c.args.catalog.now) (statement_size (statement_tree c.args.statement.now)) (resolved_seen r)))) (sym c.in-Insert.is)
-    (subst (λ tests. IsMeant (λ u. u) c.check_insert.result (passed tests))
-    (insert_read (schema_of c.args.catalog.now) (statement_size (statement_tree c.args.statement.now)) (object_of c.in-Insert.target.now) _ _ _ (c.as_slice-in-Insert.ensures ∙ c.in_ok-kinds-in-Insert.ensures) c.as_slice-in-Insert-2.ensures)
-    c.check_insert.ensures)
+    (subst (λ tuples. IsMeant (λ u. u) c.check_insert.result (passed (every_test (schema_of c.args.catalog.now) 0 (meant.insert (object_of c.in-Insert.target.now) (map trees tuples)))))
+    c.as_slice-in-Insert.ensures c.check_insert.ensures)
 
-pub returns-in_ok-kinds-in-Update : goal.returns-in_ok-kinds-in-Update
-returns-in_ok-kinds-in-Update c =
+pub returns-in-Update : goal.returns-in-Update
+returns-in-Update c =
     subst (λ r. IsMeant (λ u. u) c.check_update.result (passed (every_test (schema_of c.args.catalog.now) (statement_size (statement_tree c.args.statement.now)) (resolved_seen r)))) (sym c.in-Update.is)
-    (subst (λ tests. IsMeant (λ u. u) c.check_update.result (passed tests))
-    (update_read (schema_of c.args.catalog.now) (statement_size (statement_tree c.args.statement.now)) (object_of c.in-Update.target.now) _ _ _ (perhaps_tree c.in-Update.condition) (c.as_slice-in-Update.ensures ∙ c.in_ok-kinds-in-Update.ensures) c.as_slice-in-Update-2.ensures)
-    c.check_update.ensures)
+    (subst (λ sets. IsMeant (λ u. u) c.check_update.result (passed (every_test (schema_of c.args.catalog.now) 0 (meant.update (object_of c.in-Update.target.now) (map set_tree sets) (perhaps_tree c.in-Update.condition)))))
+    c.as_slice-in-Update.ensures c.check_update.ensures)
 
 pub returns-in-Select : goal.returns-in-Select
 returns-in-Select c =
