@@ -7,7 +7,7 @@ use Rattle.table_laws.proofs.Stored.{by_session}
 use Rattle.escrow_bounds.specs.Column.{Column, part, with_part}
 use Rattle.escrow_bounds.proofs.KeepLemmas.{part-reserved, room_with_part}
 use Rattle.ghost_rows.specs.Rows.{EachColumn, Widens}
-use Rattle.ghost_rows.proofs.Steps.{set_here, set_elsewhere}
+use Rattle.table_laws.proofs.SetPlaces.{set_here, set_elsewhere}
 
 -- one more prefix that was answered
 pub prefixes_more : (columns : List Column) (before : List Prefix) (i s : ℕ) (c : Column) (p : Prefix) → slice_get columns i ≡ Some c → i < length before → p ≡ part c s

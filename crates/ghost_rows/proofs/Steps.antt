@@ -9,24 +9,7 @@ use Rattle.std.specs.List.{AllByRecursion}
 use mathlib.Core.Logic.{inl, inr}
 use Rattle.table_laws.proofs.Tables.{by_bool}
 use Rattle.table_laws.proofs.Stored.{by_session}
-
-pub set_here : {X : Type 0} (xs : List X) (i : ℕ) (v : X) → i < length xs → slice_get (slice_set xs i v) i ≡ Some v
-set_here [] i v h = absurd (omega (arith, h))
-set_here (x ∷ xs) zero v h = refl
-set_here (x ∷ xs) (suc i) v h = set_here xs i v (omega (arith, h))
-
-pub set_elsewhere : {X : Type 0} (xs : List X) (i j : ℕ) (v : X) → j ≢ i → slice_get (slice_set xs i v) j ≡ slice_get xs j
-set_elsewhere [] i j v n = refl
-set_elsewhere (x ∷ xs) zero zero v n = absurd (n refl)
-set_elsewhere (x ∷ xs) zero (suc j) v n = refl
-set_elsewhere (x ∷ xs) (suc i) zero v n = refl
-set_elsewhere (x ∷ xs) (suc i) (suc j) v n = set_elsewhere xs i j v (λ e. n (ap suc e))
-
-pub set_length : {X : Type 0} (xs : List X) (i : ℕ) (v : X) → length (slice_set xs i v) ≡ length xs
-set_length [] i v = refl
-set_length (x ∷ xs) zero v = refl
-set_length (x ∷ xs) (suc i) v = ap suc (set_length xs i v)
-
+use Rattle.table_laws.proofs.SetPlaces.{set_here, set_elsewhere, set_length}
 -- the item that was read at a place
 pub read_here : {X : Type 0} (xs : List X) (i : ℕ) (x : X) → i < length xs → x ≡ get_or xs i x → slice_get xs i ≡ Some x
 read_here xs i x h e = slice_get-get_or xs i x h ∙ ap Some (sym e)

@@ -15,13 +15,6 @@ use crate::table::Table;
 use iv_types::{Bytes, GroupDelta, NoMemory, SortedMaps};
 use std::alloc::Global;
 
-// The same bytes again.
-fn copy_of(alloc: Global, bytes: &Bytes) -> Result<Bytes, NoMemory>
-    ensures { IfOk result (λ copy. copy ≡ bytes.now) }
-{
-    Ok(Bytes::from_vec(Vec::from_slice(alloc, bytes.as_slice())?))
-}
-
 // So many zeros.
 pub fn zeros(alloc: Global, many: usize) -> Result<Vec<i128>, NoMemory>
     ensures { IfOk result (λ found. found.items ≡ replicate many (pos 0)) }
@@ -77,7 +70,7 @@ fn open<M: SortedMaps>(
 {
     let numbers = numbers_at(alloc, maps, delta)?;
     let row = opened(alloc, &numbers, session)?;
-    let group = copy_of(alloc, &delta.group)?;
+    let group = delta.group.copied(alloc)?;
     rows.insert(delta.view, group, row)?;
     Ok(())
 }

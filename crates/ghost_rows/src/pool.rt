@@ -1,15 +1,10 @@
 //! Buffers for values of stored rows, made ahead.
 ghost use Rattle.std.specs.Prelude.{◌≡◌, ◌+◌, ◌≤◌, [], length, IfOk, OnOk, OnErr, vec_capacity};
+ghost use Rattle.iv_types.specs.declared.limit.TheConstants.{SEATS, VIEW_ROW_BYTES};
 
-use iv_types::NoMemory;
+use iv_types::{NoMemory, SEATS, VIEW_ROW_BYTES};
 use std::alloc::Global;
 use std::marker::Model;
-
-/// The most bytes of a stored row: a count and eight sums of 16 bytes each.
-pub const MOST_BYTES: usize = 144;
-
-// The sessions are 1 to 64.
-const POOLS: usize = 65;
 
 /// Empty buffers, each with room for a stored row. Contracts see how many there are.
 #[derive(Drop)]
@@ -48,7 +43,7 @@ impl Pool {
         ensures ok { OnOk result (self.new ≡ self.old + 1) }
         ensures err { OnErr result (self.new ≡ self.old) }
     {
-        let buffer = Vec::with_capacity(alloc, MOST_BYTES)?;
+        let buffer = Vec::with_capacity(alloc, VIEW_ROW_BYTES)?;
         self.buffers.push(buffer)?;
         Ok(())
     }
@@ -58,7 +53,7 @@ impl Pool {
         requires { 1 ≤ self.old }
         ensures left { self.new + 1 ≡ self.old }
         ensures empty { result.items ≡ [] }
-        ensures room { 144 ≤ vec_capacity result }
+        ensures room { VIEW_ROW_BYTES ≤ vec_capacity result }
     {
         self.buffers.pop().unwrap()
     }
@@ -70,10 +65,10 @@ impl Pool {
 ///
 /// Where there is no memory for it.
 pub fn no_buffers(alloc: Global) -> Result<Vec<Pool>, NoMemory>
-    ensures { IfOk result (λ pools. length pools.items ≡ 65) }
+    ensures { IfOk result (λ pools. length pools.items ≡ SEATS) }
 {
     let mut pools = Vec::new(alloc);
-    for _index in 0..POOLS {
+    for _index in 0..SEATS {
         pools.push(Pool::new(alloc))?;
     }
     Ok(pools)

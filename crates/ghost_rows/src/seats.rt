@@ -1,14 +1,12 @@
 //! The places at which a session has room in rows.
 ghost use Rattle.std.specs.Prelude.{◌≡◌, ◌++◌, [], ◌∷◌, length, None, IfOk, OnOk, OnErr};
 ghost use Rattle.std.specs.Option.{option_to_list};
+ghost use Rattle.iv_types.specs.declared.limit.TheConstants.{SEATS};
 
-use iv_types::{Bytes, NoMemory};
+use iv_types::{Bytes, NoMemory, SEATS};
 use spare_map::Spare;
 use std::alloc::Global;
 use std::marker::Model;
-
-// The sessions are 1 to 64.
-const LISTS: usize = 65;
 
 /// A place, a view's number and an encoded group, with what it takes to put it among the candidates.
 #[derive(Drop)]
@@ -94,10 +92,10 @@ impl SeatList {
 ///
 /// Where there is no memory for it.
 pub fn no_seats(alloc: Global) -> Result<Vec<SeatList>, NoMemory>
-    ensures { IfOk result (λ lists. length lists.items ≡ 65) }
+    ensures { IfOk result (λ lists. length lists.items ≡ SEATS) }
 {
     let mut lists = Vec::new(alloc);
-    for _index in 0..LISTS {
+    for _index in 0..SEATS {
         lists.push(SeatList::new(alloc))?;
     }
     Ok(lists)

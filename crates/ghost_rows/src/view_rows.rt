@@ -3,6 +3,7 @@ ghost use Rattle.std.specs.Int.{w128};
 ghost use Rattle.std.specs.Prelude.{FitsSigned, get_or, suc, ◌≡◌, ◌≢◌, ◌<◌, ◌≤◌, ◌+◌, ◌*◌, ◌↔◌, ℕ, ℤ, pos, List, [], ◌∷◌, length, Option, false, true, Some, None, Ok, Err, IsSome, IsTrue, IfOk, IfErr, IfSome, OnOk, OnErr, vec_len, vec_capacity};
 ghost use Rattle.std.specs.Option.{option_copied};
 ghost use Rattle.iv_types.specs.Maps.{Map};
+ghost use Rattle.iv_types.specs.declared.limit.TheConstants.{VIEW_ROW_BYTES};
 ghost use Rattle.iv_meaning.specs.Escrow.{IsSession};
 ghost use Rattle.std.specs.FinMap as map;
 ghost use Rattle.table_laws.specs.Place.{Place};
@@ -40,7 +41,7 @@ pub enum PayRefusal {
 // The value of a stored row with a delta added to it, or taken back, in a buffer that was made for it.
 fn moved_value<M: SortedMaps>(maps: &M, buffer: Vec<u8>, delta: &GroupDelta, back: bool) -> Bytes
     requires empty { buffer.items ≡ [] }
-    requires room { 144 ≤ vec_capacity buffer }
+    requires room { VIEW_ROW_BYTES ≤ vec_capacity buffer }
     requires delta { IsDelta delta.now }
     requires stored { (numbers : List ℤ) × (stored_at (M.maps maps.now) (place_of delta.now) ≡ Some (numbers_bytes numbers)) × (length numbers ≡ width delta.now) }
     ensures { (numbers : List ℤ) → stored_at (M.maps maps.now) (place_of delta.now) ≡ Some (numbers_bytes numbers)
@@ -59,7 +60,7 @@ fn moved_value<M: SortedMaps>(maps: &M, buffer: Vec<u8>, delta: &GroupDelta, bac
 // Stores the numbers of a row with a delta added to them, or taken back.
 fn store_moved<M: SortedMaps>(maps: &mut M, buffer: Vec<u8>, delta: &GroupDelta, back: bool)
     requires empty { buffer.items ≡ [] }
-    requires room { 144 ≤ vec_capacity buffer }
+    requires room { VIEW_ROW_BYTES ≤ vec_capacity buffer }
     requires delta { IsDelta delta.now }
     requires stored { (numbers : List ℤ) × (stored_at (M.maps maps.old) (place_of delta.now) ≡ Some (numbers_bytes numbers)) × (length numbers ≡ width delta.now)
         × Fits128 numbers × Fits128 (moved back 0 numbers delta.now) }
@@ -89,6 +90,7 @@ pub struct ViewRows {
 
 impl Model for ViewRows {
     ghost use Rattle.std.specs.Prelude.{◌≡◌, length};
+    ghost use Rattle.iv_types.specs.declared.limit.TheConstants.{SEATS};
     ghost use Rattle.ghost_rows.specs.Rows.{AreOpen, AreSeated};
     ghost use Rattle.ghost_rows.specs.State.{State, coded_state};
 
@@ -98,7 +100,7 @@ impl Model for ViewRows {
 
     ghost view = { λ v. record { rows = v.rows; rooms = v.pools.items; candidates = v.candidates } };
 
-    ghost invariant = { λ v. (length v.pools.items ≡ 65) × (length v.seats.items ≡ 65) × AreOpen v.rows × AreSeated v.rows v.seats.items };
+    ghost invariant = { λ v. (length v.pools.items ≡ SEATS) × (length v.seats.items ≡ SEATS) × AreOpen v.rows × AreSeated v.rows v.seats.items };
 }
 
 impl ViewRows {

@@ -2,7 +2,8 @@ use Rattle.std.proofs.Common.{◌<◌, ◌≡◌, length, get_or, arith, ◌∙�
 use Rattle.std.proofs.lemmas.Option.{slice_get-get_or}
 use Rattle.txn_machine.specs.Deltas.{worth}
 use Rattle.escrow_bounds.specs.Column.{added, part}
-use Rattle.ghost_rows.proofs.Steps.{halfway_here, halfway_more, halfway_last, each_last, set_length}
+use Rattle.table_laws.proofs.SetPlaces.{set_length}
+use Rattle.ghost_rows.proofs.Steps.{halfway_here, halfway_more, halfway_last, each_last}
 use Rattle.ghost_rows.proofs.RowSteps.{prefixes_more}
 use Rattle.ghost_rows.proofs.row.add_all.Goals as goal
 

@@ -6,7 +6,7 @@ use Rattle.table_laws.specs.Place.{Place}
 use Rattle.ghost_rows.specs.Rows.{OpenRows, IsSeated, AreSettled, settled_at, row_at}
 use Rattle.ghost_rows.specs.Candidates.{Places}
 use Rattle.ghost_rows.specs.State.{State, stored_at}
-use Rattle.ghost_rows.proofs.Steps.{set_length}
+use Rattle.table_laws.proofs.SetPlaces.{set_length}
 use Rattle.ghost_rows.proofs.SeatLemmas.{settled_all, settled_open, settled_seated}
 use Rattle.ghost_rows.proofs.StateLemmas.{settled_state}
 use Rattle.ghost_rows.proofs.ListedLemmas.{settled_listed}

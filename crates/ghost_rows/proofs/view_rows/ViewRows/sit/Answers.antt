@@ -7,7 +7,8 @@ use Rattle.txn_machine.specs.Deltas.{place_of}
 use Rattle.ghost_rows.specs.Rows.{AreSeated, IsSeated, OpenRows, row_at}
 use Rattle.ghost_rows.specs.Kept.{StandsFor, width}
 use Rattle.ghost_rows.specs.State.{State, stored_at}
-use Rattle.ghost_rows.proofs.Steps.{read_here, set_same, set_length}
+use Rattle.table_laws.proofs.SetPlaces.{set_length}
+use Rattle.ghost_rows.proofs.Steps.{read_here, set_same}
 use Rattle.ghost_rows.proofs.SeatLemmas.{seated_given}
 use Rattle.ghost_rows.proofs.StateLemmas.{seated_is, seat_of}
 use Rattle.ghost_rows.proofs.ListedLemmas.{given_listed}

@@ -2,7 +2,7 @@ use Rattle.std.proofs.Common.{◌≡◌, length, ap, subst, ◌∙◌}
 use Rattle.iv_types.specs.declared.lock.GroupDelta.{GroupDelta}
 use Rattle.txn_machine.specs.Deltas.{place_of}
 use Rattle.ghost_rows.specs.Rows.{OpenRows, row_at, AreOpen, AreSeated}
-use Rattle.ghost_rows.proofs.Steps.{set_length}
+use Rattle.table_laws.proofs.SetPlaces.{set_length}
 use Rattle.ghost_rows.proofs.SeatLemmas.{still_open, still_seated}
 use Rattle.ghost_rows.proofs.ListedLemmas.{moved_listed}
 use Rattle.ghost_rows.specs.Kept.{width}
