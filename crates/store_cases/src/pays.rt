@@ -11,7 +11,8 @@
 //! `make` stores a row of zeros where none is stored and answers `made`. `committed` answers the committed count and the committed
 //! sum, or `nothing`. `candidates` answers the first candidate at the row's place, and the first one behind it. `add` adds
 //! a candidate there and answers `done`, `drop` drops it unless the row is a ghost and answers whether it is. `removed`
-//! answers the candidates where the row is made in maps of its own, and then those where it is removed again.
+//! answers the candidates where the row is made in maps of its own, and then those where it is removed again. `walk` answers
+//! candidates at four places, which are added in another order and one of them twice.
 //!
 //! For each row all calls of its table are made again from the first on: what a proof knows of the kept pays behind a
 //! call is not kept from one row to the next.
@@ -23,7 +24,7 @@ ghost use Rattle.ghost_rows.specs.Kept.{Pays, width, IsDelta};
 ghost use Rattle.ghost_rows.specs.State.{AreKept, room_of};
 
 use crate::ghost_steps::{
-    add, drop_unless_ghost, make, write_candidates, write_committed, write_removed,
+    add, drop_unless_ghost, make, write_candidates, write_committed, write_removed, write_walk,
 };
 use crate::numbers::{number_of, write_number, write_numbers};
 use crate::pay_steps::{delta, is_cleanable, is_ghost, pay, read, with_row, without_row};
@@ -286,6 +287,7 @@ fn look(
         "committed" => write_committed(out, rows, maps),
         "candidates" => write_candidates(out, rows),
         "removed" => write_removed(alloc, out),
+        "walk" => write_walk(alloc, out),
         _ => bail!("no such call"),
     }
 }

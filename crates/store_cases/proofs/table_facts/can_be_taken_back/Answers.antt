@@ -1,7 +1,7 @@
-use Rattle.std.proofs.Common.{◌≡◌, ◌+◌, ◌≤◌, ℕ, List, IfSome, None, rules, arith, sym, ap, subst, ◌∙◌}
+use Rattle.std.proofs.Common.{◌≡◌, None, rules, arith, ap, subst}
 use Rattle.std.specs.FinMap.{get}
 use Rattle.table_store.specs.Lists.{map_at, spare_at}
-use Rattle.table_store.specs.Stored.{StandsUnder, stored}
+use Rattle.table_store.specs.Stored.{stored}
 use Rattle.table_store.specs.Changes.{CanHoldEach, IsKept, HasRoom, how_many}
 use Rattle.table_store.proofs.Changing.{found_there, places_for}
 use Rattle.store_cases.proofs.table_facts.can_be_taken_back.Goals as goal

@@ -1,7 +1,7 @@
-use Rattle.std.proofs.Common.{◌≡◌, ◌≢◌, ℕ, List, IfSome, rules, sym, ap, subst, ◌∙◌}
+use Rattle.std.proofs.Common.{◌≡◌, ◌≢◌, rules, subst, ◌∙◌}
 use Rattle.std.specs.FinMap.{get}
 use Rattle.table_store.specs.Lists.{map_at}
-use Rattle.table_store.specs.Stored.{StandsUnder, stored}
+use Rattle.table_store.specs.Stored.{stored}
 use Rattle.table_store.specs.Changes.{CanHoldEach, made_by}
 use Rattle.table_store.proofs.Changing.{found_there}
 use Rattle.store_cases.proofs.table_facts.is_change.Goals as goal
