@@ -16,3 +16,4 @@ pub mod Exchanges
 pub mod Changing
 pub mod Readying
 pub mod Held
+pub mod Filled

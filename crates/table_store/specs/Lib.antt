@@ -3,3 +3,4 @@ pub mod Stored
 pub mod Entries
 pub mod Changes
 pub mod Readying
+pub mod Filling

@@ -3,6 +3,7 @@
 
 mod entry_list;
 mod exchange;
+mod filling;
 mod keys;
 mod list_maps;
 mod row_entries;

@@ -1,5 +1,5 @@
 //! Tables over sorted maps.
-ghost use Rattle.std.specs.Prelude.{◌≡◌, ℕ, ◌+◌, ◌-◌, ◌^◌, ◌<◌, ◌≤◌, min, length, List, Some, ⊤, IfOk, IfSome, OnOk, OnErr};
+ghost use Rattle.std.specs.Prelude.{◌≡◌, ◌≢◌, ℕ, ◌+◌, ◌-◌, ◌^◌, ◌<◌, ◌≤◌, min, length, List, Some, ⊤, IfOk, IfSome, OnOk, OnErr};
 ghost use Rattle.std.specs.FinMap as map;
 ghost use Rattle.std.specs.Borrow.{Lends, sem};
 ghost use Rattle.iv_types.specs.Encoding.{kinds_of, row_bytes};
@@ -9,11 +9,13 @@ ghost use Rattle.iv_types.specs.declared.value.Value.{Value};
 ghost use Rattle.iv_types.specs.declared.catalog.TableDef.{TableDef};
 ghost use Rattle.iv_meaning.specs.Database.{Database, Rows};
 ghost use Rattle.iv_meaning.specs.View as view;
-ghost use Rattle.table_store.specs.Stored.{stored, StandsUnder, HoldsTable, HoldsRead, CanRead, IsEntryOf, AreEntries, Follow, AreRows, noted_row, noted_entries, noted_rows, listed_table, Decode, between, before, IsTableAnd, OfTable};
+ghost use Rattle.table_store.specs.Stored.{stored, StandsUnder, HoldsTable, HoldsIndex, HoldsRead, CanRead, IsEntryOf, AreEntries, Follow, AreRows, noted_row, noted_entries, noted_rows, listed_table, Decode, between, before, IsTableAnd, OfTable};
 ghost use Rattle.table_store.specs.Changes.{Sets, SetsRow, IsChange, IsKept, KeepsRoom, TakesRoom, CanTakeBack, sizes};
+ghost use Rattle.table_store.specs.Filling.{AreIndexEntries, CanFill};
 ghost use Rattle.table_store.specs.Readying.{RowsFit, HasPlaces, IsReady};
 
 use crate::exchange::{exchange, make_room};
+use crate::filling::{index_entries, put_all};
 use crate::keys::primary_part;
 use crate::row_entries::own_entries;
 use crate::stored::{copies_of, row_of, table_of};
@@ -385,6 +387,36 @@ impl<M: SortedMaps> Tables<M> {
         catalog.number_law();
         let Kept { gone, made, .. } = kept;
         exchange(&mut self.maps, made.as_slice(), gone);
+    }
+
+    /// The entries that a new index has for the rows of its table, in the order of the rows' keys. They are put in by `fill`.
+    ///
+    /// # Errors
+    ///
+    /// Where there is no memory for them.
+    pub fn index_entries(
+        &self,
+        table: &TableDef,
+        index: &IndexDef,
+    ) -> Result<IndexEntryList, NoMemory>
+        requires { AreRows table.now (M.maps self.now table.now.number) }
+        ensures { IfOk result (AreIndexEntries table.now index.now (M.maps self.now table.now.number)) }
+    {
+        index_entries(self.alloc, &self.maps, table, index)
+    }
+
+    /// Fills a new index with the entries of the rows of its table, into room that was made. Takes no memory.
+    pub fn fill(&mut self, index: &IndexDef, entries: IndexEntryList)
+        requires { (t : TableDef) × CanFill index.now (M.maps self.old) (M.spare self.old index.now.number) (M.limit self.old) entries t }
+        ensures index { (t : TableDef) (rows : Rows) → AreIndexEntries t index.now (M.maps self.old t.number) entries → HoldsTable rows t (M.maps self.old t.number) → HoldsIndex rows t index.now (M.maps self.new index.now.number) }
+        ensures others { (n : ℕ) → n ≢ index.now.number → M.maps self.new n ≡ M.maps self.old n }
+        ensures room { M.spare self.old index.now.number ≤ M.spare self.new index.now.number + length entries }
+        ensures other_rooms { (n : ℕ) → n ≢ index.now.number → M.spare self.old n ≤ M.spare self.new n }
+        ensures limit { M.limit self.new ≡ M.limit self.old }
+    {
+        row_law();
+        key_law();
+        put_all(&mut self.maps, index.number, entries);
     }
 
     /// What all entries of the maps count, each the bytes of its key and of its value, and 8. A sum that does not fit stands
