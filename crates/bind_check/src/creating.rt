@@ -22,7 +22,7 @@ use crate::objects::{
     ObjectKind, as_table, count_of, have_many_readers, is_a, kinds_seen, primary_of,
 };
 use crate::shape::repeats;
-use bind_resolve::{NamedItem, ResolvedQuery, copied};
+use bind_resolve::{NamedItem, ResolvedQuery};
 use iv_types::{
     BoundItem, Catalog, ColumnAt, ColumnDef, Definition, Kind, KindList, Limit, NoMemory, Refusal,
     ShapeRule, Statement,
@@ -226,5 +226,5 @@ pub fn check_join(
     if join_index(catalog, first, columns.as_slice()).is_some() {
         return Ok(());
     }
-    Err(Refusal::NeedsIndex(copied(alloc, &first.name)?))
+    Err(Refusal::NeedsIndex(first.name.copied(alloc)?))
 }

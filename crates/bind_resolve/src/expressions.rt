@@ -12,7 +12,6 @@ ghost use Rattle.bind_resolve.specs.Meant.{IsMeant};
 ghost use Rattle.bind_resolve.specs.Seen.{scope_seen};
 
 use crate::Scope;
-use crate::names::copied;
 use crate::scope::{column_of, empty_scope, place_of};
 use iv_types::{
     BoundSet, BoundSetList, Bytes, ColumnAtList, Expr, ExprList, Places, Ref, Refusal, Sequence,
@@ -46,7 +45,7 @@ pub fn expression(alloc: Global, scope: &Scope<'_>, e: &Expr) -> Result<Expr, Re
 {
     match e {
         Expr::Number(number) => Ok(Expr::Number(*number)),
-        Expr::Word(word) => Ok(Expr::Word(copied(alloc, word)?)),
+        Expr::Word(word) => Ok(Expr::Word(word.copied(alloc)?)),
         Expr::Named(column) => Ok(Expr::At(column_of(alloc, scope, column)?)),
         Expr::At(place) => Ok(Expr::At(*place)),
         Expr::Not(operand) => {

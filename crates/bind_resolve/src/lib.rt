@@ -10,7 +10,6 @@ mod scope;
 mod statements;
 
 pub use expressions::each;
-pub use names::copied;
 pub use resolved::{Joined, NamedItem, Resolved, ResolvedQuery};
 use resolved::{Column, Scope};
 pub use scope::place;

@@ -1,5 +1,5 @@
 //! Names of objects, and names that are taken.
-ghost use Rattle.std.specs.Prelude.{◌≡◌, ◌∷◌, [], ◌++◌, IfOk, OnOk};
+ghost use Rattle.std.specs.Prelude.{◌≡◌, ◌∷◌, [], ◌++◌, OnOk};
 ghost use Rattle.std.specs.Str.{bytes_eq};
 ghost use Rattle.iv_meaning.specs.Objects.{schema_of, object_of};
 ghost use Rattle.iv_meaning.specs.Resolving.{is_among};
@@ -13,17 +13,6 @@ use std::collections::BTreeSet;
 
 /// Names that are taken, in the order of their bytes.
 pub type Names<'a> = BTreeSet<&'a [u8]>;
-
-/// A copy of a name.
-///
-/// # Errors
-///
-/// Where there is no memory for it.
-pub fn copied(alloc: Global, name: &Bytes) -> Result<Bytes, NoMemory>
-    ensures { IfOk result (λ copy. copy ≡ name.now) }
-{
-    Ok(Bytes::from_vec(name.as_slice().to_vec(alloc)?))
-}
 
 /// Whether two names are the same.
 pub fn same_name(name: &Bytes, other: &Bytes) -> bool
@@ -43,7 +32,7 @@ pub fn known<'a>(
 {
     match catalog.find(name.as_slice()) {
         Some(definition) => Ok(definition),
-        None => Err(Refusal::UnknownName(copied(alloc, name)?)),
+        None => Err(Refusal::UnknownName(name.copied(alloc)?)),
     }
 }
 
@@ -53,7 +42,7 @@ pub fn new_object(alloc: Global, catalog: &Catalog, name: &Bytes) -> Result<(), 
     ensures { IsMeant (λ free. name.now) result (meant.new_object (schema_of catalog.now) name.now) }
 {
     if catalog.find(name.as_slice()).is_some() {
-        return Err(Refusal::NameTaken(copied(alloc, name)?));
+        return Err(Refusal::NameTaken(name.copied(alloc)?));
     }
     Ok(())
 }
@@ -71,7 +60,7 @@ pub fn new_name<'a>(alloc: Global, others: &mut Names<'a>, name: &'a Bytes) -> R
     ensures joined { OnOk result (Alike (names_in others.new.keys) (name.now ∷ names_in others.old.keys)) }
 {
     if is_among(others, name) {
-        return Err(Refusal::NameTaken(copied(alloc, name)?));
+        return Err(Refusal::NameTaken(name.copied(alloc)?));
     }
     others.insert(name.as_slice())?;
     Ok(())

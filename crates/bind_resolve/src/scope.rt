@@ -14,7 +14,7 @@ ghost use Rattle.bind_resolve.specs.Meant.{IsMeant};
 ghost use Rattle.bind_resolve.specs.Seen.{names_in, column_seen, scope_seen};
 ghost use Rattle.bind_resolve.specs.Walking.{is_called};
 
-use crate::names::{copied, same_name};
+use crate::names::same_name;
 use crate::{Column, Scope};
 use iv_types::{
     Bytes, Catalog, ColumnAt, ColumnDef, Definition, NoMemory, Query, Ref, Refusal, Relation,
@@ -190,7 +190,7 @@ fn only(alloc: Global, found: &[ColumnAt], name: &Bytes) -> Result<ColumnAt, Ref
 {
     match found {
         [place] => Ok(*place),
-        _ => Err(Refusal::UnknownName(copied(alloc, name)?)),
+        _ => Err(Refusal::UnknownName(name.copied(alloc)?)),
     }
 }
 
@@ -208,7 +208,7 @@ fn column_by(
             if how_many_called(relation, scope) == 1 {
                 only(alloc, &named(alloc, scope, Some(relation), name)?, name)
             } else {
-                Err(Refusal::UnknownName(copied(alloc, relation)?))
+                Err(Refusal::UnknownName(relation.copied(alloc)?))
             }
         }
         None => only(alloc, &named(alloc, scope, None, name)?, name),

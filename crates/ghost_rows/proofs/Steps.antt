@@ -9,7 +9,8 @@ use Rattle.std.specs.List.{AllByRecursion}
 use mathlib.Core.Logic.{inl, inr}
 use Rattle.table_laws.proofs.Tables.{by_bool}
 use Rattle.table_laws.proofs.Stored.{by_session}
-use Rattle.table_laws.proofs.SetPlaces.{set_here, set_elsewhere, set_length}
+use Rattle.table_laws.proofs.SetPlaces.{set_here, set_elsewhere}
+
 -- the item that was read at a place
 pub read_here : {X : Type 0} (xs : List X) (i : ℕ) (x : X) → i < length xs → x ≡ get_or xs i x → slice_get xs i ≡ Some x
 read_here xs i x h e = slice_get-get_or xs i x h ∙ ap Some (sym e)

@@ -1,12 +1,12 @@
 -- Copies of definitions define the same.
-use Rattle.std.specs.Prelude.{◌≡◌, List, [], ◌∷◌}
-use mathlib.Core.Path.{refl, sym, ap, ◌∙◌}
+use Rattle.std.specs.Prelude.{◌≡◌, [], ◌∷◌}
+use mathlib.Core.Path.{refl, ap, ◌∙◌}
 use Rattle.iv_types.specs.declared.catalog.ViewDef.{ViewDef}
 use Rattle.iv_types.specs.declared.catalog.Definition.{Definition}
 use Rattle.iv_types.specs.declared.catalog.Definition.TheVariants.{Table, Index, View}
 use Rattle.iv_types.specs.Definitions.{IsCopy, IsViewCopy}
 use Rattle.iv_types.specs.Trees.{perhaps_tree}
-use Rattle.iv_meaning.specs.Schema.{ViewTree, table, index, view}
+use Rattle.iv_meaning.specs.Schema.{table, index, view}
 use Rattle.iv_meaning.specs.Objects.{view_tree, object_of, schema_of, CopiesLaw}
 
 same_view : (copy v : ViewDef) → IsViewCopy copy v → view_tree copy ≡ view_tree v

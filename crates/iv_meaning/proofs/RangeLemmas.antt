@@ -1,9 +1,7 @@
 -- Values of columns in the HUGE range, which an expression sees as they are.
-use Rattle.std.specs.Prelude.{◌≡◌, ◌-◌, ◌^◌, ◌≤◌, ◌&&◌, not, cond, ℤ, pos, negsuc, Bool, true, false, Option, Some, None}
+use Rattle.std.specs.Prelude.{◌≡◌, ◌-◌, ◌^◌, ◌&&◌, not, cond, ℤ, pos, negsuc, Bool, true, false, Option, Some, None}
 use mathlib.Core.Path.{refl, sym, ap, ◌∙◌}
-use mathlib.Core.Logic.{inl, inr}
 use Rattle.std.proofs.Common.{arith, le-leb}
-use Rattle.std.proofs.lemmas.Bool.Decides.{leb_tells}
 use Rattle.std.proofs.lemmas.Option.{none-some}
 use Rattle.std.specs.Option.{unwrap_or}
 use Rattle.std.specs.Int.{w64}

@@ -10,7 +10,7 @@ use Rattle.iv_types.specs.Syntax.{StatementTree}
 use Rattle.iv_types.specs.Grammar.{OneStatement}
 use Rattle.iv_types.specs.Refusing.{OneRefusal}
 use Rattle.iv_meaning.specs.Number.{digits_at_front}
-use Rattle.iv_meaning.specs.Said.{Said, nothing, too_long, bad, runs, loads, unread, steps, cleans, checkpoints, IsRead, IsOfSession, IsLoading, HasForm, SaysRead}
+use Rattle.iv_meaning.specs.Said.{Said, nothing, too_long, bad, runs, loads, unread, steps, cleans, checkpoints, IsRead, HasForm, SaysRead}
 use Rattle.iv_meaning.specs.SerialLaws.{is_unread, SaysLaw}
 use Rattle.iv_meaning.proofs.NumberLemmas.{front-decimal, one_decimal}
 use Rattle.iv_meaning.proofs.SessionLemmas.{session_law}

@@ -1,11 +1,9 @@
 -- The example's transcript.
-use Rattle.std.specs.Prelude.{◌≡◌, ℕ, ◌==◌, Bool, true, false, List, [], ◌∷◌, ◌++◌, map, codes, Option, Some, None, Ok, if◌then◌else◌}
+use Rattle.std.specs.Prelude.{◌≡◌, ℕ, ◌==◌, Bool, true, false, List, [], ◌∷◌, ◌++◌, map, codes, Some, None, Ok, if◌then◌else◌}
 use Rattle.std.specs.Fmt.{digits}
-use mathlib.Core.Path.{refl, sym, ap, subst, ◌∙◌}
+use mathlib.Core.Path.{refl, sym, ap, ◌∙◌}
 use mathlib.Core.Logic.{inl, inr}
-use Rattle.std.proofs.Common.{append-nil}
 use Rattle.std.proofs.lemmas.Option.{none-some}
-use Rattle.iv_types.specs.declared.refusal.Refusal.{Refusal}
 use Rattle.iv_types.specs.declared.reply.Reply.{Reply}
 use Rattle.iv_types.specs.declared.reply.Reply.TheVariants as reply
 use Rattle.iv_types.specs.declared.statement.Mode.TheVariants.{Serial}
@@ -13,7 +11,7 @@ use Rattle.iv_types.specs.Syntax.{StatementTree, begin, commit, rollback, savepo
 use Rattle.iv_meaning.specs.Statement.{Kept}
 use Rattle.iv_meaning.specs.Transaction.{Running, alone, committed, refused_inside}
 use Rattle.iv_meaning.specs.Said.{Said, runs}
-use Rattle.iv_meaning.specs.Serial.{World, Unended, none, opened_with, set_open, set_unfinished, commits, refused_by_mode, IsRefused, Takes, Runs, OwnPiece, IsEnd, WasAlone, IsSerialFrom}
+use Rattle.iv_meaning.specs.Serial.{World, Unended, none, opened_with, set_open, set_unfinished, commits, refused_by_mode, Runs, OwnPiece, IsEnd, WasAlone, IsSerialFrom}
 use Rattle.iv_meaning.specs.SerialExample.{shop_database, sold, shows, savepoint_output, SavepointTranscript}
 use Rattle.iv_meaning.proofs.SerialLemmas.{alone_piece, taken}
 use Rattle.iv_meaning.proofs.SaleLemmas.{returned, first_alone, second_alone, savepoint_alone}

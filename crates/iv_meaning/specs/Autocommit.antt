@@ -10,7 +10,7 @@ use Rattle.iv_meaning.specs.View.{whole_view}
 use Rattle.iv_meaning.specs.Query.{BoundQuery}
 use Rattle.iv_meaning.specs.Binding.{bind}
 use Rattle.iv_meaning.specs.Statement as bound
-use Rattle.iv_meaning.specs.Said.{Said, nothing, runs, unread}
+use Rattle.iv_meaning.specs.Said.{Said, nothing, runs}
 use Rattle.iv_meaning.specs.Serial.{World, opened_with, latest, OnlyReplies, Answers}
 use Rattle.iv_meaning.specs.Script.{IsOutput, AnswersFirst, IsOutputPart}
 

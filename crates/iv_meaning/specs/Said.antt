@@ -1,5 +1,5 @@
 -- What a line of a script says.
-use Rattle.std.specs.Prelude.{◌≡◌, ◌≢◌, ◌⊎◌, ◌≤◌, ◌<◌, ℕ, Bool, true, false, IsTrue, List, [], ◌++◌, length, Result, Ok, Err, codes, decimal, IsUtf8}
+use Rattle.std.specs.Prelude.{◌≡◌, ◌≢◌, ◌⊎◌, ◌≤◌, ◌<◌, ℕ, Bool, true, IsTrue, List, [], ◌++◌, length, Result, Ok, Err, codes, decimal, IsUtf8}
 use Rattle.std.specs.List.{All}
 use Rattle.iv_types.specs.declared.limit.TheConstants.{MOST_SESSIONS}
 use Rattle.iv_types.specs.declared.refusal.Refusal.{Refusal}

@@ -1,5 +1,5 @@
 -- A transaction that runs alone: its statements one after another, by their meaning.
-use Rattle.std.specs.Prelude.{ℕ, pos, ◌+◌, nat_le, List, [], ◌∷◌, ◌++◌, map, length, Option, Some, None, Result, Ok, Err, if◌then◌else◌}
+use Rattle.std.specs.Prelude.{ℕ, ◌+◌, nat_le, List, [], ◌∷◌, ◌++◌, map, length, Option, Some, None, Result, Ok, Err, if◌then◌else◌}
 use Rattle.std.specs.Str.{bytes_eq}
 use Rattle.iv_types.specs.declared.refusal.Refusal.{Refusal}
 use Rattle.iv_types.specs.declared.refusal.Refusal.TheVariants.{NoTransaction, InTransaction, ReadOnly, UnknownSavepoint, Limit}

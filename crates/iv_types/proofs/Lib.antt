@@ -7,3 +7,4 @@ pub mod Fitting
 pub mod Spellings
 pub mod MapSizes
 pub mod Copies
+pub mod FittingAt

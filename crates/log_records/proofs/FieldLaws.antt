@@ -1,20 +1,18 @@
 -- A field that is read is the field that was written, and what was written is read again.
-use Rattle.std.proofs.Common.{◌≡◌, ℕ, ℤ, zero, suc, ◌+◌, ◌*◌, ◌/◌, ◌%◌, ◌^◌, ◌<◌, ◌≤◌, Bool, true, false, cond, ltb, List, [], ◌∷◌, ◌++◌, length, get_or, take, drop, Option, Some, None, refl, sym, ap, subst, ◌∙◌, append_assoc, arith, inl, inr}
+use Rattle.std.proofs.Common.{◌≡◌, ℕ, ℤ, zero, suc, ◌^◌, ◌<◌, ◌≤◌, Bool, true, false, cond, ltb, List, [], ◌∷◌, ◌++◌, length, take, drop, Option, Some, None, refl, sym, ap, subst, ◌∙◌, append_assoc, arith}
 use Rattle.std.specs.Prelude.{IfSome}
 use Rattle.std.specs.List.{flat_map, AllByRecursion}
-use Rattle.std.specs.Int.{Width, w128, byte_len, byte_at, bytes_high_first, cast_signed, cast_unsigned}
+use Rattle.std.specs.Int.{Width, w128, byte_len, cast_signed, cast_unsigned}
 use Rattle.std.specs.Int.RustNames.{FitsSigned}
-use Rattle.std.proofs.Math.Nat.{mod-lt}
-use Rattle.std.proofs.lemmas.Nat.{div-mul-add, mod-mul-add}
 use mir.Val.{bits}
 use mir.Facts.{Fits-of_z}
 use borrow.Author.Gap.{read_sfits}
-use Rattle.std.proofs.lemmas.Bool.{cases_lt, ltb-false, le-ltb}
+use Rattle.std.proofs.lemmas.Bool.{ltb-false, le-ltb}
 use Rattle.std.proofs.lemmas.Int.{to_z-of_z, of_z-to_z}
-use Rattle.std.proofs.lemmas.List.{append-nil, take_at, drop_at, take-append-drop, length-append, length-take, get_or-drop, get_or-take, get_or_past}
+use Rattle.std.proofs.lemmas.List.{take_at, drop_at, take-append-drop, length-append, length-take}
 use Rattle.std.proofs.lemmas.List.Concat.{flat_map-cons}
-use Rattle.byteorder.specs.Endian.{big_bytes, big_number, big_from}
-use Rattle.byteorder.specs.Numbers.{big_from-cons, big_from-lt, big_from-take, length-bytes_high_first, big_number-reads_back}
+use Rattle.byteorder.specs.Endian.{big_bytes, big_number}
+use Rattle.byteorder.specs.Numbers.{big_from-lt, length-bytes_high_first, big_number-reads_back}
 use Rattle.iv_types.proofs.ByteNumbers.{IsBytes, IsBytes-drop, IsBytes-rest, back}
 use Rattle.log_records.specs.Spelling.{string, optional, signed, numbers}
 use Rattle.log_records.specs.Reading.{◌>>=◌, number_at, piece_at, string_at, optional_at, signed_at, many_at, numbers_at, both}

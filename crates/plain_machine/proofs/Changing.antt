@@ -26,7 +26,7 @@ use Rattle.txn_machine.specs.State.{State}
 use Rattle.txn_machine.specs.May.{IsOpenIn}
 use Rattle.txn_machine.specs.Steps.{asked, put_wants}
 use Rattle.txn_machine.proofs.Basics.{one_same, one_other}
-use Rattle.view_delta.specs.Owing.{row_change}
+use Rattle.txn_machine.specs.RowChanges.{row_change}
 use Rattle.txn_book.specs.Acts.{answer_of}
 use Rattle.plain_machine.specs.Weights.{store_weight, put_weight, most_weight}
 use Rattle.plain_machine.specs.Locking.{HasLocks, IsGranted}

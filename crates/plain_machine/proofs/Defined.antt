@@ -1,5 +1,5 @@
 -- Lists that the definitions of a catalog give, one after another.
-use Rattle.std.specs.Prelude.{◌≡◌, ◌+◌, ◌==◌, ℕ, true, false, cond, List, [], ◌∷◌, ◌++◌, map, Option, Some, None}
+use Rattle.std.specs.Prelude.{◌≡◌, ◌+◌, ℕ, List, [], ◌∷◌, ◌++◌, Option, Some, None}
 use Rattle.std.specs.List.{flat_map}
 use Rattle.std.specs.Option.{option_copied}
 use Rattle.std.proofs.Common.{Bor, drop, append-nil}
@@ -7,15 +7,10 @@ use Rattle.std.proofs.lemmas.Option.{slice_get_within, get_or_from_slice_get}
 use mathlib.Core.Path.{refl, sym, ap}
 use Rattle.iv_types.proofs.Walks.{gathered, all_gathered}
 use Rattle.iv_types.specs.declared.catalog.Definition.{Definition}
-use Rattle.iv_types.specs.declared.catalog.IndexDef.{IndexDef}
-use Rattle.iv_types.specs.declared.catalog.TableDef.{TableDef}
-use Rattle.iv_types.specs.declared.lock.Want.{Want}
 use Rattle.iv_types.specs.Definitions as definitions
-use Rattle.iv_meaning.specs.Schema.{Schema, Object, table, index, view, ViewTree, indexes_of}
+use Rattle.iv_meaning.specs.Schema.{Schema, Object, table, index, view, ViewTree}
 use Rattle.iv_meaning.specs.Objects.{object_of, schema_of}
-use Rattle.iv_meaning.specs.Database.{Row}
-use Rattle.iv_meaning.specs.View.{index_key}
-use Rattle.txn_machine.specs.Deltas.{exclusive_point, views_of}
+use Rattle.txn_machine.specs.Deltas.{views_of}
 use Rattle.list_store.proofs.CatalogLemmas.{at_number, none_at}
 
 module _ {Y : Type 0} (F : Schema → List Y) where

@@ -1,22 +1,14 @@
 -- What a table of locks answers, said of other lists of the same locks.
-use Rattle.std.proofs.Common.{◌≡◌, ℕ, ◌+◌, ◌-◌, ◌<◌, ◌≤◌, List, [], ◌∷◌, ◌++◌, length, get_or, set, refl, sym, ap, ◌∙◌, subst, arith, inl, inr}
-use Rattle.std.proofs.lemmas.List.{get_or-set_same, get_or-set_other}
-use Rattle.std.proofs.lemmas.Bool.{cases_eq}
+use Rattle.std.proofs.Common.{◌≡◌, ℕ, List, [], ◌∷◌, ◌++◌, sym, ap, ◌∙◌, subst, inl, inr}
 use Rattle.std.proofs.lemmas.List.Elements.{Contains-append_left, Contains-append_right, Contains-append_cases}
-use Rattle.std.specs.Prelude.{◌≢◌}
-use Rattle.std.specs.List.{Contains}
 use Rattle.iv_types.specs.declared.lock.Want.{Want}
 use Rattle.iv_types.specs.declared.session.Sessions.{Sessions}
 use Rattle.iv_types.specs.declared.session.Cycle.{Cycle}
-use Rattle.iv_types.specs.Replies.{members}
 use Rattle.iv_types.specs.SessionSets.{IsSomebody}
-use Rattle.iv_types.proofs.Members.{has_members}
 use Rattle.iv_meaning.specs.Escrow.{IsSession}
-use Rattle.iv_meaning.specs.Waits.{nobody, recorded, would_wait_for, LeadsTo, IsCycle, IsFirstCycle, sessions_of}
+use Rattle.iv_meaning.specs.Waits.{recorded, would_wait_for, IsCycle, IsFirstCycle, sessions_of}
 use Rattle.table_laws.proofs.Stored.{by_session}
-use Rattle.txn_machine.specs.Locks.{Locks, with_one, Meet, IsInTheWay, AreInTheWay, IsDeadlock}
-use Rattle.txn_machine.specs.Waiting.{WaitsOn, Leads, IsRing}
-use Rattle.txn_machine.proofs.Basics.{one_same, one_other, contains_none}
+use Rattle.txn_machine.specs.Locks.{Locks, IsInTheWay, AreInTheWay, IsDeadlock}
 use Rattle.lock_manager.specs.Table as table
 use Rattle.lock_manager.specs.Table.{Table, SessionLocks, HasGained, IsReserved, IsRecorded, IsCancelled}
 use Rattle.iv_types.specs.declared.lock.LockMode.{LockMode}

@@ -16,7 +16,7 @@ use Rattle.txn_machine.specs.Store.{Store, now, Undoes, does, undone, notes_befo
 use Rattle.txn_machine.specs.Ghosts.{the_views}
 use Rattle.txn_machine.specs.State.{State}
 use Rattle.txn_machine.proofs.Basics.{one_same, one_other}
-use Rattle.view_delta.specs.Owing.{row_change}
+use Rattle.txn_machine.specs.RowChanges.{row_change}
 use Rattle.txn_book.specs.Acts.{answer_of}
 use Rattle.plain_machine.specs.Kept.{kept_steps, kept_of}
 use Rattle.plain_machine.specs.Weights.{store_weight, most_weight}

@@ -3,7 +3,7 @@
 -- Kept steps of the code, as the machine has them.
 use Rattle.std.specs.Prelude.{List, map}
 use Rattle.txn_machine.specs.Keeping as keeping
-use Rattle.view_delta.specs.Owing.{row_change}
+use Rattle.txn_machine.specs.RowChanges.{row_change}
 use Rattle.plain_machine.specs.declared.txn.Kept.{Kept}
 use Rattle.plain_machine.specs.declared.txn.Kept.TheVariants as kept
 

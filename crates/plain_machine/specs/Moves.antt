@@ -15,7 +15,7 @@ use Rattle.escrow_bounds.specs.declared.escrow.Range.{Range}
 use Rattle.txn_machine.specs.Deltas as deltas
 use Rattle.txn_machine.specs.Deltas.{place_of}
 use Rattle.txn_machine.specs.Stored as stored
-use Rattle.view_delta.specs.Owing.{row_change}
+use Rattle.txn_machine.specs.RowChanges.{row_change}
 use Rattle.plain_machine.specs.Txns.{txn_at, Sets}
 use Rattle.plain_machine.specs.Bounds.{AreAccounts, IsRefused, IsAnswered}
 use Rattle.txn_book.specs.declared.step.Answer.{Answer}

@@ -9,7 +9,8 @@ ghost use Rattle.txn_machine.specs.Deltas as machine;
 ghost use Rattle.txn_machine.specs.Deltas.{owed_to, views_of, contributions};
 ghost use Rattle.txn_machine.specs.Fresh as afresh;
 ghost use Rattle.txn_machine.specs.Stored as stored;
-ghost use Rattle.view_delta.specs.Owing.{row_change, RowsFit};
+ghost use Rattle.txn_machine.specs.RowChanges.{row_change};
+ghost use Rattle.view_delta.specs.Owing.{RowsFit};
 ghost use Rattle.plain_machine.specs.Owing.{contributions_of};
 
 use crate::appending::{append, number_at};

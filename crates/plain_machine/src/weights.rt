@@ -2,7 +2,7 @@
 ghost use Rattle.std.specs.Prelude.{◌≡◌, ◌+◌, map, IfSome};
 ghost use Rattle.std.specs.List.{sum};
 ghost use Rattle.txn_machine.specs.Counts as counts;
-ghost use Rattle.view_delta.specs.Owing.{row_change};
+ghost use Rattle.txn_machine.specs.RowChanges.{row_change};
 ghost use Rattle.plain_machine.specs.Weights as weights;
 
 use iv_types::{Change, GroupDelta, Interval, Row, RowList, Value};

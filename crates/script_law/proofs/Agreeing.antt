@@ -7,7 +7,7 @@ use Rattle.iv_meaning.specs.Schema.{Schema}
 use Rattle.iv_meaning.specs.Database.{Database}
 use Rattle.iv_meaning.specs.Serial.{World, Unended, Unfinished, none, waits, loaded, base_of, WasAlone}
 use Rattle.txn_machine.specs.Deltas.{RowChange}
-use Rattle.script_law.specs.Seen.{Event, Begins, Finds, FindsThen, Changes, Pays, TakesBack, Ends, Commits, Txn, taken_back, but_latest, owed_again, is_pay, txn_after, Visible, visible_after, history_after, open_after, committed, base, IsTruthful}
+use Rattle.script_law.specs.Seen.{Event, Begins, Finds, FindsThen, Changes, Pays, TakesBack, Ends, Commits, Txn, taken_back, but_latest, owed_again, is_pay, Visible, visible_after, history_after, open_after, committed, base, IsTruthful}
 use Rattle.script_law.specs.Programs.{Standing, outside_with, Todo, Job, Serves, Starts, IsOf, IsAt, IsOut, Grows, next_txn}
 use Rattle.script_law.specs.RunLines.{Line, idle, waiting, stepping, held, AtTable, Table, set_seat}
 use Rattle.script_law.proofs.Basics.{if_same, if_other, base_same, IsQuiet}

@@ -1,10 +1,9 @@
 -- What may be asked for as far as a session sees may be asked of the machine.
-use Rattle.std.specs.Prelude.{◌≡◌, ◌≢◌, ◌⊎◌, ℕ, zero, suc, ◌==◌, not, Bool, true, false, List, [], ◌∷◌, length, Option, Some, None}
+use Rattle.std.specs.Prelude.{◌≡◌, ℕ, ◌==◌, not, Bool, true, false, List, [], ◌∷◌, length, Option, Some, None}
 use Rattle.std.specs.Option.{option_map}
-use mathlib.Core.Path.{refl, sym, ap, subst, ◌∙◌}
+use mathlib.Core.Path.{refl, sym, ap, ◌∙◌}
 use mathlib.Core.Logic.{inl, inr}
 use Rattle.std.proofs.Common.{arith, eqb-true}
-use Rattle.std.proofs.lemmas.Option.{none-some}
 use Rattle.iv_types.specs.declared.statement.Mode.{Mode}
 use Rattle.iv_types.specs.declared.statement.Mode.TheVariants.{Serial, Snapshot}
 use Rattle.iv_types.specs.declared.lock.GroupDelta.{GroupDelta}
@@ -12,13 +11,13 @@ use Rattle.iv_meaning.specs.Escrow.{IsSession}
 use Rattle.txn_machine.specs.Acts as act
 use Rattle.txn_machine.specs.Acts.{Act}
 use Rattle.txn_machine.specs.Keeping.{KeptStep, Put, Pay, Open}
-use Rattle.txn_machine.specs.Store.{Store, schema_of, now}
+use Rattle.txn_machine.specs.Store.{schema_of, now}
 use Rattle.txn_machine.specs.May.{MayAct, IsOpenIn, IsReady, Owes}
 use Rattle.txn_machine.specs.Alone.{Story}
 use Rattle.txn_machine.proofs.Stepping.{now_is}
 use Rattle.txn_machine.proofs.Looking.{view_laws}
-use Rattle.script_law.specs.Seen.{Txn, MayWant, IsReadyIn, OwesSome}
-use Rattle.script_law.specs.Machine.{kept_seen, txn_seen, seen_of, IsFitting, IsAlive, MayLaw}
+use Rattle.script_law.specs.Seen.{MayWant, IsReadyIn, OwesSome}
+use Rattle.script_law.specs.Machine.{kept_seen, txn_seen, IsFitting, IsAlive, MayLaw}
 
 none_of : {X : Type 0} (xs : List X) → length xs ≡ 0 → xs ≡ []
 none_of [] e = refl

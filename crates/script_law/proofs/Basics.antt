@@ -1,6 +1,6 @@
 -- One session of many is set; and what single events change.
 use Rattle.std.specs.Prelude.{◌≡◌, ◌≢◌, ◌⊎◌, ℕ, ◌==◌, Bool, true, false, IsTrue, ◌||◌, cond, List, [], ◌∷◌, ◌++◌, Option, Some, None, if◌then◌else◌}
-use mathlib.Core.Path.{refl, sym, ap, ◌∙◌}
+use mathlib.Core.Path.{refl, sym, ap}
 use mathlib.Core.Logic.{inl, inr}
 use Rattle.std.proofs.Common.{eq-eqb, append-nil}
 use Rattle.std.proofs.lemmas.Bool.{ne_eqb}
@@ -12,12 +12,9 @@ use Rattle.iv_meaning.specs.Statement.{Kept}
 use Rattle.iv_meaning.specs.Transaction.{outside}
 use Rattle.iv_meaning.specs.History.{fold, state_at}
 use Rattle.iv_meaning.specs.Serial.{World, Unended, latest, base_of, commits, set_open, EndsInside, EndsOutside}
-use Rattle.txn_machine.specs.Acts as act
-use Rattle.txn_machine.specs.Acts.{Act}
-use Rattle.txn_machine.specs.Answers.{Answer}
-use Rattle.script_law.specs.Seen.{Event, Waits, LacksRow, Fails, Begins, Learns, Finds, FindsThen, Changes, Pays, TakesBack, Ends, Commits, Creates, Denies, Idles, Never, event, is_stop, Txn, txn_after, Visible, committed, base, entries, open_after, history_after}
-use Rattle.script_law.specs.Programs.{Todo, says, asks, ghosts, Job, stays_inside, is_begin, with_told, Closes, Proceeds, MayCome, Serves, next_txn}
-use Rattle.script_law.specs.RunLines.{Outcome, ended, stepped, outcome_of, outcome_at, IsNotBlocked}
+use Rattle.script_law.specs.Seen.{Event, Waits, LacksRow, Fails, Begins, Learns, Finds, FindsThen, Changes, Pays, TakesBack, Ends, Commits, Creates, Denies, Idles, Never, Txn, txn_after, Visible, committed, base, entries, open_after, history_after}
+use Rattle.script_law.specs.Programs.{Todo, Job, stays_inside, is_begin, with_told, Closes, Proceeds, next_txn}
+use Rattle.script_law.specs.RunLines.{outcome_of, outcome_at, IsNotBlocked}
 
 -- ---- one session is set
 

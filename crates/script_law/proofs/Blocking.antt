@@ -1,11 +1,10 @@
 -- After each line, what waiting sessions ask for is locked by others.
-use Rattle.std.specs.Prelude.{◌≡◌, ◌≢◌, ◌⊎◌, ℕ, ◌+◌, zero, suc, List, [], ◌∷◌, ◌++◌, Option, Some, None}
+use Rattle.std.specs.Prelude.{◌≡◌, ◌≢◌, ℕ, zero, suc, List, [], ◌∷◌}
 use Rattle.std.specs.List.{Contains}
 use mathlib.Core.Path.{refl, sym, ap, subst, ◌∙◌}
 use mathlib.Core.Logic.{inl, inr}
 use Rattle.std.proofs.Common.{arith}
 use Rattle.iv_types.specs.declared.session.Sessions.{Sessions}
-use Rattle.iv_types.specs.declared.lock.Want.{Want}
 use Rattle.iv_types.specs.declared.refusal.Refusal.{Refusal}
 use Rattle.iv_types.specs.declared.refusal.EngineRefusal.{EngineRefusal}
 use Rattle.iv_types.specs.declared.reply.Reply.{Reply}
@@ -15,17 +14,17 @@ use Rattle.txn_machine.specs.Acts as act
 use Rattle.txn_machine.specs.Acts.{Act}
 use Rattle.txn_machine.specs.Answers as answer
 use Rattle.txn_machine.specs.Answers.{Answer}
-use Rattle.txn_machine.specs.Locks.{Locks, with_one, IsInTheWay}
+use Rattle.txn_machine.specs.Locks.{with_one, IsInTheWay}
 use Rattle.txn_machine.specs.Ghosts.{the_views}
-use Rattle.txn_machine.specs.Store.{Store, locks_of, run}
+use Rattle.txn_machine.specs.Store.{locks_of, run}
 use Rattle.txn_machine.specs.State.{State}
-use Rattle.txn_machine.specs.Steps.{asked, IsBlocked, Says}
+use Rattle.txn_machine.specs.Steps.{asked, IsBlocked}
 use Rattle.txn_machine.specs.Alone.{Story}
 use Rattle.txn_machine.proofs.Basics.{contains_none, one_same, one_other}
 use Rattle.txn_machine.proofs.Holding.{by_contains, contains_here}
 use Rattle.script_law.specs.Seen.{Waits, event}
-use Rattle.script_law.specs.Programs.{Standing, Todo, says, asks, ghosts, Programs}
-use Rattle.script_law.specs.RunLines.{Line, idle, waiting, stepping, held, AtTable, Table, set_seat, seat_run, Outcome, ended, stuck, stepped, RunsOn, has_ended, is_blocked, goes_on, Tries, Pass, Passes, RunsLine, all_sessions}
+use Rattle.script_law.specs.Programs.{Standing, Todo, Programs}
+use Rattle.script_law.specs.RunLines.{Line, idle, waiting, stepping, held, AtTable, Table, set_seat, seat_run, Outcome, ended, stuck, RunsOn, has_ended, is_blocked, goes_on, Tries, Pass, Passes, all_sessions}
 use Rattle.script_law.specs.Machine.{DoesOf, IsHindered, HinderedLaw}
 use Rattle.script_law.proofs.Basics.{if_same, if_other}
 

@@ -1,13 +1,12 @@
 -- Kept changes, one after the other.
-use Rattle.std.specs.Prelude.{◌≡◌, ℕ, ◌+◌, List, [], ◌∷◌, ◌++◌, map, reverse, length, Option, Some, None}
-use mathlib.Core.Path.{refl, sym, ap, subst, ◌∙◌}
+use Rattle.std.specs.Prelude.{◌≡◌, List, [], ◌∷◌, ◌++◌, Option, Some, None}
+use mathlib.Core.Path.{refl, sym, ap, ◌∙◌}
 use Rattle.std.proofs.Common.{append-nil}
 use Rattle.std.proofs.lemmas.List.{append_assoc}
 use Rattle.table_laws.specs.Kept.{redo}
 use Rattle.table_laws.specs.Table.{write}
 use Rattle.iv_meaning.specs.Database.{Rows, Database}
-use Rattle.iv_meaning.specs.Statement.{Kept, sets, keep_all}
-use Rattle.iv_meaning.proofs.SerialLemmas.{keep_append}
+use Rattle.iv_meaning.specs.Statement.{sets, keep_all}
 use Rattle.txn_machine.specs.Deltas.{RowChange}
 use Rattle.txn_machine.specs.Alone.{with_changes}
 use Rattle.txn_machine.proofs.Entered.{keep_changes}

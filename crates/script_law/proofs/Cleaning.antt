@@ -1,6 +1,6 @@
 -- What `clean` counts is what the machine's cleaner removed.
-use Rattle.std.specs.Prelude.{◌≡◌, ◌⊎◌, ℕ, ◌+◌, zero, suc, List, [], ◌∷◌}
-use mathlib.Core.Path.{refl, sym, ap, subst, ◌∙◌}
+use Rattle.std.specs.Prelude.{◌≡◌, ℕ, ◌+◌, zero, suc}
+use mathlib.Core.Path.{refl, ap, subst, ◌∙◌}
 use mathlib.Core.Logic.{inl, inr}
 use Rattle.std.proofs.Common.{arith}
 use Rattle.iv_types.specs.declared.refusal.Refusal.{Refusal}

@@ -15,8 +15,8 @@ use Rattle.iv_meaning.specs.Statement.{Kept}
 use Rattle.iv_meaning.specs.Transaction.{Running, outside, next_number, begin_reply}
 use Rattle.iv_meaning.specs.Serial.{World, Unended, none, latest, base_of, ran, WasAlone, set_open, set_unfinished, commits, is_engines, is_deadlock, Ends as EndsSo, EndsBy}
 use Rattle.iv_meaning.proofs.SerialLemmas.{same_number}
-use Rattle.script_law.specs.Seen.{Event, Ends, Commits, Creates, Denies, Txn, txn_after, Visible, visible_after, open_after, history_after, committed, base, entries, kept_by, kept_of, IsTruthful}
-use Rattle.script_law.specs.Programs.{Standing, outside_with, Todo, says, IsDone, passed_inside, passed_outside, told, began, IsClosed, commits as closes_commit, rolls_back, loses, is_alone, is_refused, is_passed, IsCreated, creates, denies, Fits, IsOf, IsOut, Grows, objects_of, with_told, new_open, is_begin}
+use Rattle.script_law.specs.Seen.{Event, Ends, Commits, Creates, Denies, Txn, txn_after, Visible, visible_after, open_after, committed, base, entries, kept_by, kept_of, IsTruthful}
+use Rattle.script_law.specs.Programs.{Standing, outside_with, Todo, says, IsDone, passed_inside, passed_outside, told, began, IsClosed, commits as closes_commit, rolls_back, loses, is_alone, is_refused, is_passed, Fits, IsOf, IsOut, Grows, objects_of, with_told, new_open, is_begin}
 use Rattle.script_law.specs.RunLines.{idle, Table, set_seat}
 use Rattle.script_law.proofs.Basics.{if_same, if_other, base_same, latest_same, base_serial, commits_origin, commits_running, commits_unfinished, commits_history, inside_goes, outside_ends}
 use Rattle.script_law.proofs.Growing.{same_grows, grows_by, step_grows}

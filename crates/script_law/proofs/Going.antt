@@ -1,5 +1,5 @@
 -- A statement that goes on: after each step it is served as before, or it has ended.
-use Rattle.std.specs.Prelude.{◌≡◌, ◌≢◌, ◌⊎◌, ℕ, ◌+◌, Bool, true, false, IsTrue, ◌||◌, List, [], ◌∷◌, length, Option, Some, None}
+use Rattle.std.specs.Prelude.{◌≡◌, ◌≢◌, ◌⊎◌, ℕ, Bool, true, false, IsTrue, ◌||◌, List, [], ◌∷◌, length, Option, Some, None}
 use mathlib.Core.Path.{refl, sym, ap, subst, ◌∙◌}
 use mathlib.Core.Logic.{inl, inr}
 use Rattle.std.proofs.lemmas.Option.{none-some}
@@ -17,8 +17,8 @@ use Rattle.txn_machine.specs.Acts as act
 use Rattle.txn_machine.specs.Acts.{Act}
 use Rattle.txn_machine.specs.Answers as answer
 use Rattle.txn_machine.specs.Answers.{Answer}
-use Rattle.script_law.specs.Seen.{Event, Waits, LacksRow, Fails, Begins, Learns, Idles, Commits, Creates, Denies, event, is_stop, CanCome, Txn, Visible, visible_after, open_after, history_after, committed, base, kept_of, new_txn, StepLaws}
-use Rattle.script_law.specs.Programs.{Standing, Todo, says, asks, ghosts, Job, Grows, objects_of, Serves, OpensFirst, Starts, BeginsSo, MayCome, IsKnown, Proceeds, Closes, IsClosed, IsCreated, creates, denies, Programs, next_txn, outside_with}
+use Rattle.script_law.specs.Seen.{Event, Waits, LacksRow, Fails, Begins, Learns, Idles, Commits, event, is_stop, CanCome, Txn, Visible, visible_after, open_after, history_after, committed, base, kept_of, new_txn, StepLaws}
+use Rattle.script_law.specs.Programs.{Standing, Todo, says, asks, ghosts, Job, Grows, objects_of, Serves, OpensFirst, Starts, BeginsSo, MayCome, IsKnown, Closes, IsCreated, creates, denies, Programs, next_txn, outside_with}
 use Rattle.script_law.specs.RunLines.{Outcome, ended, stuck, stepped, act_of, asked_next, ghost_next, next_of, outcome_at, outcome_of, IsNotBlocked, RunsOn, has_ended, is_blocked, goes_on, StepsOnce, had_ended, steps_once, Table}
 use Rattle.script_law.proofs.Basics.{IsQuiet, quiet_history, quiet_open, same_open, Came, blocked, lacks, closed, on, came, either_true, outcome_free}
 use Rattle.script_law.proofs.Growing.{same_grows, grows_by, step_grows}

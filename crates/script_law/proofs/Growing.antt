@@ -1,6 +1,6 @@
 -- Definitions are only added.
-use Rattle.std.specs.Prelude.{◌≡◌, ℕ, List, [], ◌∷◌, ◌++◌}
-use mathlib.Core.Path.{refl, sym, ap, subst, ◌∙◌}
+use Rattle.std.specs.Prelude.{ℕ, List, [], ◌∷◌, ◌++◌}
+use mathlib.Core.Path.{refl, sym, ap, ◌∙◌}
 use Rattle.std.proofs.Common.{append-nil}
 use Rattle.std.proofs.lemmas.List.{append_assoc}
 use Rattle.iv_meaning.specs.Schema.{Schema}
@@ -8,7 +8,7 @@ use Rattle.iv_meaning.specs.Database.{Database}
 use Rattle.iv_meaning.specs.Statement.{Kept, sets, defines, keep, keep_all}
 use Rattle.iv_meaning.specs.Transaction.{outside}
 use Rattle.iv_meaning.specs.History.{Entry, fold}
-use Rattle.script_law.specs.Seen.{Event, Commits, Creates, Visible, committed, entries, kept_by, history_after, visible_after}
+use Rattle.script_law.specs.Seen.{Event, Commits, Creates, Visible, committed, entries, kept_by, visible_after}
 use Rattle.script_law.specs.Programs.{Grows}
 
 pub same_grows : (objects : Schema) → Grows objects objects

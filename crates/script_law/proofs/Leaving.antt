@@ -1,12 +1,11 @@
 -- The end of the input: no transaction stays open, unless the engine is stopped.
-use Rattle.std.specs.Prelude.{◌≡◌, ◌≢◌, ◌⊎◌, ℕ, ◌+◌, Bool, true, false, IsTrue, List, [], ◌∷◌, ◌++◌, length, Option, Some, None}
+use Rattle.std.specs.Prelude.{◌≡◌, ◌≢◌, ◌⊎◌, ℕ, Bool, IsTrue, List, [], ◌∷◌, length, Option, Some, None}
 use Rattle.std.specs.List.{Contains}
 use mathlib.Core.Path.{refl, sym, ap, subst, ◌∙◌}
 use mathlib.Core.Logic.{inl, inr}
 use Rattle.std.proofs.lemmas.Option.{none-some}
 use Rattle.iv_types.specs.declared.refusal.Refusal.{Refusal}
 use Rattle.iv_types.specs.declared.refusal.EngineRefusal.{EngineRefusal}
-use Rattle.iv_types.specs.declared.statement.Mode.{Mode}
 use Rattle.table_laws.proofs.Stored.{by_session}
 use Rattle.iv_meaning.specs.Schema.{Schema}
 use Rattle.iv_meaning.specs.Said.{Said}
@@ -17,12 +16,12 @@ use Rattle.txn_machine.specs.Answers as answer
 use Rattle.txn_machine.specs.Answers.{Answer}
 use Rattle.txn_machine.proofs.Basics.{contains_none}
 use Rattle.txn_machine.proofs.Holding.{by_contains}
-use Rattle.script_law.specs.Seen.{Event, Fails, Idles, TakesBack, Ends, event, is_stop, CanCome, Txn, Visible, open_after, visible_after, StepLaws}
+use Rattle.script_law.specs.Seen.{event, CanCome, Txn, Visible, open_after, StepLaws}
 use Rattle.script_law.specs.Programs.{Standing, Programs, ProgramLaws}
-use Rattle.script_law.specs.RunLines.{Line, idle, waiting, stepping, held, AtTable, Table, open_at, RollsBack, ends_it, takes_back, stops_ending, stops_taking, Leaves, cancels, cancels_held, steps_no_more, has_none, rolls_back, LeaveAll, RunsLines, new_table, all_sessions}
+use Rattle.script_law.specs.RunLines.{Line, idle, waiting, stepping, held, Table, open_at, RollsBack, ends_it, takes_back, stops_ending, stops_taking, Leaves, cancels, cancels_held, steps_no_more, has_none, rolls_back, LeaveAll, RunsLines, new_table, all_sessions}
 use Rattle.script_law.specs.Laws.{AreEngines, EndLaw}
 use Rattle.script_law.proofs.Basics.{if_same, if_other}
-use Rattle.script_law.proofs.Agreeing.{Between, SeatAgrees, SeatIs, Agrees, objects_in}
+use Rattle.script_law.proofs.Agreeing.{SeatAgrees, Agrees, objects_in}
 use Rattle.script_law.proofs.Showing.{ended_open}
 use Rattle.script_law.proofs.Owning.{IsIdle, idles, fails, idle_open}
 use Rattle.script_law.proofs.Running.{one_line, begun_agrees}

@@ -1,5 +1,5 @@
 -- Transactions that run alone: they leave sound databases of the same definitions, and their savepoints.
-use Rattle.std.specs.Prelude.{◌≡◌, ◌⊎◌, ℕ, ◌+◌, ◌-◌, Bool, true, false, cond, nat_le, pos, List, [], ◌∷◌, ◌++◌, map, reverse, length, drop, Option, Some, None}
+use Rattle.std.specs.Prelude.{◌≡◌, ℕ, ◌-◌, Bool, true, false, cond, nat_le, List, [], ◌∷◌, ◌++◌, reverse, length, drop, Option, Some, None}
 use Rattle.std.specs.Str.{bytes_eq}
 use mathlib.Core.Path.{refl, sym, ap, subst, ◌∙◌}
 use mathlib.Core.Logic.{inl, inr}
@@ -10,11 +10,11 @@ use Rattle.iv_types.specs.declared.refusal.Refusal.TheVariants.{UnknownSavepoint
 use Rattle.iv_types.specs.declared.limit.Limit.TheVariants.{Savepoints}
 use Rattle.iv_types.specs.declared.statement.Mode.{Mode}
 use Rattle.iv_types.specs.declared.statement.Mode.TheVariants.{Serial}
-use Rattle.iv_types.specs.Syntax.{StatementTree, create_table, create_index, create_view, insert, update, delete, select, begin, commit, rollback, savepoint}
+use Rattle.iv_types.specs.Syntax.{StatementTree, insert, update, delete, select, commit, rollback, savepoint}
 use Rattle.iv_meaning.specs.Schema.{Schema}
 use Rattle.iv_meaning.specs.Database.{Row, Database}
-use Rattle.iv_meaning.specs.Statement.{Kept, sets, keep_all, Meaning, Refused, Accepted}
-use Rattle.iv_meaning.specs.Transaction.{Saved, Running, Response, told, done, means, inside, accepted, alone_from, from_named, back_to, refused_inside, refused_return, most_savepoints}
+use Rattle.iv_meaning.specs.Statement.{Kept, keep_all, Meaning, Refused, Accepted}
+use Rattle.iv_meaning.specs.Transaction.{Saved, Running, Response, told, means, inside, accepted, alone_from, from_named, back_to, refused_inside, refused_return, most_savepoints}
 use Rattle.txn_machine.specs.Deltas.{RowChange}
 use Rattle.txn_machine.specs.ViewLaws.{AreSound}
 use Rattle.script_law.specs.Seen.{changes, in_order}

@@ -1,35 +1,33 @@
 -- The programs of statements outside a transaction are right.
-use Rattle.std.specs.Prelude.{◌≡◌, ◌≢◌, ◌⊎◌, ℕ, zero, suc, ◌+◌, ◌==◌, Bool, true, false, IsTrue, ◌||◌, cond, List, [], ◌∷◌, ◌++◌, map, length, Option, Some, None, if◌then◌else◌}
+use Rattle.std.specs.Prelude.{◌≡◌, ◌⊎◌, ℕ, suc, ◌+◌, ◌==◌, Bool, true, false, IsTrue, ◌||◌, cond, List, [], ◌∷◌, ◌++◌, map, length, Option, Some, None, if◌then◌else◌}
 use mathlib.Core.Path.{refl, sym, ap, subst, ◌∙◌}
 use mathlib.Core.Logic.{inl, inr}
 use Rattle.std.proofs.Common.{arith, append-nil, eqb-true}
 use Rattle.std.proofs.lemmas.List.{length-append}
 use Rattle.iv_types.specs.declared.statement.Mode.{Mode}
-use Rattle.iv_types.specs.declared.statement.Mode.TheVariants.{Serial, Snapshot}
+use Rattle.iv_types.specs.declared.statement.Mode.TheVariants.{Serial}
 use Rattle.iv_types.specs.declared.refusal.Refusal.{Refusal}
 use Rattle.iv_types.specs.declared.refusal.Refusal.TheVariants.{NoMemory}
 use Rattle.iv_types.specs.declared.refusal.EngineRefusal.{EngineRefusal}
-use Rattle.iv_types.specs.declared.reply.Reply.{Reply}
 use Rattle.iv_types.specs.declared.reply.Reply.TheVariants as reply
-use Rattle.iv_types.specs.Syntax.{StatementTree, create_table, create_index, create_view, insert, update, delete, select, begin, commit, rollback, savepoint}
-use Rattle.iv_meaning.specs.Schema.{Schema, Object}
+use Rattle.iv_types.specs.Syntax.{StatementTree, create_table, create_index, create_view, insert, update, delete, select, begin}
+use Rattle.iv_meaning.specs.Schema.{Schema}
 use Rattle.iv_meaning.specs.Database.{Row, Database}
-use Rattle.iv_meaning.specs.Statement.{Kept, keep_all, Meaning, Refused, Accepted}
+use Rattle.iv_meaning.specs.Statement.{keep_all, Meaning, Refused, Accepted}
 use Rattle.iv_meaning.specs.Transaction.{Transaction, means, outside, ended_by, refused_outside, next_number, begin_reply}
-use Rattle.iv_meaning.specs.Serial.{Unended, is_engines, is_deadlock}
+use Rattle.iv_meaning.specs.Serial.{is_engines}
 use Rattle.iv_meaning.proofs.SerialLemmas.{same_number}
 use Rattle.txn_machine.specs.Acts as act
 use Rattle.txn_machine.specs.Acts.{Act}
 use Rattle.txn_machine.specs.Answers as answer
 use Rattle.txn_machine.specs.Answers.{Answer}
 use Rattle.txn_machine.specs.Deltas.{RowChange}
-use Rattle.script_law.specs.Seen.{Event, Fails, Ends, Commits, event, is_stop, Txn, IsTruthful, kept_of, changes, in_order, new_txn, MayWant}
-use Rattle.script_law.specs.Programs.{Standing, outside_with, Todo, says, asks, Job, IsDone, passed_outside, began, IsClosed, is_alone, is_refused, is_passed, creates, denies, Closes, IsOut, IsLone, Grows, objects_of, new_open, is_begin, Serves, OpensFirst, Starts, BeginsSo, MayCome, Proceeds, next_txn}
+use Rattle.script_law.specs.Seen.{Fails, Ends, event, is_stop, Txn, IsTruthful, kept_of, changes, in_order, new_txn, MayWant}
+use Rattle.script_law.specs.Programs.{outside_with, Todo, says, asks, Job, IsDone, passed_outside, began, IsClosed, is_alone, is_refused, is_passed, creates, denies, IsOut, IsLone, Grows, objects_of, is_begin, Serves, OpensFirst, Starts, BeginsSo, MayCome, Proceeds, next_txn}
 use Rattle.script_law.specs.Works.{Work, alone_on, is_work, Works, WorkLaws}
-use Rattle.script_law.specs.Sessions.{Frame, undo, runs, stays_out, ends_with, outside_frame, fails_defs, begins_with, creates_with, start_outside, commit_next, end_next, begun_next, defs_next, schema_next}
-use Rattle.script_law.proofs.Growing.{same_grows}
-use Rattle.script_law.proofs.Working.{Since, since_first, begun_on, undo_serves, ComesTo, FrameServes, runs_serves}
-use Rattle.script_law.proofs.Inside.{or_true, halted, refused_by_stop}
+use Rattle.script_law.specs.Sessions.{undo, runs, stays_out, ends_with, outside_frame, fails_defs, begins_with, creates_with, start_outside, commit_next, end_next, begun_next, defs_next, schema_next}
+use Rattle.script_law.proofs.Working.{Since, since_first, undo_serves, ComesTo, FrameServes, runs_serves}
+use Rattle.script_law.proofs.Inside.{refused_by_stop}
 
 outside_by : (statement : StatementTree) (db : Database) → refused_outside statement ≡ None → outside statement db ≡ ended_by (means statement db) db
 outside_by statement db e = λ k. elim (e k) [ Some refusal ↦ ended_by (Refused refusal) db | None ↦ ended_by (means statement db) db ]

@@ -1,6 +1,5 @@
 -- The machine keeps the laws that scripts stand on.
-use Rattle.std.specs.Prelude.{◌≡◌, ◌≢◌, ◌⊎◌, ℕ, ◌+◌, ◌==◌, is_some, cond, true, zero, suc, false, IsTrue, List, [], ◌∷◌, ◌++◌, map, reverse, length, Option, Some, None, IsSome, Ok, if◌then◌else◌}
-use Rattle.std.specs.List.{AllByRecursion}
+use Rattle.std.specs.Prelude.{◌≡◌, ◌≢◌, ℕ, ◌+◌, ◌==◌, is_some, cond, true, false, IsTrue, List, [], ◌∷◌, ◌++◌, reverse, length, Option, Some, None, IsSome, if◌then◌else◌}
 use Rattle.std.specs.Option.{option_map}
 use Rattle.std.proofs.lemmas.List.Elements.{recursion_from_All, All-from_recursion}
 use mathlib.Core.Path.{refl, sym, ap, subst, ◌∙◌}
@@ -14,16 +13,15 @@ use Rattle.iv_types.specs.declared.refusal.Refusal.{Refusal}
 use Rattle.iv_types.specs.declared.refusal.Refusal.TheVariants.{NumberRange}
 use Rattle.iv_types.specs.declared.refusal.EngineRefusal.{EngineRefusal}
 use Rattle.iv_types.specs.declared.refusal.EngineRefusal.TheVariants as refusal
-use Rattle.iv_types.specs.declared.reply.Reply.{Reply}
 use Rattle.iv_types.specs.declared.reply.Reply.TheVariants as reply
 use Rattle.iv_types.specs.Syntax.{StatementTree, create_table, create_index, create_view}
 use Rattle.table_laws.proofs.Stored.{by_session}
-use Rattle.iv_meaning.specs.Schema.{Schema, Object, table, index, view}
+use Rattle.iv_meaning.specs.Schema.{Object, table, index, view}
 use Rattle.iv_meaning.specs.Database.{Database}
 use Rattle.iv_meaning.specs.View.{whole_view}
-use Rattle.iv_meaning.specs.Statement.{Kept, sets, defines, keep, keep_all, create, Refused, Accepted, Meaning, bound_meaning, create_meaning}
+use Rattle.iv_meaning.specs.Statement.{Kept, defines, keep_all, Refused, Accepted, Meaning, create_meaning}
 use Rattle.iv_meaning.specs.Transaction.{Transaction, outside, ended_by, refused_outside, bound_or_refused, means, next_number}
-use Rattle.iv_meaning.specs.History.{Entry, fold, state_at}
+use Rattle.iv_meaning.specs.History.{fold, state_at}
 use Rattle.iv_meaning.specs.Escrow.{IsSession}
 use Rattle.txn_machine.specs.Acts as act
 use Rattle.txn_machine.specs.Acts.{Act}
@@ -34,9 +32,9 @@ use Rattle.txn_machine.specs.Keeping.{Open, changes_of}
 use Rattle.txn_machine.specs.Ghosts.{the_views}
 use Rattle.txn_machine.specs.Store.{Store, schema_of, now, changes_by, Effect, Defines, run}
 use Rattle.txn_machine.specs.Store as store
-use Rattle.txn_machine.specs.State.{State, opened_state, Stop, stop_after, told_of_stop}
-use Rattle.txn_machine.specs.May.{MayAct, IsOpen, IsCreate, IsOpenIn}
-use Rattle.txn_machine.specs.Steps.{Says, MayWait, Does, IsTold, Step, Did, Run, NoneIsOpen, CommitsAs, IsDenied, unbound, refused, DefinesIt, number_unchanged}
+use Rattle.txn_machine.specs.State.{State, opened_state, stop_after}
+use Rattle.txn_machine.specs.May.{MayAct, IsOpen, IsCreate}
+use Rattle.txn_machine.specs.Steps.{Says, MayWait, Does, Step, Did, Run, NoneIsOpen, CommitsAs, IsDenied, unbound, refused, DefinesIt, number_unchanged}
 use Rattle.txn_machine.specs.Locks.{with_one}
 use Rattle.txn_machine.specs.Alone.{Fact, Story, told_after, story_after, Unfolds, begun_story, IsTrueIn}
 use Rattle.txn_machine.specs.Laws.{IsReached, IsReachedStory}
@@ -46,13 +44,13 @@ use Rattle.txn_machine.proofs.Rings.{other_opens}
 use Rattle.txn_machine.proofs.Moving.{may_of}
 use Rattle.txn_machine.proofs.Stepping.{now_is, some_not_none}
 use Rattle.txn_machine.proofs.Looking.{view_laws}
-use Rattle.txn_machine.proofs.Seats.{NobodyElse, session_or, nobody_open}
+use Rattle.txn_machine.proofs.Seats.{session_or, nobody_open}
 use Rattle.txn_machine.proofs.Stories.{told_refused}
 use Rattle.txn_machine.proofs.Reached.{sound_law}
 use Rattle.txn_machine.proofs.Peeking.{snapshot_readable_law}
 use Rattle.txn_machine.proofs.OwnRows.{told_law}
-use Rattle.script_law.specs.Seen.{Event, Waits, LacksRow, Fails, Begins, Learns, Finds, Commits, Creates, Denies, event, is_stop, is_deadlock_event, CanFail, CanCome, changes, in_order, kept_of, kept_by, Txn, txn_after, IsTruthful, Visible, committed, base, open_after, history_after, entries, visible_after, StepLaws}
-use Rattle.script_law.specs.Machine.{kept_seen, txn_seen, seen_of, DoesOf, IsStopped, MachineLaw}
+use Rattle.script_law.specs.Seen.{Event, Fails, Begins, Learns, Commits, Creates, Denies, event, is_stop, CanFail, CanCome, changes, in_order, kept_of, kept_by, Txn, IsTruthful, Visible, committed, base, open_after, history_after, entries, visible_after, StepLaws}
+use Rattle.script_law.specs.Machine.{txn_seen, seen_of, DoesOf, IsStopped, MachineLaw}
 use Rattle.script_law.proofs.Basics.{if_same, if_other}
 use Rattle.script_law.proofs.Agreeing.{objects_in}
 use Rattle.script_law.proofs.Showing.{changes_seen, in_order_is, ends_some, fold_push, sets_keep, IsMaking, Making, is_making, makes_none, making, Shown, shown}

@@ -19,7 +19,7 @@ use Rattle.txn_machine.specs.Acts.{Act}
 use Rattle.txn_machine.specs.Answers as answer
 use Rattle.txn_machine.specs.Answers.{Answer}
 use Rattle.script_law.specs.Seen.{Event, Fails, Idles, event, Txn, txn_after, Visible, open_after, visible_after, committed, IsTruthful, StepLaws}
-use Rattle.script_law.specs.Programs.{Standing, outside_with, Todo, says, asks, Serves, Starts, Programs, ProgramLaws, Grows, objects_of, with_told}
+use Rattle.script_law.specs.Programs.{Standing, outside_with, Todo, Starts, Programs, ProgramLaws, Grows, objects_of, with_told}
 use Rattle.script_law.specs.RunLines.{Line, seat_run, seat_stepped, idle, waiting, stepping, held as is_held, AtTable, Table, set_seat, Outcome, ended, stuck, stepped, next_of, RunsOn, has_ended, is_blocked, goes_on, Tells, Comes, RunsIt, LoadsIt, RefusedOr, Given, Stepped, Cleaned, cleaned_text, Cleans, cleaned_all, cleaned_one, clean_fails, CleansLine, pruned, prune_fails, SavesLine, saved, save_fails, Own}
 use Rattle.script_law.specs.Laws.{AreEngines}
 use Rattle.script_law.proofs.Basics.{IsQuiet, quiet_history, if_same, if_other, base_same, latest_same, outside_ends, inside_goes}

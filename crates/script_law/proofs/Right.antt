@@ -1,14 +1,13 @@
 -- The programs of all statements are right.
-use Rattle.std.specs.Prelude.{◌≡◌, ℕ, Bool, List, map, Option, Some, None}
-use mathlib.Core.Path.{refl, sym, ap, subst, ◌∙◌}
+use Rattle.std.specs.Prelude.{◌≡◌, ℕ, Bool, Some, None}
+use mathlib.Core.Path.{refl, sym, subst, ◌∙◌}
 use mathlib.Core.Logic.{inl}
 use Rattle.iv_types.specs.declared.statement.Mode.{Mode}
-use Rattle.iv_types.specs.declared.refusal.Refusal.{Refusal}
 use Rattle.iv_types.specs.Syntax.{StatementTree}
 use Rattle.iv_meaning.specs.Serial.{Unended}
-use Rattle.iv_meaning.specs.Transaction.{Saved, refused_inside, refused_outside}
+use Rattle.iv_meaning.specs.Transaction.{refused_outside}
 use Rattle.script_law.specs.Seen.{Txn}
-use Rattle.script_law.specs.Programs.{Standing, Todo, Job, IsAt, Starts, ProgramLaws, names_of, marked_names}
+use Rattle.script_law.specs.Programs.{Standing, IsAt, Starts, ProgramLaws}
 use Rattle.script_law.specs.Works.{Works, WorkLaws}
 use Rattle.script_law.specs.Sessions.{start_inside, start_outside, refused_marked, programs_of}
 use Rattle.script_law.specs.Laws.{ProgramsLaw}

@@ -12,7 +12,7 @@ use Rattle.txn_machine.specs.Acts.{Act}
 use Rattle.txn_machine.specs.Answers.{Answer}
 use Rattle.script_law.specs.Seen.{Txn, Visible, StepLaws}
 use Rattle.script_law.specs.Programs.{Todo, outside_with, Programs, ProgramLaws}
-use Rattle.script_law.specs.RunLines.{Line, idle, waiting, stepping, held, Table, set_seat, new_table, Outcome, ended, stuck, stepped, printed_later, seat_run, RunsOn, Tries, Pass, Passes, RunsLine, RunsLines, all_sessions}
+use Rattle.script_law.specs.RunLines.{Line, idle, waiting, stepping, held, Table, set_seat, new_table, Outcome, ended, stuck, stepped, printed_later, seat_run, Tries, Pass, Passes, RunsLine, RunsLines, all_sessions}
 use Rattle.script_law.specs.Laws.{IsNew, AreEngines, TranscriptLaw}
 use Rattle.script_law.proofs.Growing.{same_grows}
 use Rattle.script_law.proofs.Agreeing.{SeatAgrees, Within, seat_within, was_alone, others_of, Agrees, objects_in, close}

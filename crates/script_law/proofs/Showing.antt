@@ -1,12 +1,11 @@
 -- What a step of the machine changes of what its session sees.
-use Rattle.std.specs.Prelude.{◌≡◌, ◌≢◌, ◌⊎◌, ℕ, ◌+◌, ◌-◌, ◌==◌, not, true, false, zero, suc, List, [], ◌∷◌, ◌++◌, map, reverse, length, Option, Some, None, IsSome}
+use Rattle.std.specs.Prelude.{◌≡◌, ◌≢◌, ℕ, ◌+◌, ◌-◌, ◌==◌, not, true, false, zero, suc, List, [], ◌∷◌, ◌++◌, map, reverse, length, Option, Some, None}
 use Rattle.std.specs.Option.{option_map}
 use mathlib.Core.Path.{refl, sym, ap, subst, ◌∙◌}
 use mathlib.Core.Logic.{inl, inr}
 use mathlib.Core.List.{reverse_aux}
 use Rattle.std.proofs.Common.{arith, append-nil}
 use Rattle.std.proofs.lemmas.List.{append_assoc}
-use Rattle.std.proofs.lemmas.Option.{none-some}
 use Rattle.std.proofs.lemmas.Bool.{ne_eqb}
 use Rattle.iv_types.specs.declared.statement.Mode.{Mode}
 use Rattle.iv_types.specs.declared.session.Sessions.{Sessions}
@@ -16,9 +15,9 @@ use Rattle.iv_types.specs.declared.lock.GroupDelta.{GroupDelta}
 use Rattle.iv_types.specs.declared.lock.Want.{Want}
 use Rattle.iv_types.specs.Syntax.{StatementTree}
 use Rattle.table_laws.specs.Place.{Place}
-use Rattle.iv_meaning.specs.Schema.{Schema, Object}
+use Rattle.iv_meaning.specs.Schema.{Schema}
 use Rattle.iv_meaning.specs.Database.{Row, Database}
-use Rattle.iv_meaning.specs.Statement.{Kept, sets, defines, keep, keep_all}
+use Rattle.iv_meaning.specs.Statement.{Kept, sets, keep, keep_all}
 use Rattle.iv_meaning.specs.History.{Entry, fold}
 use Rattle.txn_machine.specs.Acts as act
 use Rattle.txn_machine.specs.Acts.{Act}
@@ -29,7 +28,6 @@ use Rattle.txn_machine.specs.Keeping.{KeptStep, Put, Pay, changes_of, Open, begu
 use Rattle.txn_machine.specs.Ghosts.{the_views}
 use Rattle.txn_machine.specs.Store.{Store, schema_of, now, changes_by, change_at, paid_first, undone, entry_changes, Effect, Opens, Takes, Notes, Writes, Pays as PaysEffect, Ghosts, Undoes, Loses, Ends as EndsEffect, Commits as CommitsEffect, Defines, Cleans, Prunes, does, run}
 use Rattle.txn_machine.specs.Store as store
-use Rattle.txn_machine.specs.State.{State}
 use Rattle.txn_machine.specs.May.{MayAct}
 use Rattle.txn_machine.specs.Steps.{Says, MayWait, asked, note_of, CommitsAs}
 use Rattle.txn_machine.specs.Alone.{Fact, Found, WasThere, TookBack, Story, told_after, told_of_undo}
@@ -37,7 +35,7 @@ use Rattle.txn_machine.proofs.Basics.{one_same}
 use Rattle.txn_machine.proofs.Stepping.{now_is, now_locked}
 use Rattle.txn_machine.proofs.Looking.{view_laws}
 use Rattle.txn_machine.proofs.Stories.{told_blocked, told_refused}
-use Rattle.script_law.specs.Seen.{Event, Waits, LacksRow, Fails, Begins, Learns, Finds, FindsThen, Changes, Pays, TakesBack, Ends, Commits, Creates, Denies, Idles, Never, event, changes, in_order, kept_of, taken_back, but_latest, owed_again, is_pay, Txn, txn_after, Visible, committed, open_after, history_after, entries, kept_by}
+use Rattle.script_law.specs.Seen.{Event, LacksRow, Fails, Begins, Learns, Finds, FindsThen, Changes, Pays, TakesBack, Ends, Commits, Creates, Denies, Idles, event, changes, in_order, taken_back, but_latest, owed_again, is_pay, Txn, Visible, committed, open_after, history_after, entries, kept_by}
 use Rattle.script_law.specs.Machine.{kept_seen, txn_seen, seen_of}
 
 -- ---- kept steps

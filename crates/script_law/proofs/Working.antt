@@ -1,5 +1,5 @@
 -- A statement's work in steps: wherever all that it was told is so, it comes to what it comes to alone.
-use Rattle.std.specs.Prelude.{◌≡◌, ◌⊎◌, if◌then◌else◌, ℕ, zero, suc, ◌+◌, ◌-◌, Bool, true, false, IsTrue, ◌||◌, List, [], ◌∷◌, ◌++◌, length, Option, Some, None}
+use Rattle.std.specs.Prelude.{◌≡◌, if◌then◌else◌, ℕ, zero, suc, ◌+◌, ◌-◌, Bool, true, false, IsTrue, ◌||◌, List, [], ◌∷◌, ◌++◌, length, Option, Some, None}
 use mathlib.Core.Path.{refl, sym, ap, subst, ◌∙◌}
 use mathlib.Core.Logic.{inl, inr}
 use Rattle.std.proofs.Common.{arith, append-nil}
@@ -26,11 +26,11 @@ use Rattle.txn_machine.specs.Answers as answer
 use Rattle.txn_machine.specs.Answers.{Answer}
 use Rattle.txn_machine.specs.Deltas.{RowChange}
 use Rattle.txn_machine.specs.Alone.{Fact, Found, WasThere, with_changes}
-use Rattle.script_law.specs.Seen.{Event, Fails, event, is_stop, is_deadlock_event, Txn, taken_back, but_latest, owed_again, is_pay, changes, in_order, IsTruthful, txn_after, Changes, Pays}
-use Rattle.script_law.specs.Programs.{Standing, Todo, says, asks, Job, EndsInChange, AreWhole, Serves, MayCome, Proceeds, next_txn}
+use Rattle.script_law.specs.Seen.{Fails, event, is_stop, is_deadlock_event, Txn, taken_back, but_latest, owed_again, is_pay, changes, in_order, IsTruthful}
+use Rattle.script_law.specs.Programs.{Todo, asks, Job, EndsInChange, AreWhole, Serves, MayCome, Proceeds, next_txn}
 use Rattle.script_law.specs.Works.{Work, done, refuses, fetches, puts, alone_on, OnlyReads, Works, WorkLaws}
-use Rattle.script_law.specs.Sessions.{Frame, reads_by, undo, failed, pays, pay_failed, runs, by_refusal, undo_next, rows_next, paid_next, changed_next}
-use Rattle.script_law.proofs.Changing.{changes_append, redo_append, with_more}
+use Rattle.script_law.specs.Sessions.{Frame, reads_by, undo, failed, pays, pay_failed, runs, undo_next, rows_next, paid_next, changed_next}
+use Rattle.script_law.proofs.Changing.{changes_append, with_more}
 
 -- ---- how a transaction stands since another
 

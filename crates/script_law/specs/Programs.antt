@@ -16,10 +16,9 @@ use Rattle.iv_meaning.specs.Transaction.{Saved, Running, alone, outside, next_nu
 use Rattle.iv_meaning.specs.Serial.{Unended, is_engines, is_deadlock}
 use Rattle.txn_machine.specs.Acts as act
 use Rattle.txn_machine.specs.Acts.{Act}
-use Rattle.txn_machine.specs.Answers as answer
 use Rattle.txn_machine.specs.Answers.{Answer}
 use Rattle.txn_machine.specs.Deltas.{RowChange}
-use Rattle.script_law.specs.Seen.{Event, Waits, LacksRow, Fails, Begins, Learns, Ends, Commits, Creates, Denies, event, is_stop, CanCome, Txn, IsTruthful, kept_of, changes, in_order, txn_after, new_txn, IsReadyIn, MayWant}
+use Rattle.script_law.specs.Seen.{Event, Waits, LacksRow, Begins, Learns, Ends, Commits, Creates, Denies, event, is_stop, CanCome, Txn, IsTruthful, kept_of, changes, in_order, txn_after, new_txn, IsReadyIn, MayWant}
 
 -- ---- programs
 

@@ -1,5 +1,5 @@
 -- What holds of a list in the order of its places holds of its parts around one entry.
-use Rattle.std.specs.Prelude.{◌≢◌, Bool, true, false, cond, [], Option, ◌≡◌, ◌<◌, ◌+◌, suc, T, List, ◌∷◌, ◌++◌, length, Some}
+use Rattle.std.specs.Prelude.{◌≢◌, Bool, true, false, cond, [], Option, ◌≡◌, ◌<◌, T, List, ◌∷◌, ◌++◌, length, Some}
 use mathlib.Core.Path.{refl, sym, subst, ap, ◌∙◌}
 use Rattle.std.proofs.Common.{arith, length-append}
 use Rattle.std.specs.declared.cmp.Ordering.{Ordering}

@@ -1,14 +1,13 @@
 -- Lists in the order of their places as finite maps.
-use Rattle.std.specs.Prelude.{◌≡◌, Bool, true, false, cond, not, T, List, [], ◌++◌, Option, Some, None, length}
+use Rattle.std.specs.Prelude.{◌≡◌, Bool, true, false, cond, not, T, List, [], Option, Some, None, length}
 use mathlib.Core.Path.{refl, sym, ap, ◌∙◌}
-use Rattle.std.specs.declared.cmp.Ordering.TheVariants.{Less, Equal, Greater}
 use Rattle.std.specs.Ordering.{eq_by_cmp, is_eq}
 use Rattle.std.specs.Cmp.{alike_right, eq_by_cmp_equiv, tied_itself}
 use Rattle.std.specs.FinMap.{FinMap, empty, get, insert, remove, entries, find, put, is_sorted, from_sorted, same_map, same_entries_map, entries-from_sorted, entries-insert, get-from_sorted, get-insert, get-remove, empty_of_len, len-entries}
 use Rattle.std.specs.FinMap.Entries.{is_sorted-put, is_sorted-where_key, find-where_key}
 use Rattle.table_laws.specs.Place.{Place, place_cmp}
 use Rattle.table_laws.proofs.Place.{place_cmp_total, place_cmp-IsAntisymmetric}
-use Rattle.spare_map.specs.Trees.{without, first_where}
+use Rattle.spare_map.specs.Trees.{without}
 
 module _ {X : Type 0} where
   pub nothing : from_sorted {X = X} {R = place_cmp} [] ≡ empty

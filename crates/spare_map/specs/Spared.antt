@@ -1,11 +1,11 @@
 -- No clause of `run` rests on this module: it serves contracts between crates.
 --
 -- What a map is to its callers.
-use Rattle.std.specs.Prelude.{ℕ, List}
+use Rattle.std.specs.Prelude.{ℕ}
 use mathlib.Core.Path.{refl}
 use Rattle.std.specs.Coded.{Coded, code_by, coded×, coded_list, coded_ℕ}
 use Rattle.std.specs.FinMap.{FinMap, code}
-use Rattle.table_laws.specs.Place.{Place, place_cmp}
+use Rattle.table_laws.specs.Place.{place_cmp}
 
 pub record Spared (V : Type 0) : Type 0 where
   -- the values under their places

@@ -33,7 +33,8 @@ fn columns(alloc: Global, text: &str) -> anyhow::Result<ColumnList> {
     Ok(columns)
 }
 
-fn places(alloc: Global, text: &str) -> anyhow::Result<Places> {
+/// The places of a text, with spaces between.
+pub fn places(alloc: Global, text: &str) -> anyhow::Result<Places> {
     let mut places = Places::new(alloc);
     for place in text.split(' ') {
         places.push(place.parse::<u32>()?)?;

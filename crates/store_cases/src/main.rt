@@ -11,6 +11,7 @@ mod catalogs;
 mod changed_rows;
 mod changes;
 mod deltas;
+mod fills;
 mod ghost_steps;
 mod locks;
 mod maps;

@@ -5,7 +5,8 @@
 //! yet; both answer `done`. `entries` answers the entries that the latest change removed and made, with ` > ` between and
 //! commas in each, every one as its index, its key and its value in hexadecimal digits, or `nothing`. `used` answers what all entries count. `read
 //! NUMBER INTERVAL` answers the rows of a table in an interval of its keys or of the keys of one of its indexes, whose ends are
-//! values of the first columns of the table's key or of the index, or behind `=` bytes with escapes, with `..` between.
+//! values of the first columns of the table's key or of the index, or behind `=` bytes with escapes, with `..` between. `fill`, as the
+//! last row of a table, fills a new index (`fills`).
 //!
 //! For each row all calls of its table are made again from the first on: what a proof knows of the tables behind a call
 //! is not kept from one row to the next.
@@ -16,6 +17,7 @@ ghost use Rattle.table_store.specs.Stored as specs;
 ghost use Rattle.table_store.specs.Stored.{Holds, IsIndexOf};
 
 use crate::changed_rows::changed_rows;
+use crate::fills::write_filled;
 use crate::table_facts::{
     can_be_taken_back, index_kinds, index_of, is_change, key_of, kinds_at, table_of,
 };
@@ -357,6 +359,7 @@ fn call_all(
     calls: &str,
 ) -> anyhow::Result<String>
     requires { (rows : Rows) × Holds catalog.now rows (map_at tables.old) }
+    ensures { OnOk result ((rows : Rows) × Holds catalog.now rows (map_at tables.new)) }
 {
     let mut out = String::new(alloc);
     for asked in calls.split('\n') {
@@ -365,11 +368,31 @@ fn call_all(
     Ok(out)
 }
 
+// Fills a new index behind some calls.
+fn filled_after(
+    alloc: Global,
+    catalog: &Catalog,
+    tables: &mut Tables<ListMaps>,
+    kept: &mut Vec<Kept>,
+    calls: &str,
+    text: &str,
+) -> anyhow::Result<String>
+    requires { (rows : Rows) × Holds catalog.now rows (map_at tables.old) }
+{
+    forget(call_all(alloc, catalog, tables, kept, calls)?);
+    let mut out = String::new(alloc);
+    write_filled(alloc, &mut out, catalog, tables, text)?;
+    Ok(out)
+}
+
 /// What the last of some calls answers, one a line, of tables without rows.
 pub fn last_answer(alloc: Global, catalog: &Catalog, calls: &str) -> anyhow::Result<String> {
     let mut tables = no_rows(alloc, catalog)?;
     let mut kept = Vec::new(alloc);
-    let told = call_all(alloc, catalog, &mut tables, &mut kept, calls);
+    let told = match calls.rsplit_once("\nfill ") {
+        Some((calls, text)) => filled_after(alloc, catalog, &mut tables, &mut kept, calls, text),
+        None => call_all(alloc, catalog, &mut tables, &mut kept, calls),
+    };
     forget(kept);
     forget(tables);
     told

@@ -1,5 +1,5 @@
 -- A list with one of its places set.
-use Rattle.std.specs.Prelude.{◌≡◌, ◌≢◌, ℕ, zero, suc, ◌<◌, List, [], ◌∷◌, map, length, slice_get, slice_set, Option, Some, None}
+use Rattle.std.specs.Prelude.{◌≡◌, ◌≢◌, ℕ, zero, suc, ◌<◌, List, [], ◌∷◌, map, length, slice_get, slice_set, Some}
 use mathlib.Core.Path.{refl, ap, ◌∙◌}
 use Rattle.std.proofs.Common.{arith}
 

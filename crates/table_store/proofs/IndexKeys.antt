@@ -11,6 +11,7 @@ use Rattle.iv_types.specs.declared.value.Value.{Value}
 use Rattle.iv_types.specs.declared.catalog.TableDef.{TableDef}
 use Rattle.iv_types.specs.declared.catalog.IndexDef.{IndexDef}
 use Rattle.iv_types.specs.Encoding.{kinds_of, Fits, FitAll, key_value_bytes, key_bytes}
+use Rattle.iv_types.proofs.FittingAt.{FitsAt, fits_at, fit_more}
 use Rattle.iv_meaning.specs.Schema.{items_at}
 use Rattle.iv_meaning.specs.Database.{key_of}
 use Rattle.iv_meaning.specs.View.{index_key}
@@ -20,25 +21,6 @@ use Rattle.table_store.proofs.Rows.{some_same}
 
 same_some : {A : Type 0} (x y : A) → Some x ≡ Some y → x ≡ y
 same_some x y e = cc
-
--- a column has both a kind and a value that fits it, or neither
-abbrev pub FitsAt : Option Kind → Option Value → Type 0
-FitsAt None None = Unit {0}
-FitsAt (Some k) (Some v) = Fits k v
-FitsAt _ _ = ⊥
-
-pub fits_at : (ks : List Kind) (vs : List Value) (place : ℕ) → FitAll ks vs → FitsAt (slice_get ks place) (slice_get vs place)
-fits_at [] [] place f = tt
-fits_at [] (v ∷ vs) place f = absurd f
-fits_at (k ∷ ks) [] place f = absurd f
-fits_at (k ∷ ks) (v ∷ vs) zero f = f.0
-fits_at (k ∷ ks) (v ∷ vs) (suc place) f = fits_at ks vs place f.1
-
-fit_more : (k : Option Kind) (v : Option Value) (ks : List Kind) (vs : List Value) → FitsAt k v → FitAll ks vs → FitAll (cons_option k ks) (cons_option v vs)
-fit_more None None ks vs h f = f
-fit_more None (Some v) ks vs h f = absurd h
-fit_more (Some k) None ks vs h f = absurd h
-fit_more (Some k) (Some v) ks vs h f = (h, f)
 
 pub items_fit : (ks : List Kind) (vs : List Value) (places : List ℕ) → FitAll ks vs → FitAll (items_at ks places) (items_at vs places)
 items_fit ks vs [] f = tt

@@ -21,10 +21,11 @@ use Rattle.txn_machine.specs.Store.{notes_before}
 use Rattle.txn_machine.specs.Counts.{note_size, kept_size, kept_change_size, put_size}
 use Rattle.txn_machine.specs.Log.{Logged, rest}
 use Rattle.txn_machine.specs.Deltas.{RowChange}
+use Rattle.txn_machine.specs.RowChanges.{row_change}
 use Rattle.txn_book.specs.Opens.{open_at}
 use Rattle.txn_book.specs.Txns.{Txn, begun, noting, with_ghost, lost, with_put, with_pay, without_step, entry_size}
 use Rattle.txn_book.specs.Books.{Books, IsBook, Seats, Changes}
-use Rattle.txn_book.specs.Holding.{change_of, AreKept, AreCounted, txn_size, changes_size, IsTxn, IsSame, IsEntry, Holds}
+use Rattle.txn_book.specs.Holding.{AreKept, AreCounted, txn_size, changes_size, IsTxn, IsSame, IsEntry, Holds}
 use Rattle.txn_book.specs.declared.open_table.Open.{Open}
 use Rattle.txn_book.proofs.Booking.{set_at, set_other}
 
@@ -127,7 +128,7 @@ module _ (objects : Schema) (t : Txn) (o : machine.Open) (l : Logged) (is : IsTx
     counted = is.counted;
   }
 
-  pub put_is : (k : Kept) (c : RowChange) (owed : List GroupDelta) (number : ℕ) → change_of k.change ≡ c → notes_before (length o.kept) o.notes ≡ o.notes
+  pub put_is : (k : Kept) (c : RowChange) (owed : List GroupDelta) (number : ℕ) → row_change k.change ≡ c → notes_before (length o.kept) o.notes ≡ o.notes
       → IsTxn objects (with_put t k number owed (put_size objects c owed) (kept_change_size objects c)) (record o { kept = machine.Put c owed ∷ o.kept; owed = owed; back = 0 }) (record l { kept = number ∷ l.kept; wrote = true; ghosted = false })
   put_is k c owed number same notes = record {
     mode = is.mode;

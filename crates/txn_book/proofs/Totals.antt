@@ -20,10 +20,11 @@ use Rattle.txn_machine.specs.Counts.{kept_change_size, set_size, size_of_entry, 
 use Rattle.txn_machine.specs.Store.{entry_changes}
 use Rattle.txn_machine.specs.Log.{Logged}
 use Rattle.txn_machine.specs.Deltas.{RowChange}
+use Rattle.txn_machine.specs.RowChanges.{row_change}
 use Rattle.txn_book.specs.Opens.{open_at}
 use Rattle.txn_book.specs.Txns.{changes_in, entry_size}
 use Rattle.txn_book.specs.Books.{Books, IsBook, bytes_of, total_bytes}
-use Rattle.txn_book.specs.Holding.{change_of, AreKept, changes_size, IsSame, IsKept, Holds}
+use Rattle.txn_book.specs.Holding.{AreKept, changes_size, IsSame, IsKept, Holds}
 use Rattle.txn_book.specs.declared.open_table.Open.{Open}
 use Rattle.txn_book.proofs.Booking.{bytes_more, bytes_all}
 
@@ -75,7 +76,7 @@ bytes_law b objects open_of logged history greatest definitions good holds alone
 -- ---- entries
 
 -- changes in order, as an entry of the machine keeps them
-kept_alike : (bs : List KeptStep) (ks : List machine.KeptStep) (ns : List ℕ) → AreKept bs ks ns → AllZip (λ c r. change_of c ≡ r) (changes_in bs) (changes_of ks)
+kept_alike : (bs : List KeptStep) (ks : List machine.KeptStep) (ns : List ℕ) → AreKept bs ks ns → AllZip (λ c r. row_change c ≡ r) (changes_in bs) (changes_of ks)
 kept_alike [] [] ns h = tt
 kept_alike [] (k ∷ ks) ns h = absurd h
 kept_alike (kept.Put k a b n ∷ bs) (machine.Put c owed ∷ ks) (m ∷ ns) h = (h.0, kept_alike bs ks ns h.2)
@@ -105,14 +106,14 @@ zip_reverse R (x ∷ xs) (y ∷ ys) h =
 zip_reverse R [] (y ∷ ys) h = absurd h
 zip_reverse R (x ∷ xs) [] h = absurd h
 
-set_alike : (cs : List Change) (rs : List RowChange) → AllZip (λ c r. change_of c ≡ r) cs rs → AllZip IsKept cs (map sets rs)
+set_alike : (cs : List Change) (rs : List RowChange) → AllZip (λ c r. row_change c ≡ r) cs rs → AllZip IsKept cs (map sets rs)
 set_alike [] [] h = tt
 set_alike (c ∷ cs) (r ∷ rs) h = (h.0, set_alike cs rs h.1)
 set_alike [] (r ∷ rs) h = absurd h
 set_alike (c ∷ cs) [] h = absurd h
 
 pub entry_alike : (bs : List KeptStep) (ks : List machine.KeptStep) (ns : List ℕ) → AreKept bs ks ns → AllZip IsKept (reverse (changes_in bs)) (entry_changes ks)
-entry_alike bs ks ns h = set_alike (reverse (changes_in bs)) (reverse (changes_of ks)) (zip_reverse (λ c r. change_of c ≡ r) (changes_in bs) (changes_of ks) (kept_alike bs ks ns h))
+entry_alike bs ks ns h = set_alike (reverse (changes_in bs)) (reverse (changes_of ks)) (zip_reverse (λ c r. row_change c ≡ r) (changes_in bs) (changes_of ks) (kept_alike bs ks ns h))
 
 -- ---- one more entry
 

@@ -10,7 +10,7 @@ use Rattle.iv_meaning.specs.Schema.{Schema}
 use Rattle.iv_meaning.specs.History.{Entry}
 use Rattle.iv_meaning.specs.Statement.{Kept, sets, defines}
 use Rattle.iv_meaning.specs.Escrow.{IsSession}
-use Rattle.txn_machine.specs.Deltas.{RowChange}
+use Rattle.txn_machine.specs.RowChanges.{row_change}
 use Rattle.txn_machine.specs.Keeping as machine
 use Rattle.txn_machine.specs.Keeping.{Note, changes_of}
 use Rattle.txn_machine.specs.Store.{notes_before}
@@ -22,16 +22,12 @@ use Rattle.txn_book.specs.Books.{Books, number_of}
 use Rattle.txn_book.specs.declared.open_table.Open.{Open}
 use Rattle.txn_book.specs.declared.book.Entry.{Entry as BookEntry}
 
--- the change of the row at a place
-abbrev pub change_of : Change → RowChange
-change_of c = record { key = (c.table, c.key); before = c.before; after = c.after }
-
 -- ---- a transaction
 
 -- The kept steps are the same, and the log has their records' numbers. What deltas a change owed stands in the machine alone.
 abbrev pub AreKept : List KeptStep → List machine.KeptStep → List ℕ → Type 0
 AreKept [] [] [] = Unit {0}
-AreKept (kept.Put k txn_bytes history_bytes number ∷ bs) (machine.Put c owed ∷ ks) (n ∷ ns) = (change_of k.change ≡ c) × (number ≡ n) × AreKept bs ks ns
+AreKept (kept.Put k txn_bytes history_bytes number ∷ bs) (machine.Put c owed ∷ ks) (n ∷ ns) = (row_change k.change ≡ c) × (number ≡ n) × AreKept bs ks ns
 AreKept (kept.Pay d before number ∷ bs) (machine.Pay e ∷ ks) (n ∷ ns) = (d ≡ e) × (number ≡ n) × AreKept bs ks ns
 AreKept _ _ _ = ⊥
 
@@ -74,7 +70,7 @@ IsSame objects _ _ l = ⊥
 -- ---- the book
 
 abbrev pub IsKept : Change → Kept → Type 0
-IsKept c (sets r) = change_of c ≡ r
+IsKept c (sets r) = row_change c ≡ r
 IsKept c (defines object) = (c.table ≡ 0)
 
 -- an entry: a definition is told by its text

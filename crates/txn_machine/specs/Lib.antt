@@ -22,3 +22,4 @@ pub mod KeptLaws
 pub mod LogLaws
 pub mod Parts
 pub mod Example
+pub mod RowChanges

@@ -1,7 +1,7 @@
 -- One row of each table of a view: whether they are counted, and what they contribute.
-use Rattle.std.specs.Prelude.{◌≡◌, ℕ, zero, suc, Bool, true, false, cond, ◌&&◌, ℤ, pos, List, [], ◌∷◌, ◌++◌, map, slice_get, Option, Some, None}
+use Rattle.std.specs.Prelude.{◌≡◌, ℕ, zero, suc, Bool, true, false, cond, ◌&&◌, ℤ, pos, List, [], ◌∷◌, ◌++◌, map, Option, Some, None}
 use mathlib.Core.Path.{refl, sym, ap, subst, ◌∙◌}
-use Rattle.std.specs.List.{AllByRecursion, filter_map, cons_option}
+use Rattle.std.specs.List.{AllByRecursion, filter_map}
 use Rattle.std.specs.Option.{option_to_list, option_map_or}
 use Rattle.std.proofs.Common.{rules, arith}
 use Rattle.std.proofs.lemmas.Int.{ints}
@@ -15,6 +15,7 @@ use Rattle.iv_types.specs.declared.catalog.Second.{Second}
 use Rattle.iv_types.specs.declared.expression.ColumnAt.{ColumnAt}
 use Rattle.iv_types.specs.Encoding.{Fits, FitAll, IsHuge}
 use Rattle.iv_types.proofs.Fitting.{int_is, huge_is}
+use Rattle.iv_types.proofs.FittingAt.{FitsAt, fits_at, fit_more}
 use Rattle.iv_meaning.specs.Schema.{Schema, ViewTree, numbered, kinds_of_table, kind_at, group_kinds, sources_of, primary_of}
 use Rattle.iv_meaning.specs.Database.{Row, Rows}
 use Rattle.iv_meaning.specs.Values.{is_true, value_at}
@@ -36,38 +37,19 @@ counted_two objects v second c e joined key j k =
 
 -- ---- values of rows that fit
 
--- a column's kind and its value, which fits it, or neither
-abbrev Matches : Option Kind → Option Value → Type 0
-Matches None None = Unit {0}
-Matches (Some kind) (Some value) = Fits kind value
-Matches _ _ = ⊥
-
-column_matches : (kinds : List Kind) (row : Row) (place : ℕ) → FitAll kinds row → Matches (slice_get kinds place) (slice_get row place)
-column_matches [] [] place f = tt
-column_matches [] (v ∷ vs) place f = absurd f
-column_matches (k ∷ ks) [] place f = absurd f
-column_matches (k ∷ ks) (v ∷ vs) zero f = f.0
-column_matches (k ∷ ks) (v ∷ vs) (suc place) f = column_matches ks vs place f.1
-
 place_matches : (objects : Schema) (ns : List ℕ) (rows : Combination) (source column : ℕ) → FitEach objects ns rows
-    → Matches (kind_at (map (λ n. kinds_of_table (numbered objects n)) ns) (record { source = source; column = column })) (value_at rows (record { source = source; column = column }))
+    → FitsAt (kind_at (map (λ n. kinds_of_table (numbered objects n)) ns) (record { source = source; column = column })) (value_at rows (record { source = source; column = column }))
 place_matches objects [] [] source column f = tt
 place_matches objects [] (row ∷ rows) source column f = absurd f
 place_matches objects (n ∷ ns) [] source column f = absurd f
-place_matches objects (n ∷ ns) (row ∷ rows) zero column f = column_matches (kinds_of_table (numbered objects n)) row column f.0
+place_matches objects (n ∷ ns) (row ∷ rows) zero column f = fits_at (kinds_of_table (numbered objects n)) row column f.0
 place_matches objects (n ∷ ns) (row ∷ rows) (suc source) column f = place_matches objects ns rows source column f.1
-
-one_more_fits : (o : Option Kind) (p : Option Value) (kinds : List Kind) (values : List Value) → Matches o p → FitAll kinds values → FitAll (cons_option o kinds) (cons_option p values)
-one_more_fits None None kinds values m f = f
-one_more_fits None (Some v) kinds values m f = absurd m
-one_more_fits (Some k) None kinds values m f = absurd m
-one_more_fits (Some k) (Some v) kinds values m f = (m, f)
 
 module _ (objects : Schema) (v : ViewTree) (c : Combination) (f : FitTables objects v c) where
   fit_at : (group : List ColumnAt) → FitAll (filter_map (kind_at (map (λ n. kinds_of_table (numbered objects n)) (sources_of v))) group) (values_at group c)
   fit_at [] = tt
   fit_at (place ∷ group) =
-      one_more_fits (kind_at (map (λ n. kinds_of_table (numbered objects n)) (sources_of v)) place) (value_at c place)
+      fit_more (kind_at (map (λ n. kinds_of_table (numbered objects n)) (sources_of v)) place) (value_at c place)
       (filter_map (kind_at (map (λ n. kinds_of_table (numbered objects n)) (sources_of v))) group) (values_at group c)
       (place_matches objects (sources_of v) c place.source place.column f) (fit_at group)
 
@@ -92,7 +74,7 @@ number_huge Int n f = int_huge n (int_is n f)
 number_huge Huge n f = huge_is n f
 number_huge Text n f = absurd (cc)
 
-matched_huge : (o : Option Kind) (p : Option Value) → Matches o p → IsHuge (number_in p)
+matched_huge : (o : Option Kind) (p : Option Value) → FitsAt o p → IsHuge (number_in p)
 matched_huge o None m = zero_huge
 matched_huge o (Some (Word w)) m = zero_huge
 matched_huge (Some k) (Some (Number n)) m = number_huge k n m

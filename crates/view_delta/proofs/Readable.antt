@@ -28,7 +28,8 @@ use Rattle.table_store.proofs.Held.{of_table, of_index, read_by_table, read_by_i
 use Rattle.table_store.proofs.TableIndexes.{table_number}
 use Rattle.txn_machine.specs.Deltas.{RowChange, rows_after, look_ups, look_up_first, look_up_second}
 use Rattle.txn_machine.specs.ViewLaws.{AreSound, IsRight, IsJoin, IsJoined, primary, secondary}
-use Rattle.view_delta.specs.Owing.{row_change, RowsFit, Finds}
+use Rattle.txn_machine.specs.RowChanges.{row_change}
+use Rattle.view_delta.specs.Owing.{RowsFit, Finds}
 use Rattle.view_delta.specs.Parts.{FitOther, rows_read, looked_up}
 use Rattle.view_delta.proofs.Fits.{other_is}
 use Rattle.view_delta.proofs.LookUps.{found_rows, looked_is, stand, first_read}

@@ -8,17 +8,13 @@ use Rattle.iv_types.specs.declared.lock.Change.{Change}
 use Rattle.iv_types.specs.declared.lock.GroupDelta.{GroupDelta}
 use Rattle.iv_types.specs.Encoding.{FitAll, IsHuge}
 use Rattle.iv_meaning.specs.Schema.{Schema, ViewTree, view, numbered, kinds_of_table}
-use Rattle.txn_machine.specs.Deltas.{RowChange}
+use Rattle.txn_machine.specs.RowChanges.{row_change}
 use Rattle.txn_machine.specs.ViewLaws.{IsJoined, IsRight}
 use Rattle.iv_types.specs.Definitions.{Definitions}
 use Rattle.iv_types.specs.Maps.{Map}
 use Rattle.iv_meaning.specs.Database.{Rows}
 use Rattle.iv_meaning.specs.Objects.{schema_of}
 use Rattle.table_store.specs.Stored.{Holds}
-
--- the change of the row at a place
-abbrev pub row_change : Change → RowChange
-row_change c = record { key = (c.table, c.key); before = c.before; after = c.after }
 
 -- its rows fit the table that it changes
 pub record RowsFit (objects : Schema) (c : Change) : Type 0 where

@@ -8,7 +8,8 @@ ghost use Rattle.table_store.specs.Stored.{CanRead, HoldsRead};
 ghost use Rattle.txn_machine.specs.Deltas as machine;
 ghost use Rattle.txn_machine.specs.Deltas.{owed_to, views_of};
 ghost use Rattle.txn_machine.specs.ViewLaws.{IsJoined};
-ghost use Rattle.view_delta.specs.Owing.{row_change, Finds};
+ghost use Rattle.txn_machine.specs.RowChanges.{row_change};
+ghost use Rattle.view_delta.specs.Owing.{Finds};
 ghost use Rattle.view_delta.specs.Parts.{one_read, rows_read};
 
 use crate::delta::add_deltas;

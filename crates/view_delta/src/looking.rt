@@ -8,7 +8,8 @@ ghost use Rattle.iv_meaning.specs.Sound.{IsTable};
 ghost use Rattle.iv_meaning.specs.Objects.{schema_of, view_tree};
 ghost use Rattle.txn_machine.specs.Deltas.{look_ups, look_up_first};
 ghost use Rattle.txn_machine.specs.ViewLaws.{IsJoined};
-ghost use Rattle.view_delta.specs.Owing.{row_change, RowsFit};
+ghost use Rattle.txn_machine.specs.RowChanges.{row_change};
+ghost use Rattle.view_delta.specs.Owing.{RowsFit};
 ghost use Rattle.view_delta.specs.Wants.{joined_want};
 
 use iv_types::{

@@ -10,7 +10,8 @@ ghost use Rattle.iv_meaning.specs.View as view;
 ghost use Rattle.txn_machine.specs.Deltas as machine;
 ghost use Rattle.txn_machine.specs.Deltas.{entry_wants, look_ups, views_of};
 ghost use Rattle.txn_machine.specs.ViewLaws.{IsJoined};
-ghost use Rattle.view_delta.specs.Owing.{row_change, RowsFit, AreJoined};
+ghost use Rattle.txn_machine.specs.RowChanges.{row_change};
+ghost use Rattle.view_delta.specs.Owing.{RowsFit, AreJoined};
 ghost use Rattle.view_delta.specs.Wants.{index_wants};
 
 use crate::looking::add_needs;

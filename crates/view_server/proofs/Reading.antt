@@ -1,10 +1,10 @@
 -- What a line says of which no form is built.
-use Rattle.std.proofs.Common.{◌≡◌, ◌∙◌, ℕ, true, false, List, Ok, Err, sym, ap, subst}
+use Rattle.std.proofs.Common.{◌≡◌, ◌∙◌, ℕ, false, List, Ok, Err, sym, ap, subst}
 use Rattle.std.proofs.lemmas.Bool.{false≢true}
 use Rattle.iv_types.specs.Syntax.{StatementTree}
 use Rattle.iv_types.specs.Grammar.{Spells}
 use Rattle.iv_types.specs.Refusing.{Refuses}
-use Rattle.iv_meaning.specs.Said.{Said, nothing, too_long, bad, runs, loads, unread, steps, cleans, checkpoints, IsRemark, IsOfSession, HasForm, SaysRead}
+use Rattle.iv_meaning.specs.Said.{nothing, too_long, bad, runs, loads, unread, steps, cleans, checkpoints, IsRemark, IsOfSession, SaysRead}
 use Rattle.iv_meaning.specs.Autocommit.{is_built, built_forms}
 use Rattle.iv_meaning.proofs.SessionLemmas.{session_law}
 use Rattle.sql_parse.proofs.Lines.{not_stated, unique}

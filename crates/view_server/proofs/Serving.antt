@@ -1,12 +1,11 @@
 -- A run that has answered some lines.
-use Rattle.std.proofs.Common.{◌≡◌, ◌≢◌, ◌<◌, ◌+◌, ℕ, Bool, true, false, cond, List, [], ◌∷◌, ◌++◌, length, take, drop, Option, Some, refl, ap, sym, subst, ◌∙◌, arith, append_assoc, inl, inr}
+use Rattle.std.proofs.Common.{◌≡◌, ◌≢◌, ◌<◌, ◌+◌, ℕ, List, [], ◌∷◌, ◌++◌, length, take, drop, Option, Some, refl, ap, sym, subst, ◌∙◌, arith, append_assoc, inl, inr}
 use Rattle.std.specs.Prelude.{◌⊎◌}
 use Rattle.std.proofs.lemmas.List.{take-append-drop}
 use Rattle.std.proofs.lemmas.Option.{none-some}
 use Rattle.iv_meaning.specs.Lines.{first_line, after_line, lines_of}
 use Rattle.iv_meaning.specs.Database.{created}
-use Rattle.iv_meaning.specs.Said.{Said}
-use Rattle.iv_meaning.specs.Serial.{World, Unended, opened_with, IsEnd}
+use Rattle.iv_meaning.specs.Serial.{World, opened_with, IsEnd}
 use Rattle.iv_meaning.specs.Script.{AnswersLines}
 use Rattle.iv_meaning.specs.Autocommit.{built_forms, AnswersWhole, IsScriptOutput, AnswersFirstLines}
 use Rattle.line_wire.specs.Wire.{WroteFront, most_bytes}

@@ -10,8 +10,8 @@ ghost use Rattle.view_server.specs.Spaces.{IsBehindSpaces};
 ghost use Rattle.view_server.specs.Request.{AsksFor, HasNoForm};
 
 use crate::asked::Request;
-use iv_types::MOST_SESSIONS;
 use crate::built_forms::built;
+use iv_types::MOST_SESSIONS;
 use sql_parse::parse;
 use std::alloc::Global;
 use std::str;

@@ -2,7 +2,7 @@ use Rattle.std.proofs.Common.{refl}
 use Rattle.std.specs.List.{flat_map}
 use Rattle.iv_meaning.specs.Objects.{schema_of}
 use Rattle.txn_machine.specs.Deltas.{owed_to, views_of}
-use Rattle.view_delta.specs.Owing.{row_change}
+use Rattle.txn_machine.specs.RowChanges.{row_change}
 use Rattle.plain_machine.proofs.Defined.{one_more, no_more, views_apart}
 use Rattle.plain_machine.proofs.owing.owed_by.Goals as goal
 

@@ -4,7 +4,7 @@ use Rattle.std.specs.FinMap.{get}
 use Rattle.iv_meaning.specs.Objects.{schema_of}
 use Rattle.iv_meaning.specs.Database.{Rows}
 use Rattle.txn_machine.specs.Deltas.{owed, owed_to, views_of}
-use Rattle.view_delta.specs.Owing.{row_change}
+use Rattle.txn_machine.specs.RowChanges.{row_change}
 use Rattle.plain_machine.proofs.owing.owed_by.Given as goal
 
 abbrev pub invariant-loop-number : goal.invariant-loop-number

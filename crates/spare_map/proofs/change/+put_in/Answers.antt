@@ -1,5 +1,4 @@
-use Rattle.std.proofs.Common.{rules, arith, ◌≡◌, ◌++◌, ◌∷◌, [], T, Some, None, ℕ, ◌<◌, length, sym, ap, ◌∙◌, Less, Equal, Greater}
-use Rattle.std.specs.FinMap.{find, put, is_sorted}
+use Rattle.std.proofs.Common.{rules, ◌≡◌, ◌++◌, ◌∷◌, sym, ap, ◌∙◌, Less, Equal, Greater}
 use Rattle.table_laws.specs.Place.{place_cmp}
 use Rattle.spare_map.specs.Trees.{items, own, place}
 use Rattle.spare_map.proofs.Around.{fewer_left, fewer_right, sorted_left, sorted_right, find_left, find_right, find_here, put_left, put_right}

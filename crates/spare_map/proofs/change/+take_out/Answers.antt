@@ -1,8 +1,7 @@
-use Rattle.std.proofs.Common.{rules, arith, ◌≡◌, ◌++◌, ◌∷◌, [], T, Some, None, ℕ, ◌<◌, length, sym, ap, ◌∙◌, Less, Equal, Greater}
-use Rattle.std.specs.FinMap.{find, is_sorted}
+use Rattle.std.proofs.Common.{rules, ◌≡◌, ◌++◌, ◌∷◌, sym, ap, ◌∙◌, Less, Equal, Greater}
 use Rattle.table_laws.specs.Place.{Place, place_cmp}
 use Rattle.table_laws.proofs.Place.{place_cmp-IsAntisymmetric}
-use Rattle.spare_map.specs.Trees.{items, own, place, without}
+use Rattle.spare_map.specs.Trees.{items, own, place}
 use Rattle.spare_map.proofs.Around.{fewer_left, fewer_right, sorted_left, sorted_right, find_left, find_right, find_here, without_left, without_right, without_here}
 use Rattle.spare_map.proofs.change.+take_out.Goals as goal
 

@@ -1,5 +1,5 @@
 use Rattle.std.proofs.Common.{length}
-use Rattle.spare_map.specs.Trees.{items, whole}
+use Rattle.spare_map.specs.Trees.{items}
 use Rattle.spare_map.proofs.change.+take_out.Given as goal
 
 abbrev pub decreases-take_out : goal.decreases-take_out

@@ -1,8 +1,7 @@
-use Rattle.std.proofs.Common.{rules, ◌≡◌, ◌++◌, ◌∷◌, Bool, true, false, T, Some, None, Option, sym, ap, ◌∙◌, Less, Equal, Greater}
+use Rattle.std.proofs.Common.{rules, ◌≡◌, ◌++◌, ◌∷◌, true, false, ap, ◌∙◌}
 use Rattle.std.specs.Option.{option_copied, option_map}
-use Rattle.std.specs.FinMap.{find, is_sorted}
-use Rattle.table_laws.specs.Place.{Place, place_cmp}
-use Rattle.spare_map.specs.Trees.{items, own, place, first_where, is_from}
+use Rattle.table_laws.specs.Place.{Place}
+use Rattle.spare_map.specs.Trees.{items, own, place, is_from}
 use Rattle.spare_map.proofs.Lists.{or_else}
 use Rattle.spare_map.proofs.Around.{sorted_left, sorted_right, first_of_left, first_of_right}
 use Rattle.spare_map.proofs.search.first.Goals as goal

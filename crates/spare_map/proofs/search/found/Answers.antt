@@ -1,8 +1,6 @@
-use Rattle.std.proofs.Common.{rules, ◌≡◌, ◌++◌, ◌∷◌, Bool, true, false, T, Some, None, Option, sym, ap, ◌∙◌, Less, Equal, Greater}
-use Rattle.std.specs.Option.{option_copied, option_map}
-use Rattle.std.specs.FinMap.{find, is_sorted}
+use Rattle.std.proofs.Common.{rules, ◌≡◌, ◌++◌, ◌∷◌, sym, ◌∙◌, Less, Equal, Greater}
 use Rattle.table_laws.specs.Place.{Place, place_cmp}
-use Rattle.spare_map.specs.Trees.{items, own, place, first_where, is_from}
+use Rattle.spare_map.specs.Trees.{items, own, place}
 use Rattle.spare_map.proofs.Around.{sorted_left, sorted_right, find_left, find_right, find_here}
 use Rattle.spare_map.proofs.search.found.Goals as goal
 

@@ -5,7 +5,7 @@ use Rattle.iv_types.specs.declared.lock.Want.{Want}
 use Rattle.iv_meaning.specs.Objects.{schema_of, view_tree}
 use Rattle.table_store.specs.Stored.{CanRead}
 use Rattle.table_store.proofs.Held.{hold_read}
-use Rattle.view_delta.specs.Owing.{row_change}
+use Rattle.txn_machine.specs.RowChanges.{row_change}
 use Rattle.view_delta.specs.Parts.{FitOther, rows_read}
 use Rattle.view_delta.proofs.Readable.{found_fit, can_look_up, looked_fit}
 use Rattle.view_delta.proofs.all_views.add_owed_to.Goals as goal

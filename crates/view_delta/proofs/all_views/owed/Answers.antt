@@ -5,7 +5,7 @@ use Rattle.iv_meaning.specs.Objects.{schema_of}
 use Rattle.txn_machine.specs.Deltas.{owed_to, views_of}
 use Rattle.txn_machine.specs.ViewLaws.{IsJoined}
 use Rattle.txn_machine.proofs.Making.{each_view}
-use Rattle.view_delta.specs.Owing.{row_change}
+use Rattle.txn_machine.specs.RowChanges.{row_change}
 use Rattle.view_delta.proofs.all_views.owed.Goals as goal
 
 pub loop-definition-init : goal.loop-definition-init

@@ -5,7 +5,8 @@ use Rattle.iv_meaning.specs.Objects.{schema_of}
 use Rattle.txn_machine.specs.Deltas as machine
 use Rattle.txn_machine.specs.Deltas.{owed_to, views_of}
 use Rattle.txn_machine.specs.ViewLaws.{IsJoined}
-use Rattle.view_delta.specs.Owing.{row_change, Finds}
+use Rattle.txn_machine.specs.RowChanges.{row_change}
+use Rattle.view_delta.specs.Owing.{Finds}
 use Rattle.view_delta.proofs.all_views.owed.Given as goal
 
 abbrev pub invariant-loop-definition : goal.invariant-loop-definition

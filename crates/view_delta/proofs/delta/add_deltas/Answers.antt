@@ -1,7 +1,7 @@
 use Rattle.std.proofs.Common.{◌∙◌, ◌++◌, sym, ap, append-nil}
 use Rattle.iv_meaning.specs.Objects.{schema_of, view_tree}
 use Rattle.txn_machine.specs.Deltas.{rows_after}
-use Rattle.view_delta.specs.Owing.{row_change}
+use Rattle.txn_machine.specs.RowChanges.{row_change}
 use Rattle.view_delta.proofs.OwedRows.{alone_stays, owed_here, owed_elsewhere}
 use Rattle.std.proofs.lemmas.Result.{on_ok_weaker}
 use Rattle.view_delta.proofs.delta.add_deltas.Goals as goal

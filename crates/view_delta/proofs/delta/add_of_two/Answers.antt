@@ -1,7 +1,7 @@
 use Rattle.std.proofs.Common.{◌∙◌, ◌++◌, sym, ap, append-nil}
 use Rattle.iv_meaning.specs.Objects.{schema_of, view_tree}
 use Rattle.txn_machine.specs.Deltas.{exchanged}
-use Rattle.view_delta.specs.Owing.{row_change}
+use Rattle.txn_machine.specs.RowChanges.{row_change}
 use Rattle.view_delta.specs.Parts.{of_first}
 use Rattle.view_delta.proofs.Fits.{fit_first}
 use Rattle.view_delta.proofs.LookUps.{owed_first, owed_second, owed_neither}

@@ -3,7 +3,7 @@ use Rattle.std.specs.List.{flat_map, AllByRecursion}
 use Rattle.iv_meaning.specs.Objects.{schema_of}
 use Rattle.txn_machine.specs.Deltas.{look_ups, views_of}
 use Rattle.txn_machine.specs.ViewLaws.{IsJoined}
-use Rattle.view_delta.specs.Owing.{row_change}
+use Rattle.txn_machine.specs.RowChanges.{row_change}
 use Rattle.view_delta.proofs.wants.add_all_needs.Given as goal
 
 abbrev pub invariant-loop-definition : goal.invariant-loop-definition

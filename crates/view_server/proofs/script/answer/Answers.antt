@@ -12,7 +12,7 @@ use Rattle.iv_meaning.proofs.SerialLemmas.{alone_piece}
 use Rattle.line_wire.specs.declared.line.Line.TheVariants.{Text}
 use Rattle.list_engine.specs.declared.engine.ListEngine.{ListEngine}
 use Rattle.list_engine.specs.Engine.{IsIn}
-use Rattle.view_server.specs.Answered.{IsIdle, AnswersLine, IsAnswered, IsRun}
+use Rattle.view_server.specs.Answered.{IsIdle, IsAnswered, IsRun}
 use Rattle.view_server.proofs.Running.{ran}
 use Rattle.view_server.proofs.Apart.{append_none}
 use Rattle.view_server.proofs.script.answer.Goals as goal

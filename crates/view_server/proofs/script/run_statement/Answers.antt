@@ -1,4 +1,4 @@
-use Rattle.std.proofs.Common.{◌≡◌, ℕ, List, ◌++◌, Result, Ok, Err, OnOk, refl}
+use Rattle.std.proofs.Common.{◌≡◌, ℕ, List, ◌++◌, Result, Ok, Err, OnOk}
 use Rattle.iv_types.specs.declared.reply.Reply.{Reply}
 use Rattle.iv_types.specs.Syntax.{StatementTree}
 use Rattle.iv_meaning.specs.Database.{Database}

@@ -11,7 +11,6 @@ use Rattle.iv_meaning.specs.Reading.{replies_by}
 use Rattle.query_laws.specs.Laws.{Asks}
 use Rattle.query_exec.specs.Tasks.{left}
 use Rattle.iv_meaning.specs.View.{read as reader}
-use Rattle.list_engine.specs.Engine.{IsReading}
 use Rattle.list_engine.proofs.RunningLemmas.{not_begun, has_begun, still_reading, still_closed}
 use Rattle.list_engine.proofs.engine.ListEngine.run_task.Goals as goal
 

@@ -1,7 +1,7 @@
 use Rattle.std.proofs.Common.{◌≡◌, ◌+◌, Some, refl, sym, ap, ◌∙◌, subst, arith, IfSome}
 use Rattle.std.specs.FinMap.{get}
 use Rattle.table_laws.specs.Table.{write}
-use Rattle.view_delta.specs.Owing.{row_change}
+use Rattle.txn_machine.specs.RowChanges.{row_change}
 use Rattle.plain_machine.specs.Weights.{put_weight}
 use Rattle.txn_book.specs.declared.step.Answer.TheVariants as answer
 use Rattle.plain_machine.proofs.Replacing.{taken_set}

@@ -1,5 +1,5 @@
-use Rattle.std.proofs.Common.{rules, ◌≡◌, T, None, sym, subst, ap, ◌∙◌}
-use Rattle.std.specs.FinMap.{find, get, insert, is_sorted, from_sorted, put}
+use Rattle.std.proofs.Common.{rules, ◌≡◌, T, sym, subst, ap, ◌∙◌}
+use Rattle.std.specs.FinMap.{find, get, insert, is_sorted, from_sorted}
 use Rattle.table_laws.specs.Place.{Place, place_cmp}
 use Rattle.spare_map.specs.Trees.{items, own}
 use Rattle.spare_map.proofs.Maps.{is_got, inserted, sorted_with}

@@ -1,7 +1,7 @@
-use Rattle.std.proofs.Common.{rules, ◌≡◌, T, None, sym, subst, ap, ◌∙◌}
+use Rattle.std.proofs.Common.{rules, ◌≡◌, T, sym, subst, ap, ◌∙◌}
 use Rattle.std.specs.FinMap.{find, get, remove, is_sorted, from_sorted}
 use Rattle.table_laws.specs.Place.{Place, place_cmp}
-use Rattle.spare_map.specs.Trees.{items, without}
+use Rattle.spare_map.specs.Trees.{items}
 use Rattle.spare_map.proofs.Maps.{is_got, removed, sorted_without}
 use Rattle.spare_map.proofs.map.SpareMap.remove.Goals as goal
 use Rattle.spare_map.proofs.map.SpareMap.remove.Goals.{then-self-lt18446744073709551615, else-self-lt18446744073709551615}

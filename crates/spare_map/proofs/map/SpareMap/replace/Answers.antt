@@ -1,8 +1,8 @@
-use Rattle.std.proofs.Common.{rules, ◌≡◌, T, Some, None, IfSome, IsSome, sym, subst, ap, ◌∙◌}
+use Rattle.std.proofs.Common.{◌≡◌, T, Some, None, IfSome, IsSome, sym, subst, ap, ◌∙◌}
 use Rattle.std.specs.Option.{option_map}
 use Rattle.std.specs.FinMap.{find, get, insert, is_sorted, from_sorted, put}
 use Rattle.table_laws.specs.Place.{Place, place_cmp}
-use Rattle.spare_map.specs.Trees.{items, own, place, without}
+use Rattle.spare_map.specs.Trees.{items, own, place}
 use Rattle.spare_map.proofs.Maps.{is_got, sorted_without, sorted_with, none_left, put_back}
 use Rattle.spare_map.proofs.map.SpareMap.replace.Goals as goal
 

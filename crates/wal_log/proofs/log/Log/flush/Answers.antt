@@ -1,4 +1,4 @@
-use Rattle.std.proofs.Common.{◌≡◌, ◌+◌, ◌-◌, ◌≤◌, [], ℕ, take, drop, length, length-take, refl, sym, ◌∙◌, ap, arith}
+use Rattle.std.proofs.Common.{◌≡◌, ◌+◌, ◌-◌, [], ℕ, take, drop, length, length-take, refl, sym, ap, arith}
 use Rattle.std.proofs.lemmas.List.{drop_all}
 use Rattle.std.specs.Vec.{with_items}
 use Rattle.disk_io.proofs.Moments.{weaker_on}
