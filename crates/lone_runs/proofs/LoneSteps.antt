@@ -1,14 +1,11 @@
 -- The steps of a transaction without changes may be asked for.
-use Rattle.std.specs.Prelude.{◌≡◌, ◌⊎◌, ℕ, true, false, [], ◌∷◌, Some, None}
+use Rattle.std.specs.Prelude.{◌≡◌, ℕ, true, [], Some}
 use mathlib.Core.Path.{refl, sym, ap, subst, ◌∙◌}
 use mathlib.Core.Logic.{inl, inr}
 use Rattle.std.proofs.lemmas.Option.{none-some}
 use Rattle.std.specs.FinMap.{empty}
 use Rattle.iv_types.specs.declared.statement.Mode.TheVariants.{Serial}
-use Rattle.iv_types.specs.declared.catalog.Definition.{Definition}
-use Rattle.iv_meaning.specs.Database.{Database}
 use Rattle.iv_meaning.specs.Schema.{Schema}
-use Rattle.iv_meaning.specs.Objects.{schema_of}
 use Rattle.txn_machine.specs.Acts as machine
 use Rattle.txn_machine.specs.Answers as machine_answer
 use Rattle.txn_machine.specs.Ghosts.{the_views}
@@ -17,7 +14,7 @@ use Rattle.txn_machine.specs.Laws.{IsOpened}
 use Rattle.txn_machine.specs.May.{May}
 use Rattle.txn_machine.specs.State.{State}
 use Rattle.txn_machine.specs.Steps.{Step}
-use Rattle.txn_machine.specs.Store.{Effect, Opens, committed, run}
+use Rattle.txn_machine.specs.Store.{committed, run}
 use Rattle.txn_machine.proofs.Basics.{one_same}
 use Rattle.txn_machine.proofs.Beginning.{empty_law}
 use Rattle.txn_book.specs.declared.step.Answer.{Answer}

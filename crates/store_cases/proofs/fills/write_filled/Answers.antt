@@ -2,8 +2,7 @@ use Rattle.std.specs.Prelude.{◌≡◌, ◌≤◌, ℕ, List, [], length, is_so
 use Rattle.std.specs.Option.{option_map}
 use Rattle.std.proofs.Common.{Bor, arith}
 use mathlib.Core.Path.{refl, sym, ap, subst, ◌∙◌}
-use Rattle.iv_types.specs.declared.lock.IndexEntry.{IndexEntry}
-use Rattle.iv_types.specs.Maps.{Map, Entry, entry_at}
+use Rattle.iv_types.specs.Maps.{Map, entry_at}
 use Rattle.table_store.specs.Lists.{Listed, map_at, spare_at}
 use Rattle.table_store.specs.Changes.{CanHoldEach}
 use Rattle.table_store.specs.Filling.{AreIndexEntries}
