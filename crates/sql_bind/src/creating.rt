@@ -19,8 +19,8 @@ use bind_check::{as_table, item_named, join_index, number_of, second_of};
 use bind_resolve::{Joined, NamedItem, ResolvedQuery, place};
 use iv_types::{
     Bound, BoundItem, BoundItemList, BoundOrder, BoundOrderList, BoundSelect, Bytes, Catalog,
-    ColumnAtList, ColumnDef, Definition, Expr, ExprList, IndexDef, NameList, NoMemory, Order, Places,
-    Second, Sequence, TableDef, ViewDef, copied_columns,
+    ColumnAtList, ColumnDef, Definition, Expr, ExprList, IndexDef, NameList, NoMemory, Order,
+    Places, Second, Sequence, TableDef, ViewDef, copied_columns,
 };
 use std::alloc::Global;
 
