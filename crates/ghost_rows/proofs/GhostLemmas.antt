@@ -24,7 +24,7 @@ use Rattle.txn_machine.specs.Stored.{zeros}
 use Rattle.std.specs.List.{AllByRecursion}
 use Rattle.std.specs.Option.{option_map}
 
-column_at : (l : List Column) (at : ℕ) → at < length l → (c : Column) × (slice_get l at ≡ Some c)
+pub column_at : (l : List Column) (at : ℕ) → at < length l → (c : Column) × (slice_get l at ≡ Some c)
 column_at [] at h = absurd (omega (arith, h))
 column_at (c ∷ cs) zero h = (c, refl)
 column_at (c ∷ cs) (suc at) h = column_at cs at (omega (arith, h))
@@ -58,9 +58,9 @@ counted_closed pays count n none v =
     let nothing : pays ≡ no_pays = λ i s. none s i in
     sym v ∙ (ap (λ (p : Pays). value (account count 0 p)) nothing ∙ no_pays_value count)
 
--- the committed count with the kept pays is what is stored, so that it is one alone
-pub same_value : (a b : ℤ) (pays : Pays) (n : ℤ) → value (account a 0 pays) ≡ n → value (account b 0 pays) ≡ n → a ≡ b
-same_value a b pays n x y = same_count a b _ n x y
+-- the committed number of a column with the kept pays is what is stored, so that it is one alone
+pub same_value : (at : ℕ) (a b : ℤ) (pays : Pays) (n : ℤ) → value (account a at pays) ≡ n → value (account b at pays) ≡ n → a ≡ b
+same_value at a b pays n x y = same_count a b _ n x y
 
 pub room_for_one : (stored : Option (List ℕ)) (b : List ℕ) (many : ℕ) (numbers : List ℤ) → Some b ≡ stored → HasNumbers stored (suc many) numbers → 16 ≤ length b
 room_for_one stored b many numbers e has = let l : length b ≡ 16 * suc many = has_length stored b (suc many) numbers e has in omega (arith, l)

@@ -29,6 +29,16 @@ pub length_numbers : (ns : List ℤ) → length (numbers_bytes ns) ≡ 16 * leng
 length_numbers [] = refl
 length_numbers (n ∷ ns) = let rest : length (numbers_bytes ns) ≡ 16 * length ns = length_numbers ns in let l : length (one n ++ numbers_bytes ns) ≡ 16 + length (numbers_bytes ns) = long n (numbers_bytes ns) in omega (arith, l, rest)
 
+-- numbers that fit are told by their bytes
+pub numbers_same : (ns ms : List ℤ) → Fits128 ns → Fits128 ms → numbers_bytes ns ≡ numbers_bytes ms → ns ≡ ms
+numbers_same [] ms f g e = sym (none_left ms (sym e))
+numbers_same (n ∷ ns) [] f g e = none_left (n ∷ ns) e
+numbers_same (n ∷ ns) (m ∷ ms) f g e =
+    let both = signed_split w128 refl n m (numbers_bytes ns) (numbers_bytes ms) f.0 g.0 e in
+    let rest : ns ≡ ms = numbers_same ns ms f.1 g.1 both.1 in
+    let first : n ≡ m = both.0 in
+    λ i. first i ∷ rest i
+
 -- numbers of which some were read, and the bytes of the others are left
 pub record IsLeft (found : List ℤ) (rest : List ℕ) (numbers : List ℤ) : Type 0 where
   pub later : List ℤ

@@ -21,7 +21,7 @@ use Rattle.ghost_rows.specs.declared.shares.Share.{Share}
 use Rattle.ghost_rows.specs.Rows.{OpenRow, OpenRows, row_at, HasRoom, IsSeated, ChangesRow, settled_row, settled_at, left_open}
 use Rattle.ghost_rows.specs.Kept.{Pays, with_pays, width, HasNumbers, RowStands, StandsFor, IsPaid, IsTaken, ArePrefixes, Refuses, IsRefusedAt, committed_at, Keeps, no_pays}
 use Rattle.txn_machine.specs.Deltas.{place_of}
-use Rattle.ghost_rows.specs.State.{State, HasSeat, stored_at}
+use Rattle.ghost_rows.specs.State.{State, HasSeat, stored_at, Stores}
 use Rattle.ghost_rows.proofs.NumberSteps.{length_numbers}
 use Rattle.ghost_rows.proofs.RowLemmas.{moved_many, numbers_huge, huge_fit, pays_here, pays_other, settled_stands, committed_fits}
 
@@ -87,6 +87,16 @@ paid_state d s before rows new place stored next row after pays there st some ch
     moved_state false d new place next after st.numbers (with_pays pays s (d ∷ pays s)) st.has.many changes.here
     (paid.stands st.numbers pays (row_of (row_at rows place) row st.numbers pays there st.row)) (is st.numbers can.1 can.3 can.4)
 
+-- the row is stored with the delta added
+pub paid_stores : (d : GroupDelta) (s : ℕ) (before : List Prefix) (o : Option OpenRow) (maps new : ℕ → Map) (place : Place) (row after : OpenRow) (pays : Pays) (st : StandsFor o (stored_at maps place) (width d) pays) → o ≡ Some row
+    → (stored_at maps place ≡ None → ⊥) → IsPaid s d before row after
+    → ((numbers : List ℤ) → stored_at maps place ≡ Some (numbers_bytes numbers) → Fits128 numbers → Fits128 (moved false 0 numbers d) → stored_at new place ≡ Some (numbers_bytes (moved false 0 numbers d)))
+    → Stores new place (moved false 0 st.numbers d)
+unfolding paid_can
+paid_stores d s before o maps new place row after pays st there some paid is =
+    let can = paid_can d s before o (stored_at maps place) row after pays there st some paid in
+    record { bytes = is st.numbers can.1 can.3 can.4; fit = can.4 }
+
 pub paid_here : (pays : Pays) (s : ℕ) (d : GroupDelta) (earlier : List GroupDelta) (stored : Option (List ℕ)) → pays s ≡ d ∷ earlier → (stored ≡ None → (q : ℕ) → pays q ≡ []) → stored ≡ None → ⊥
 paid_here pays s d earlier stored latest absent none = let e : d ∷ earlier ≡ [] = sym latest ∙ absent none s in cc
 
@@ -111,6 +121,16 @@ taken_state d s before rows new place stored next row after pays earlier there s
     moved_state true d new place next after st.numbers (with_pays pays s earlier) st.has.many changes.here
     (taken.stands st.numbers pays earlier (row_of (row_at rows place) row st.numbers pays there st.row) latest (subst (λ n. ArePrefixes before n earlier) (sym st.has.many) prefixes))
     (is st.numbers can.1 can.3 can.4)
+
+-- the row is stored with the delta taken back
+pub taken_stores : (d : GroupDelta) (s : ℕ) (before : List Prefix) (o : Option OpenRow) (maps new : ℕ → Map) (place : Place) (row after : OpenRow) (pays : Pays) (earlier : List GroupDelta)
+    (st : StandsFor o (stored_at maps place) (width d) pays) → o ≡ Some row → pays s ≡ d ∷ earlier → ArePrefixes before (width d) earlier → IsTaken s d before row after
+    → ((numbers : List ℤ) → stored_at maps place ≡ Some (numbers_bytes numbers) → Fits128 numbers → Fits128 (moved true 0 numbers d) → stored_at new place ≡ Some (numbers_bytes (moved true 0 numbers d)))
+    → Stores new place (moved true 0 st.numbers d)
+unfolding taken_can
+taken_stores d s before o maps new place row after pays earlier st there latest prefixes taken is =
+    let can = taken_can d s before o (stored_at maps place) row after pays earlier there st latest prefixes taken in
+    record { bytes = is st.numbers can.1 can.3 can.4; fit = can.4 }
 
 -- the row in memory of a session with kept pays
 pub row_there : (o : Option OpenRow) (stored : Option (List ℕ)) (w : ℕ) (pays : Pays) (s : ℕ) (d : GroupDelta) (earlier : List GroupDelta) → StandsFor o stored w pays → pays s ≡ d ∷ earlier → IsSome o

@@ -1,7 +1,7 @@
 -- No clause of `run` rests on this module: it serves contracts between crates.
 --
 -- What is kept of the open transactions' pays, beside the stored rows.
-use Rattle.std.specs.Prelude.{◌≡◌, ◌≢◌, ℕ, ◌+◌, ◌*◌, ◌≤◌, List, length, get_or, Option, Some, IsSome, IfSome, refl}
+use Rattle.std.specs.Prelude.{◌≡◌, ◌≢◌, ℕ, ◌+◌, ◌*◌, ◌≤◌, ℤ, List, length, get_or, Option, Some, IsSome, IfSome, refl}
 use Rattle.std.specs.Coded.{Coded, coded_ℕ, coded×, coded_list, code_by}
 use Rattle.std.specs.FinMap.{get, insert}
 use Rattle.iv_types.specs.declared.lock.GroupDelta.{GroupDelta}
@@ -9,6 +9,7 @@ use Rattle.iv_types.specs.Maps.{Map, CanHold, IsWithin, used, with_map}
 use Rattle.table_laws.specs.Place.{Place}
 use Rattle.txn_machine.specs.Deltas.{place_of}
 use Rattle.ghost_rows.specs.Shares.{sum_at}
+use Rattle.ghost_rows.specs.Numbers.{numbers_bytes, Fits128}
 use Rattle.ghost_rows.specs.Rows.{OpenRow, OpenRows, row_at, coded_rows}
 use Rattle.ghost_rows.specs.Candidates.{Places, coded_places}
 use Rattle.ghost_rows.specs.Kept.{Pays, width, StandsFor, IsRefusedAt, committed_at}
@@ -50,6 +51,11 @@ pub record IsReady (state : State) (place : Place) (session : ℕ) : Type 0 wher
 abbrev pub CanStore : (ℕ → Map) → Option ℕ → Place → ℕ → Type 0
 CanStore maps limit place width =
     (value : List ℕ) → length value ≡ 16 * width → CanHold place.0 place.1 value × IsWithin limit (used (with_map maps place.0 (insert (maps place.0) place.1 value)))
+
+-- the row of a place is stored, and has these numbers
+pub record Stores (maps : ℕ → Map) (place : Place) (numbers : List ℤ) : Type 0 where
+  pub bytes : stored_at maps place ≡ Some (numbers_bytes numbers)
+  pub fit : Fits128 numbers
 
 -- the rows of all other places, and the seats of all sessions in them, are as before
 abbrev pub OnlyAt : Place → State → State → Type 0

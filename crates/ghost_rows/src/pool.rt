@@ -1,5 +1,5 @@
 //! Buffers for values of stored rows, made ahead.
-ghost use Rattle.std.specs.Prelude.{◌≡◌, ◌+◌, ◌≤◌, [], length, IfOk, OnOk, OnErr, vec_capacity};
+ghost use Rattle.std.specs.Prelude.{◌≡◌, ◌+◌, ◌≤◌, [], length, IfOk, OnOk, vec_capacity};
 ghost use Rattle.iv_types.specs.declared.limit.TheConstants.{SEATS, VIEW_ROW_BYTES};
 
 use iv_types::{NoMemory, SEATS, VIEW_ROW_BYTES};
@@ -34,17 +34,19 @@ impl Pool {
         }
     }
 
-    /// Makes a buffer.
+    /// Makes buffers, so that there are at least so many.
     ///
     /// # Errors
     ///
-    /// Where there is no memory for it.
-    pub fn add(&mut self, alloc: Global) -> Result<(), NoMemory>
-        ensures ok { OnOk result (self.new ≡ self.old + 1) }
-        ensures err { OnErr result (self.new ≡ self.old) }
+    /// Where there is no memory for them. There are no fewer than before.
+    pub fn fill(&mut self, alloc: Global, many: usize) -> Result<(), NoMemory>
+        ensures filled { OnOk result (many ≤ self.new) }
+        ensures more { self.old ≤ self.new }
     {
-        let buffer = Vec::with_capacity(alloc, VIEW_ROW_BYTES)?;
-        self.buffers.push(buffer)?;
+        while self.buffers.len() < many {
+            let buffer = Vec::with_capacity(alloc, VIEW_ROW_BYTES)?;
+            self.buffers.push(buffer)?;
+        }
         Ok(())
     }
 

@@ -11,7 +11,7 @@ ghost use Rattle.table_store.specs.Stored.{between};
 ghost use Rattle.ghost_rows.specs.Reading.{AreViewRows, Shows};
 ghost use Rattle.txn_machine.specs.Deltas.{place_of};
 ghost use Rattle.ghost_rows.specs.Numbers.{numbers_bytes, moved, Fits128};
-ghost use Rattle.ghost_rows.specs.State.{stored_at, CanStore, StoresOnlyAt};
+ghost use Rattle.ghost_rows.specs.State.{stored_at, CanStore, Stores, StoresOnlyAt};
 ghost use Rattle.ghost_rows.specs.Kept.{width, IsDelta};
 ghost use Rattle.ghost_rows.specs.Candidates.{no_places};
 ghost use Rattle.ghost_rows.specs.Ghosts.{IsListed, StayListed};
@@ -129,12 +129,15 @@ impl ViewRows {
         ensures absent { (result ≡ Err PayRefusal.Absent) ↔ (stored_at (M.maps maps.old) (place_of delta.now) ≡ None) }
         ensures paid { OnOk result ((pays : Pays) → AreKept self.old (M.maps maps.old) (place_of delta.now) (width delta.now) pays
             → AreKept self.new (M.maps maps.new) (place_of delta.now) (width delta.now) (with_pays pays session (delta.now ∷ pays session))) }
+        ensures value { OnOk result ((pays : Pays) (kept : AreKept self.old (M.maps maps.old) (place_of delta.now) (width delta.now) pays)
+            → Stores (M.maps maps.new) (place_of delta.now) (moved false 0 kept.numbers delta.now)) }
         ensures before { IfOk result (λ before. (pays : Pays) → AreKept self.old (M.maps maps.old) (place_of delta.now) (width delta.now) pays
             → ArePrefixes before (width delta.now) (pays session)) }
         ensures escrow { IfErr result (IsRefusal self.old (M.maps maps.old) session delta.now) }
         ensures allowed { OnOk result ((pays : Pays) (row : OpenRow) → AreKept self.old (M.maps maps.old) (place_of delta.now) (width delta.now) pays
             → row_at self.old.rows (place_of delta.now) ≡ Some row → IsAllowedIn (committed_at row) pays session delta.now (width delta.now)) }
         ensures err { OnErr result ((q : Place) → (row_at self.new.rows q ≡ row_at self.old.rows q) × (stored_at (M.maps maps.new) q ≡ stored_at (M.maps maps.old) q)) }
+        ensures same { OnErr result (maps.new ≡ maps.old) }
         ensures rooms { OnErr result (self.new.rooms ≡ self.old.rooms) }
         ensures room { OnOk result (MovesRoom session self.old self.new) }
         ensures others { OnlyAt (place_of delta.now) self.old self.new }
@@ -179,6 +182,9 @@ impl ViewRows {
         ensures taken { (pays : Pays) (earlier : List GroupDelta) → AreKept self.old (M.maps maps.old) (place_of delta.now) (width delta.now) pays
             → pays session ≡ delta.now ∷ earlier → ArePrefixes before.now (width delta.now) earlier
             → AreKept self.new (M.maps maps.new) (place_of delta.now) (width delta.now) (with_pays pays session earlier) }
+        ensures value { (pays : Pays) (earlier : List GroupDelta) (kept : AreKept self.old (M.maps maps.old) (place_of delta.now) (width delta.now) pays)
+            → pays session ≡ delta.now ∷ earlier → ArePrefixes before.now (width delta.now) earlier
+            → Stores (M.maps maps.new) (place_of delta.now) (moved true 0 kept.numbers delta.now) }
         ensures room { MovesRoom session self.old self.new }
         ensures others { OnlyAt (place_of delta.now) self.old self.new }
         ensures stores { StoresOnlyAt (place_of delta.now) (M.maps maps.old) (M.maps maps.new) }
@@ -253,7 +259,8 @@ impl ViewRows {
         seat_in(&mut self.rows, self.alloc, maps, delta, session)
     }
 
-    /// Makes all that one `pay` of the delta by the session and its `take_back` need.
+    /// Makes all that pays of the delta by the session and their taking back need: room in the row, and buffers, so that the
+    /// session has at least `room`. A `pay` uses one, and its `take_back` another.
     ///
     /// # Errors
     ///
@@ -263,6 +270,7 @@ impl ViewRows {
         maps: &M,
         delta: &GroupDelta,
         session: u32,
+        room: usize,
     ) -> Result<(), NoMemory>
         requires session { IsSession session }
         requires delta { IsDelta delta.now }
@@ -270,7 +278,7 @@ impl ViewRows {
         ensures kept { (pays : Pays) → AreKept self.old (M.maps maps.now) (place_of delta.now) (width delta.now) pays
             → AreKept self.new (M.maps maps.now) (place_of delta.now) (width delta.now) pays }
         ensures seat { OnOk result (HasSeat self.new (place_of delta.now) session) }
-        ensures room { OnOk result (room_of self.new session ≡ room_of self.old session + 2) }
+        ensures room { OnOk result (room ≤ room_of self.new session) }
         ensures rooms { (s : ℕ) → room_of self.old s ≤ room_of self.new s }
         ensures others { OnlyAt (place_of delta.now) self.old self.new }
         ensures seats { (s : ℕ) → HasSeat self.old (place_of delta.now) s → HasSeat self.new (place_of delta.now) s }
@@ -283,8 +291,7 @@ impl ViewRows {
         {
             self.sit(maps, delta, session)?;
         }
-        self.pools[session as usize].add(self.alloc)?;
-        self.pools[session as usize].add(self.alloc)
+        self.pools[session as usize].fill(self.alloc, room)
     }
 
     /// The stored rows of a view whose encoded groups lie in the interval, in the order of these, ghosts included, as the

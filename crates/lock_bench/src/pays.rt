@@ -80,7 +80,7 @@ fn end_and_pay(
     ensures kept { OnOk result ((pays : Pays) × AreKept rows.new (map_at maps.new) (1, 7 ∷ []) 2 pays) }
 {
     rows.settle(session);
-    rows.reserve(maps, delta, session)?;
+    rows.reserve(maps, delta, session, 2)?;
     Ok(rows.pay(maps, session, delta).is_ok())
 }
 
@@ -98,7 +98,7 @@ fn pay_and_take_back(
     requires kept { (pays : Pays) × AreKept rows.old (map_at maps.old) (1, 7 ∷ []) 2 pays }
     ensures kept { OnOk result ((pays : Pays) × AreKept rows.new (map_at maps.new) (1, 7 ∷ []) 2 pays) }
 {
-    rows.reserve(maps, delta, session)?;
+    rows.reserve(maps, delta, session, 2)?;
     match rows.pay(maps, session, delta) {
         Ok(before) => {
             rows.take_back(maps, session, delta, &before);

@@ -17,6 +17,7 @@ use Rattle.txn_machine.specs.Steps.{asked, waits_after, definitions_after, Step,
 use Rattle.txn_machine.specs.Laws.{IsReached}
 use Rattle.txn_machine.proofs.Basics.{one_same, one_other}
 use Rattle.txn_book.specs.Acts.{answer_of}
+use Rattle.txn_book.proofs.Leading.{leads_on}
 use Rattle.plain_machine.specs.Weights.{store_weight, most_weight}
 use Rattle.plain_machine.specs.Locking.{HasLocks}
 use Rattle.plain_machine.specs.Stands.{HoldsStore, Told, Moved}
@@ -25,22 +26,6 @@ use Rattle.txn_book.specs.declared.step.Answer.{Answer}
 use Rattle.txn_book.specs.declared.step.Answer.TheVariants as answer
 use Rattle.plain_machine.specs.declared.machine.Machine.{Machine}
 use Rattle.txn_machine.specs.Counts.{definition_sizes}
-
--- ---- steps lead on
-
-run_push : (s : State) (ds : List Did) (middle : State) (d : Did) (after : State) → Run s ds middle → Step middle d.session d.act d.said after → Run s (ds ++ d ∷ []) after
-run_push s [] middle d after r step = (after, subst (λ x. Step x d.session d.act d.said after) r step, refl)
-run_push s (x ∷ ds) middle d after r step = (r.0, r.1, run_push r.0 ds middle d after r.2 step)
-
-pub leads_on : (s : State) (i : ℕ) (a : Act) (said : machine_answer.Answer) (after : State) → IsReached s → Step s i a said after → IsReached after
-leads_on s i a said after r step = record {
-  db = r.db;
-  view = r.view;
-  opening = r.opening;
-  was_opened = r.was_opened;
-  steps = r.steps ++ record { session = i; act = a; said = said } ∷ [];
-  run = run_push _ r.steps s (record { session = i; act = a; said = said }) after r.run step;
-}
 
 -- ---- what a session waits for
 

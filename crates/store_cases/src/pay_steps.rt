@@ -130,7 +130,7 @@ pub fn pay(
         → (after : Pays) × AreKept rows.new (map_at maps.new) (1, 7 ∷ []) 2 after × ((s : ℕ) → s ≢ session → after s ≡ pays s)) }
     ensures rooms { OnOk result ((s : ℕ) → s ≢ session → room_of rows.old s ≤ room_of rows.new s) }
 {
-    rows.reserve(maps, delta, session)?;
+    rows.reserve(maps, delta, session, 2)?;
     Ok(rows.pay(maps, session, delta))
 }
 

@@ -29,7 +29,8 @@ index_at (Some (View v)) n i h is = absurd (cc)
 pub index_number : (ds : Definitions) (n : ℕ) (i : IndexDef) → AreNumbered ds → index_of ds n ≡ Some i → i.number ≡ n
 index_number ds n i h is = index_at (numbered ds n) n i (h n) is
 
-alike : (ds : Definitions) (n : ℕ) → schema.numbered (schema_of ds) n ≡ option_map object_of (numbered ds n)
+-- the object of a number
+pub alike : (ds : Definitions) (n : ℕ) → schema.numbered (schema_of ds) n ≡ option_map object_of (numbered ds n)
 alike ds zero = refl
 alike ds (suc n) = slice_get-map object_of ds n
 

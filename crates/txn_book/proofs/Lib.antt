@@ -4,3 +4,4 @@ pub mod Booking
 pub mod Holding
 pub mod Totals
 pub mod Entering
+pub mod Leading

@@ -7,7 +7,7 @@ ghost use Rattle.iv_types.specs.declared.lock.KeptStep.{KeptStep as Step};
 ghost use Rattle.txn_book.specs.declared.open_table.Open.{Open as Transaction};
 ghost use Rattle.txn_book.specs.Opens.{open_at};
 ghost use Rattle.txn_book.specs.Txns.{HasRoomFor, IsRoomy, txn_of, entry_size, begun, noting, with_ghost, lost, with_put, with_pay, without_step, kept_in};
-ghost use Rattle.txn_book.specs.Books.{CanKeep, Changes, Committed, Defined, IsLeastOpen, IsOpenAnd, IsSame, OfOpen, Seats, bytes_of, how_many_open, least_snapshot, number_of, total_bytes};
+ghost use Rattle.txn_book.specs.Books.{CanKeep, Changes, Committed, Defined, IsBook, IsLeastOpen, IsOpenAnd, IsSame, OfOpen, Seats, bytes_of, how_many_open, least_snapshot, number_of, total_bytes};
 
 use crate::kept_steps::{Owing, changes_of, keep, make_room, pay, undo};
 use crate::open_table::{Open, OpenTable};
@@ -117,6 +117,13 @@ impl Book {
             history: Vec::new(alloc),
             entry_bytes: 0,
         })
+    }
+
+    /// What always holds of a book. It does nothing.
+    pub fn book_law(&self)
+        ensures { IsBook self.now }
+    {
+        let _opened = self.opened;
     }
 
     /// The greatest commit number.

@@ -12,7 +12,7 @@ use Rattle.ghost_rows.proofs.view_rows.ViewRows.is_ghost.Goals as goal
 pub returns-in-Some-clause-count : goal.returns-in-Some-clause-count
 returns-in-Some-clause-count g c = λ many pays kept count v there.
     let r : ℤ = c.in-Some.count in
-    let is : r ≡ count = same_value r count pays _ (c.in-Some.ensures.count many pays kept) v in
+    let is : r ≡ count = same_value 0 r count pays _ (c.in-Some.ensures.count many pays kept) v in
     let fit : FitsSigned w128 r = search rules in
     (λ e. sym is ∙ zero_is r fit e, λ e. is_zero r (is ∙ e))
 
@@ -30,5 +30,5 @@ returns-in-Some-clause-answer g c =
         there = some_there stored (λ none. let no : Some r ≡ None = sym c.in-Some.is ∙ c.committed_count.ensures.none.1 none in cc);
         count = ap (λ z. value (account z 0 c.requires.1)) (sym (zero_is r fit e)) ∙ c.in-Some.ensures.count c.requires.0 c.requires.1 kept;
       },
-      λ ghost. is_zero r (same_value r (pos 0) ghost.pays _ (c.in-Some.ensures.count ghost.many ghost.pays ghost.kept) ghost.count),
+      λ ghost. is_zero r (same_value 0 r (pos 0) ghost.pays _ (c.in-Some.ensures.count ghost.many ghost.pays ghost.kept) ghost.count),
     )

@@ -9,7 +9,7 @@ use Rattle.table_laws.proofs.SetPlaces.{set_length}
 use Rattle.ghost_rows.proofs.SeatLemmas.{still_open, still_seated}
 use Rattle.ghost_rows.proofs.ListedLemmas.{moved_listed}
 use Rattle.ghost_rows.specs.State.{State, stored_at}
-use Rattle.ghost_rows.proofs.StateLemmas.{some_of, some_there, row_of, paid_can, paid_state, copied_some, told_at, refusal_at, refusal_as}
+use Rattle.ghost_rows.proofs.StateLemmas.{some_of, some_there, row_of, paid_can, paid_state, paid_stores, copied_some, told_at, refusal_at, refusal_as}
 use Rattle.ghost_rows.proofs.view_rows.ViewRows.pay.Goals as goal
 
 pub store_moved-requires-clause-stored : goal.store_moved-requires-clause-stored
@@ -31,6 +31,16 @@ returns-in-Ok-clause-paid g c = λ pays kept.
     let told = told_at c.self.inside.rows c.args.self.now.rows c.pay.new.self d c.as_slice-group.result.now c.args.session c.in-Ok.before seat.0 rows c.as_slice-group.ensures c.in-Ok.ensures.paid seat.1 in
     paid_state d c.args.session c.in-Ok.before c.args.self.now.rows c.pay.new.self (place_of d) (stored_at maps (place_of d)) (stored_at (g.M.SortedMaps.maps c.store_moved.new.maps) (place_of d)) seat.0 told.0 pays seat.1 kept
     (copied_some c.get.result (stored_at maps (place_of d)) (c.get.ensures ∙ ap (get (maps d.view)) c.as_slice.ensures) c.if-is_none.ensures) told.1 told.2 c.store_moved.ensures.entry
+
+pub returns-in-Ok-clause-value : goal.returns-in-Ok-clause-value
+returns-in-Ok-clause-value g c = λ pays kept.
+    let d : GroupDelta = c.args.delta.now in
+    let maps = g.M.SortedMaps.maps c.args.maps.now in
+    let rows : c.self.inside.rows ≡ c.args.self.now.rows = ap (λ (s : State). s.rows) c.self.view_is in
+    let seat = some_of (row_at c.args.self.now.rows (place_of d)) c.requires.ready.seat.1 in
+    let told = told_at c.self.inside.rows c.args.self.now.rows c.pay.new.self d c.as_slice-group.result.now c.args.session c.in-Ok.before seat.0 rows c.as_slice-group.ensures c.in-Ok.ensures.paid seat.1 in
+    paid_stores d c.args.session c.in-Ok.before (row_at c.args.self.now.rows (place_of d)) maps (g.M.SortedMaps.maps c.store_moved.new.maps) (place_of d) seat.0 told.0 pays kept seat.1
+    (copied_some c.get.result (stored_at maps (place_of d)) (c.get.ensures ∙ ap (get (maps d.view)) c.as_slice.ensures) c.if-is_none.ensures) told.2 c.store_moved.ensures.entry
 
 pub returns-in-Ok-clause-allowed : goal.returns-in-Ok-clause-allowed
 returns-in-Ok-clause-allowed g c = λ pays row kept there.

@@ -7,7 +7,7 @@ use Rattle.ghost_rows.proofs.SeatLemmas.{still_open, still_seated}
 use Rattle.ghost_rows.proofs.ListedLemmas.{moved_listed}
 use Rattle.ghost_rows.specs.Kept.{width}
 use Rattle.ghost_rows.specs.State.{State, stored_at}
-use Rattle.ghost_rows.proofs.StateLemmas.{some_of, some_there, paid_here, row_there, taken_can, taken_state, taken_at}
+use Rattle.ghost_rows.proofs.StateLemmas.{some_of, some_there, paid_here, row_there, taken_can, taken_state, taken_stores, taken_at}
 use Rattle.ghost_rows.proofs.view_rows.ViewRows.take_back.Goals as goal
 
 pub store_moved-requires-clause-stored : goal.store_moved-requires-clause-stored
@@ -31,6 +31,15 @@ returns-clause-taken g c = λ pays earlier kept latest prefixes.
     let told = taken_at c.self.inside.rows c.args.self.now.rows c.take_back.new.self d c.as_slice-group.result.now c.args.session c.args.before.now seat.0 rows c.as_slice-group.ensures c.take_back.ensures seat.1 in
     taken_state d c.args.session c.args.before.now c.args.self.now.rows c.take_back.new.self (place_of d) (stored_at maps (place_of d)) (stored_at (g.M.SortedMaps.maps c.store_moved.new.maps) (place_of d)) seat.0 told.0 pays earlier seat.1 kept
     latest prefixes told.1 told.2 c.store_moved.ensures.entry
+
+pub returns-clause-value : goal.returns-clause-value
+returns-clause-value g c = λ pays earlier kept latest prefixes.
+    let d : GroupDelta = c.args.delta.now in
+    let maps = g.M.SortedMaps.maps c.args.maps.now in
+    let rows : c.self.inside.rows ≡ c.args.self.now.rows = ap (λ (s : State). s.rows) c.self.view_is in
+    let seat = some_of (row_at c.args.self.now.rows (place_of d)) (row_there (row_at c.args.self.now.rows (place_of d)) (stored_at maps (place_of d)) (width d) pays c.args.session d earlier kept latest) in
+    let told = taken_at c.self.inside.rows c.args.self.now.rows c.take_back.new.self d c.as_slice-group.result.now c.args.session c.args.before.now seat.0 rows c.as_slice-group.ensures c.take_back.ensures seat.1 in
+    taken_stores d c.args.session c.args.before.now (row_at c.args.self.now.rows (place_of d)) maps (g.M.SortedMaps.maps c.store_moved.new.maps) (place_of d) seat.0 told.0 pays earlier kept seat.1 latest prefixes told.2 c.store_moved.ensures.entry
 
 pub invariant_of-self : goal.invariant_of-self
 invariant_of-self g c =

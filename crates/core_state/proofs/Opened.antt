@@ -1,0 +1,99 @@
+-- A core as it is made, and as a step begins.
+use Rattle.std.specs.Prelude.{◌≡◌, ℕ, [], length, Option, None, refl}
+use Rattle.std.specs.List.{AllZip}
+use Rattle.std.specs.FinMap.{empty}
+use mathlib.Core.Path.{sym, ap, subst, ◌∙◌}
+use Rattle.std.proofs.Common.{arith}
+use Rattle.table_laws.proofs.Stored.{by_session}
+use Rattle.iv_types.specs.Maps.{Map}
+use Rattle.lock_manager.specs.Table as table
+use Rattle.lock_manager.specs.Table.{Table, SessionLocks, IsCancelled, IsNew}
+use Rattle.lock_desk.specs.Asking.{HasLocks}
+use Rattle.iv_meaning.specs.Database.{Database}
+use Rattle.txn_machine.specs.Laws.{EmptyLaw}
+use Rattle.txn_machine.specs.Log.{unlimited, not_logged}
+use Rattle.txn_machine.specs.Store.{locks_of, opened}
+use Rattle.txn_machine.specs.State.{State, opened_state}
+use Rattle.txn_book.specs.Holding as book
+use Rattle.txn_book.specs.Opens.{open_at}
+use Rattle.txn_book.specs.declared.open_table.Open.{Open}
+use Rattle.data_store.specs.Contents.{no_contents}
+use Rattle.data_store.specs.Held.{IsHeld}
+use Rattle.core_state.specs.Seats.{new_seat, seat_at, machine_seat, machine_cleaner}
+use Rattle.core_state.specs.Stands.{Stands, Began}
+use Rattle.core_state.specs.declared.state.CoreState.{CoreState}
+
+module _ {M : Type 0} (maps : M → ℕ → Map) (core : CoreState M) (t : Table) (s : State) (i : ℕ) where
+  locks_same : IsCancelled core.locks t i → (j : ℕ) → table.locks_of t j ≡ table.locks_of core.locks j
+  locks_same cancelled j = by_session j i
+      (λ e. subst (λ k. table.locks_of t k ≡ table.locks_of core.locks k) (sym e) (ap (λ (x : SessionLocks). x.locks) cancelled.changed))
+      (λ n. ap (λ (x : SessionLocks). x.locks) (cancelled.others j n))
+
+  -- the session waits for nothing
+  pub begins : IsCancelled core.locks t i → Stands maps core s → s.stop ≡ None → Began maps (record core { locks = t }) s i
+  begins cancelled h runs = record {
+    reached = h.reached;
+    opening = h.opening;
+    runs = runs;
+    holds = record {
+      stored = h.holds.stored;
+      book = h.holds.book;
+      locks = λ j js. subst (λ ls. HasLocks ls (locks_of s.store j)) (sym (locks_same cancelled j)) (h.holds.locks j js);
+      begun = h.holds.begun;
+      next = h.holds.next;
+    };
+    own = λ _. ap (λ (x : SessionLocks). x.waiting) cancelled.changed;
+    waiting = λ j js n. ap (λ (x : SessionLocks). x.waiting) (cancelled.others j n) ∙ h.waiting j js;
+    counts = record {
+      steps = h.counts.steps;
+      seats = h.counts.seats;
+      few = h.counts.few;
+      cleaner = h.counts.cleaner;
+      removed = h.counts.removed;
+      running = h.counts.running;
+      stop = h.counts.stop;
+    };
+  }
+
+-- ---- a new core
+
+module _ {M : Type 0} (maps : M → ℕ → Map) (core : CoreState M) (number : ℕ) where
+  abbrev the_db : Database
+  the_db = record { number = number; schema = []; rows = empty }
+
+  abbrev the_state : State
+  the_state = opened_state unlimited (opened the_db empty)
+
+  nobody : (o : Option Open) → o ≡ None → book.IsSame [] o None not_logged
+  nobody o e = subst (λ x. book.IsSame [] x None not_logged) (sym e) tt
+
+  -- it stands where the machine begins
+  pub made : EmptyLaw → IsHeld core.store.catalog (maps core.store.tables) core.store.views no_contents → core.book.opened ≡ number → core.book.history ≡ [] → core.book.entry_bytes ≡ 0 → ((session : ℕ) → open_at core.book.opens session ≡ None)
+      → IsNew core.locks → core.begun ≡ 0 → core.next ≡ 1 → core.steps ≡ 0 → ((session : ℕ) → seat_at core.seats session ≡ new_seat) → machine_cleaner core.cleaner ≡ the_state.cleaner → core.stop ≡ None → Stands maps core the_state
+  made law stored opened_at history bytes none new begun next steps seats cleaner stop = record {
+    reached = record { db = the_db; view = empty; opening = unlimited; was_opened = law number; steps = []; run = refl };
+    opening = refl;
+    holds = record {
+      stored = stored;
+      book = record {
+        number = omega (arith, opened_at, ap length history);
+        nobody = none 0;
+        txns = λ j js. nobody (open_at core.book.opens j) (none j);
+        entries = subst (λ es. AllZip book.IsEntry es []) (sym history) tt;
+        bytes = bytes;
+      };
+      locks = λ j js. subst (λ ls. HasLocks ls []) (sym (ap (λ (x : SessionLocks). x.locks) (new j))) (λ w. (λ h. h, λ h. h));
+      begun = begun;
+      next = next;
+    };
+    waiting = λ j js. ap (λ (x : SessionLocks). x.waiting) (new j);
+    counts = record {
+      steps = steps;
+      seats = λ j le. ap machine_seat (seats j);
+      few = λ j. omega arith;
+      cleaner = cleaner;
+      removed = omega arith;
+      running = λ e. omega arith;
+      stop = stop;
+    };
+  }

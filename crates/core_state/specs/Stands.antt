@@ -1,0 +1,86 @@
+-- No clause of `run` rests on this module: it serves contracts between crates.
+--
+-- In which state of the machine a core is. It has no limits of log and data, and no disk.
+use Rattle.std.specs.Prelude.{◌≡◌, ◌≢◌, ℕ, ◌<◌, ◌≤◌, List, [], None, false, true, Bool}
+use Rattle.std.specs.Option.{option_map}
+use Rattle.iv_types.specs.Maps.{Map}
+use Rattle.iv_types.specs.declared.session.Sessions.{Sessions}
+use Rattle.iv_meaning.specs.Escrow.{IsSession}
+use Rattle.lock_manager.specs.Table as table
+use Rattle.lock_desk.specs.Asking.{HasLocks}
+use Rattle.txn_machine.specs.Acts.{Act}
+use Rattle.txn_machine.specs.Answers.{Answer, Blocked}
+use Rattle.txn_machine.specs.Counts.{definition_sizes}
+use Rattle.txn_machine.specs.Store.{Store, Effect, committed, schema_of, locks_of, run}
+use Rattle.txn_machine.specs.Ghosts.{the_views}
+use Rattle.txn_machine.specs.Log.{Log, unlimited}
+use Rattle.txn_machine.specs.State.{State, is_fault, most_steps}
+use Rattle.txn_machine.specs.Steps.{Says, Step, asked, definitions_after, log_after}
+use Rattle.txn_machine.specs.Laws.{IsReached}
+use Rattle.txn_book.specs.Holding as book
+use Rattle.data_store.specs.Contents.{contents_of}
+use Rattle.data_store.specs.Held.{IsHeld}
+use Rattle.core_state.specs.Seats.{machine_seat, machine_cleaner, seat_at}
+use Rattle.core_state.specs.declared.state.CoreState.{CoreState}
+
+-- the session waits
+abbrev pub is_blocked : Answer → Bool
+is_blocked (Blocked sessions) = true
+is_blocked _ = false
+
+module _ {M : Type 0} (maps : M → ℕ → Map) where
+  -- what is stored, the open transactions with their locks, and the history
+  pub record Holds (core : CoreState M) (store : Store) (log : Log) (definitions : List (List ℕ)) : Type 0 where
+    pub stored : IsHeld core.store.catalog (maps core.store.tables) core.store.views (contents_of store)
+    pub book : book.Holds core.book (schema_of store) store.open_of log.logged store.history (committed store).number (definition_sizes definitions)
+    pub locks : (session : ℕ) → IsSession session → HasLocks (table.locks_of core.locks session) (locks_of store session)
+    pub begun : core.begun ≡ log.begun
+    pub next : core.next ≡ log.next
+
+  -- the counts of steps, and what sessions were told
+  pub record Counts (core : CoreState M) (s : State) : Type 0 where
+    pub steps : core.steps ≡ s.steps
+    pub seats : (session : ℕ) → session ≤ 64 → machine_seat (seat_at core.seats session) ≡ s.seat_of session
+    pub few : (session : ℕ) → (s.seat_of session).steps ≤ s.steps
+    pub cleaner : machine_cleaner core.cleaner ≡ s.cleaner
+    pub removed : s.cleaner.removed ≤ s.steps
+    pub running : s.stop ≡ None → s.steps < most_steps
+    pub stop : core.stop ≡ option_map (λ x. x.step) s.stop
+
+  -- a core is in a state that steps lead to
+  pub record Stands (core : CoreState M) (s : State) : Type 0 where
+    pub reached : IsReached s
+    pub opening : s.opening ≡ unlimited
+    pub holds : Holds core s.store s.log s.definitions
+    pub waiting : (session : ℕ) → IsSession session → table.waiting_of core.locks session ≡ s.waiting session
+    pub counts : Counts core s
+
+  -- a session's step has begun: it waits for nothing, and nothing else has changed
+  pub record Began (core : CoreState M) (s : State) (session : ℕ) : Type 0 where
+    pub reached : IsReached s
+    pub opening : s.opening ≡ unlimited
+    pub runs : s.stop ≡ None
+    pub holds : Holds core s.store s.log s.definitions
+    pub own : IsSession session → table.waiting_of core.locks session ≡ []
+    pub waiting : (other : ℕ) → IsSession other → other ≢ session → table.waiting_of core.locks other ≡ s.waiting other
+    pub counts : Counts core s
+
+  -- an act was answered so, and the core holds what its effects leave
+  pub record Told (s : State) (session : ℕ) (a : Act) (said : Answer) (core : CoreState M) : Type 0 where
+    pub reached : IsReached s
+    pub opening : s.opening ≡ unlimited
+    pub runs : s.stop ≡ None
+    pub effects : List Effect
+    pub says : Says s session a said effects
+    pub holds : Holds core (run the_views s.store session effects) (log_after s session a said effects) (definitions_after s.definitions a said)
+    pub own : (sessions : Sessions) → said ≡ Blocked sessions → table.waiting_of core.locks session ≡ asked s.store session a
+    pub none : is_blocked said ≡ false → IsSession session → table.waiting_of core.locks session ≡ []
+    pub waiting : (other : ℕ) → IsSession other → other ≢ session → table.waiting_of core.locks other ≡ s.waiting other
+    pub counts : Counts core s
+    pub no_fault : is_fault said ≡ false
+
+  -- a step was answered so, and led to the state in which the core is
+  pub record Moved (s : State) (session : ℕ) (a : Act) (said : Answer) (core : CoreState M) : Type 0 where
+    pub after : State
+    pub does : Step s session a said after
+    pub stands : Stands core after

@@ -1,0 +1,71 @@
+//! The state of the core.
+ghost use Rattle.std.specs.Prelude.{◌<◌, ◌^◌, [], IfOk};
+ghost use Rattle.std.specs.FinMap.{empty};
+ghost use Rattle.txn_machine.specs.Log.{unlimited};
+ghost use Rattle.txn_machine.specs.State.{opened_state};
+ghost use Rattle.txn_machine.specs.Store.{opened};
+ghost use Rattle.data_store.specs.Held.{AreEmpty};
+ghost use Rattle.core_state.specs.Stands.{Stands};
+
+use crate::seat::{Cleaner, Seats};
+use data_store::DataStore;
+use iv_types::{NoMemory, SortedMaps};
+use lock_manager::LockTable;
+use std::alloc::Global;
+use txn_book::Book;
+use txn_machine::steps::empty_law;
+
+/// The state of the core.
+#[derive(Drop)]
+pub struct CoreState<M: SortedMaps> {
+    pub alloc: Global,
+    /// What is stored.
+    pub store: DataStore<M>,
+    /// The open transactions, and the history.
+    pub book: Book,
+    /// What sessions have locked, and what they wait for.
+    pub locks: LockTable,
+    /// How many serial transactions began, which numbers them in the log.
+    pub begun: u64,
+    /// The number of the log's next record.
+    pub next: u64,
+    /// How many steps were done.
+    pub steps: u64,
+    /// What sessions were told.
+    pub seats: Seats,
+    pub cleaner: Cleaner,
+    /// The step that stopped it.
+    pub stop: Option<u64>,
+}
+
+impl<M: SortedMaps> CoreState<M> {
+    /// A core on a database that defines nothing, whose greatest commit number is this one, over maps without an entry.
+    ///
+    /// # Errors
+    ///
+    /// Where there is no memory for it.
+    pub fn new(alloc: Global, maps: M, number: u64) -> Result<Self, NoMemory>
+        requires empty { AreEmpty (M.maps maps) }
+        requires number { number < 2 ^ 63 }
+        ensures { IfOk result (λ core. Stands M.maps core (opened_state unlimited (opened (record { number = number; schema = []; rows = empty }) empty))) }
+    {
+        empty_law();
+        Ok(CoreState {
+            alloc,
+            store: DataStore::new(alloc, maps)?,
+            book: Book::new(alloc, number)?,
+            locks: LockTable::new(alloc)?,
+            begun: 0,
+            next: 1,
+            steps: 0,
+            seats: Seats::new(alloc)?,
+            cleaner: Cleaner {
+                pruned: 0,
+                found_none: 0,
+                removed: 0,
+                saved: 0,
+            },
+            stop: None,
+        })
+    }
+}

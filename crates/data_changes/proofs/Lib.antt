@@ -1,0 +1,5 @@
+pub mod Frames
+pub mod Pays
+pub mod Refusals
+pub mod Answered
+pub mod GhostMoves
