@@ -28,7 +28,7 @@ bytes_numbers : (ns : List ℤ) → row_bytes (map (λ (value : Value). Huge) (m
 bytes_numbers [] = refl
 bytes_numbers (n ∷ ns) = ap (λ (l : List ℕ). value_bytes Huge (Number n) ++ l) (bytes_numbers ns)
 
-behind : (ks : List Kind) (vs ws : List Value) → FitAll ks vs → drop (length ks) (vs ++ ws) ≡ ws
+pub behind : (ks : List Kind) (vs ws : List Value) → FitAll ks vs → drop (length ks) (vs ++ ws) ≡ ws
 behind [] [] ws f = refl
 behind [] (v ∷ vs) ws f = absurd f
 behind (k ∷ ks) [] ws f = absurd f

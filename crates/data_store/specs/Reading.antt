@@ -1,7 +1,10 @@
 -- No clause of `run` rests on this module: it serves contracts between crates.
 --
 -- What readings ask of a store.
-use Rattle.std.specs.Prelude.{◌≡◌, ℕ, Option, Some, None}
+use Rattle.std.specs.Prelude.{◌≡◌, ℕ, ◌+◌, List, map, Option, Some, None}
+use Rattle.std.specs.List.{sum}
+use Rattle.iv_meaning.specs.Database.{Row}
+use Rattle.txn_machine.specs.Counts.{row_size, listed_kinds}
 use Rattle.iv_types.specs.Maps.{Map}
 use Rattle.iv_types.specs.declared.lock.Change.{Change}
 use Rattle.iv_types.specs.Definitions.{Definitions}
@@ -39,3 +42,7 @@ pub record CanChange (definitions : Definitions) (maps : ℕ → Map) (state : S
   pub held : IsHeld definitions maps state contents
   pub of_table : IsTable contents.objects change.table
   pub right : IsRight contents.objects contents.rows (row_change change)
+
+-- what rows of an index count in a note, without the interval
+abbrev pub rows_size : Schema → ℕ → List Row → ℕ
+rows_size objects number rows = sum (map (λ row. row_size (listed_kinds objects number) row + 16) rows)
