@@ -1,14 +1,14 @@
 -- What the entries of a row count in the indexes of its table.
-use Rattle.std.specs.Prelude.{◌≡◌, ◌==◌, ℕ, ◌+◌, ◌<◌, Bool, true, false, cond, List, [], ◌∷◌, map, filter, length, drop, get_or}
-use Rattle.std.specs.List.{sum, filter_map}
+use Rattle.std.specs.Prelude.{◌≡◌, ◌==◌, ℕ, ◌+◌, ◌<◌, true, false, cond, List, [], ◌∷◌, map, length, drop, get_or}
+use Rattle.std.specs.List.{sum}
 use Rattle.std.proofs.Common.{arith}
 use Rattle.std.proofs.lemmas.List.{drop_more}
 use Rattle.std.proofs.lemmas.List.Sums.{sum_by-cons}
-use mathlib.Core.Path.{refl, sym, ap, ◌∙◌}
+use mathlib.Core.Path.{sym, ap, ◌∙◌}
 use Rattle.iv_types.specs.declared.catalog.TableDef.{TableDef}
 use Rattle.iv_types.specs.declared.catalog.IndexDef.{IndexDef}
 use Rattle.iv_types.specs.declared.catalog.Definition.{Definition}
-use Rattle.iv_meaning.specs.Schema.{Schema, Object, table, index, view, indexes_of, as_index}
+use Rattle.iv_meaning.specs.Schema.{Schema, Object, table, index, view, indexes_of}
 use Rattle.iv_meaning.specs.Objects.{schema_of, object_of}
 use Rattle.iv_meaning.specs.Database.{Row}
 use Rattle.iv_meaning.specs.View.{index_key}

@@ -1,7 +1,6 @@
 -- What a store that can be read has in an index.
-use Rattle.std.specs.Prelude.{◌≡◌, ℕ, zero, suc, ◌⊎◌, ℤ, List, [], ◌∷◌, length, Option, Some, None, IsSome}
+use Rattle.std.specs.Prelude.{◌≡◌, ℕ, zero, suc, ℤ, List, [], ◌∷◌, length, Option, Some, None, IsSome}
 use Rattle.std.specs.Option.{option_map}
-use Rattle.std.specs.List.{AllByRecursion}
 use Rattle.std.proofs.Common.{arith}
 use Rattle.std.proofs.lemmas.Option.{slice_get-map}
 use mathlib.Core.Path.{refl, sym, ap, subst, ◌∙◌}
@@ -9,20 +8,19 @@ use Rattle.std.specs.FinMap.{get, entries}
 use Rattle.iv_types.specs.declared.value.Kind.{Kind}
 use Rattle.iv_types.specs.declared.value.Interval.{Interval}
 use Rattle.iv_types.specs.declared.catalog.TableDef.{TableDef}
-use Rattle.iv_types.specs.declared.catalog.IndexDef.{IndexDef}
 use Rattle.iv_types.specs.declared.catalog.ViewDef.{ViewDef}
 use Rattle.iv_types.specs.declared.catalog.Definition.{Definition}
 use Rattle.iv_types.specs.declared.catalog.Definition.TheVariants.{Table, Index, View}
 use Rattle.iv_types.specs.Definitions.{Definitions, AreNumbered}
 use Rattle.iv_types.specs.Definitions as definitions
 use Rattle.iv_types.specs.Encoding.{FitAll, key_bytes}
-use Rattle.iv_types.specs.Maps.{Map, Entry}
-use Rattle.iv_meaning.specs.Schema.{Schema, Object, table, index, view, ViewTree, numbered, group_kinds}
+use Rattle.iv_types.specs.Maps.{Map}
+use Rattle.iv_meaning.specs.Schema.{Schema, Object, table, view, ViewTree, numbered, group_kinds}
 use Rattle.iv_meaning.specs.Objects.{schema_of, object_of, view_tree}
 use Rattle.iv_meaning.specs.Database.{Row, Database}
 use Rattle.iv_meaning.specs.Sound.{IsTable}
 use Rattle.iv_meaning.specs.View.{read}
-use Rattle.table_store.specs.Stored.{as_table, as_index, table_of, index_of, CanRead, HoldsRead, HoldsTable, AreRows, IsTableAnd, OfTable, between}
+use Rattle.table_store.specs.Stored.{as_table, as_index, table_of, CanRead, HoldsRead, HoldsTable, AreRows, IsTableAnd, OfTable, between}
 use Rattle.table_store.proofs.Staging.{hold_rows}
 use Rattle.table_store.proofs.TableIndexes.{table_number}
 use Rattle.txn_machine.specs.ViewLaws.{IsRight}
@@ -30,13 +28,13 @@ use Rattle.txn_machine.specs.RowChanges.{row_change}
 use Rattle.iv_types.specs.declared.lock.Change.{Change}
 use Rattle.view_delta.specs.Owing.{Finds}
 use Rattle.table_store.proofs.Held.{of_table, hold_read, read_by_table, read_by_index}
-use Rattle.txn_machine.specs.Stored.{ViewRows, Lists}
+use Rattle.txn_machine.specs.Stored.{Lists}
 use Rattle.txn_machine.specs.Steps.{FindsIn}
 use Rattle.ghost_rows.specs.Numbers.{numbers_bytes, Fits128}
 use Rattle.ghost_rows.specs.State.{State}
 use Rattle.data_store.specs.Contents.{Contents}
 use Rattle.data_store.specs.Held.{IsHeld}
-use Rattle.data_store.specs.Reading.{CanBeRead, HasRows, CanFind}
+use Rattle.data_store.specs.Reading.{CanBeRead, HasRows}
 use Rattle.data_store.specs.Shown.{IsGroupRow, AreGroupRows, Shows}
 use Rattle.data_store.proofs.Listing.{IsGood, huge_fit, lists, shows}
 

@@ -1,7 +1,6 @@
 pub mod ShownRows
 pub mod Listing
 pub mod Finding
-pub mod LengthLemmas
 pub mod Noting
 pub mod EntrySums
 pub mod Sizing

@@ -1,5 +1,5 @@
 -- The entries of a view and its stored rows.
-use Rattle.std.specs.Prelude.{◌≡◌, ◌≢◌, ℕ, zero, suc, ◌==◌, ◌&&◌, ℤ, pos, Bool, true, false, cond, T, List, [], ◌∷◌, ◌++◌, map, filter, length, Option, Some, None}
+use Rattle.std.specs.Prelude.{◌≡◌, ◌≢◌, ℕ, suc, ◌==◌, ◌&&◌, ℤ, true, false, cond, T, List, [], ◌∷◌, ◌++◌, map, filter, length, Some}
 use Rattle.std.specs.Option.{option_map}
 use Rattle.std.specs.List.{AllByRecursion, AllZip}
 use Rattle.std.proofs.Common.{arith}
@@ -16,7 +16,7 @@ use Rattle.iv_types.specs.declared.value.Kind.{Kind}
 use Rattle.iv_types.specs.declared.value.Interval.{Interval}
 use Rattle.iv_types.specs.declared.value.Value.TheVariants.{Number}
 use Rattle.iv_types.specs.Encoding.{IsHuge, lies_in}
-use Rattle.iv_types.specs.Maps.{Map, Entry}
+use Rattle.iv_types.specs.Maps.{Map}
 use Rattle.table_laws.specs.Place.{Place, place_cmp}
 use Rattle.table_laws.specs.Table.{rows_where}
 use Rattle.table_laws.proofs.Place.{place_cmp_total, place_cmp-IsAntisymmetric}

@@ -1,6 +1,6 @@
 -- What rows of a view count in a note.
-use Rattle.std.specs.Prelude.{◌≡◌, ℕ, suc, ◌+◌, ◌-◌, ◌^◌, ◌<◌, min, ℤ, Bool, true, false, cond, List, [], ◌∷◌, ◌++◌, map, filter, length, drop}
-use Rattle.std.specs.List.{AllByRecursion, AllZip, sum}
+use Rattle.std.specs.Prelude.{◌≡◌, ℕ, ◌+◌, ◌-◌, ◌^◌, ◌<◌, min, ℤ, Bool, true, false, cond, List, [], ◌∷◌, ◌++◌, map, filter, length, drop}
+use Rattle.std.specs.List.{AllByRecursion, AllZip}
 use Rattle.std.proofs.Common.{arith, append_assoc, length-append}
 use Rattle.std.proofs.lemmas.List.Sums.{sum_by-cons}
 use mathlib.Core.Path.{refl, sym, ap, subst, ◌∙◌}

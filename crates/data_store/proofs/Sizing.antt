@@ -13,7 +13,6 @@ use Rattle.iv_types.specs.declared.value.Value.{Value}
 use Rattle.iv_types.specs.declared.value.Value.TheVariants.{Number}
 use Rattle.iv_types.specs.declared.value.Interval.{Interval}
 use Rattle.iv_types.specs.declared.catalog.TableDef.{TableDef}
-use Rattle.iv_types.specs.declared.catalog.IndexDef.{IndexDef}
 use Rattle.iv_types.specs.declared.catalog.ViewDef.{ViewDef}
 use Rattle.iv_types.specs.declared.catalog.Definition.{Definition}
 use Rattle.iv_types.specs.declared.catalog.Definition.TheVariants.{Table, Index, View}
@@ -31,7 +30,7 @@ use Rattle.table_store.specs.Stored.{as_table, as_index, table_of, index_of, lis
 use Rattle.table_store.proofs.Held.{of_table, hold_read}
 use Rattle.txn_machine.specs.Stored.{first_numbers, IsShown, Lists}
 use Rattle.txn_machine.specs.Steps.{FindsIn}
-use Rattle.txn_machine.specs.Counts.{row_size, listed_kinds}
+use Rattle.txn_machine.specs.Counts.{row_size}
 use Rattle.ghost_rows.specs.State.{State}
 use Rattle.data_store.specs.Contents.{Contents}
 use Rattle.data_store.specs.Held.{IsHeld}

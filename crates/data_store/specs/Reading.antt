@@ -1,7 +1,7 @@
 -- No clause of `run` rests on this module: it serves contracts between crates.
 --
 -- What readings ask of a store.
-use Rattle.std.specs.Prelude.{◌≡◌, ℕ, ◌+◌, List, map, Option, Some, None}
+use Rattle.std.specs.Prelude.{ℕ, ◌+◌, List, map, Option, Some, None}
 use Rattle.std.specs.List.{sum}
 use Rattle.iv_meaning.specs.Database.{Row}
 use Rattle.txn_machine.specs.Counts.{row_size, listed_kinds}

@@ -1,7 +1,7 @@
 -- No clause of `run` rests on this module: it serves contracts between crates.
 --
 -- The rows that a view's entries show.
-use Rattle.std.specs.Prelude.{◌≡◌, ℕ, ◌+◌, ◌-◌, ◌^◌, min, ℤ, pos, not, Bool, List, [], ◌∷◌, ◌++◌, map, filter, length, drop, get_or, Some}
+use Rattle.std.specs.Prelude.{◌≡◌, ℕ, ◌+◌, ◌-◌, ◌^◌, min, ℤ, pos, not, Bool, List, ◌∷◌, ◌++◌, map, filter, length, drop, get_or, Some}
 use Rattle.std.specs.List.{AllByRecursion, AllZip, sum}
 use Rattle.std.specs.FinMap.{get}
 use Rattle.std.specs.Ordering.{int_cmp, is_eq}

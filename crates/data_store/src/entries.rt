@@ -8,8 +8,9 @@ ghost use Rattle.iv_meaning.specs.Objects.{schema_of, object_of};
 ghost use Rattle.iv_meaning.specs.View.{index_key};
 ghost use Rattle.txn_machine.specs.Log as log;
 
-use crate::lengths::{index_key_len, table_row_len};
 use iv_types::{Catalog, Definition, Row, TableDef};
+use row_codec::table_row_len;
+use table_store::index_key_len;
 
 // What a row's entry counts where a definition is that of an index of its table.
 fn index_entry(table: &TableDef, definition: &Definition, row: &Row) -> u128

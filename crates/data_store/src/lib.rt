@@ -9,7 +9,6 @@
 mod change;
 mod deltas;
 mod entries;
-mod lengths;
 mod noted;
 mod reading;
 mod shown;

@@ -6,10 +6,9 @@ ghost use Rattle.iv_meaning.specs.Database as meaning;
 ghost use Rattle.table_store.specs.Stored.{between};
 ghost use Rattle.data_store.specs.Shown.{IsGroupRow, AreGroupRows, Shows, Counts, noted_rows};
 
-use crate::lengths::row_len;
 use crate::shown::{group_of, is_before, stands};
 use iv_types::{Interval, Kind, NoMemory, SortedMaps};
-use row_codec::key_law;
+use row_codec::{key_law, row_len};
 use std::alloc::Global;
 
 // What a row counts in a note, besides its bytes.

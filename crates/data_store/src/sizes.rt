@@ -13,9 +13,9 @@ ghost use Rattle.view_delta.specs.Owing.{RowsFit};
 
 use crate::deltas::{capped, delta_entries, kept_by, reserved};
 use crate::entries::perhaps_entries;
-use crate::lengths::table_row_len;
 use crate::store::DataStore;
 use iv_types::{Catalog, Change, Definition, GroupDelta, Row, SortedMaps};
+use row_codec::table_row_len;
 
 // The bytes of a row of a table.
 fn row_size(catalog: &Catalog, table: u32, row: &Row) -> u128

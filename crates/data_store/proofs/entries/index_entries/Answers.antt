@@ -1,4 +1,4 @@
-use Rattle.std.proofs.Common.{◌≡◌, ◌+◌, ◌*◌, ◌^◌, ◌≤◌, arith}
+use Rattle.std.proofs.Common.{arith}
 use Rattle.data_store.proofs.EntrySums.{one_more}
 use Rattle.data_store.proofs.entries.index_entries.Goals as goal
 

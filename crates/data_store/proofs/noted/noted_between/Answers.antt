@@ -1,10 +1,9 @@
-use Rattle.std.proofs.Common.{rules, ◌≡◌, ◌<◌, ◌+◌, ◌-◌, ◌^◌, ℕ, true, false, List, [], ◌∷◌, min, length, sym, ap, subst, ◌∙◌, arith}
+use Rattle.std.proofs.Common.{rules, ◌≡◌, ◌<◌, true, false, List, ◌∷◌, length, sym, ap, subst, ◌∙◌, arith}
 use Rattle.std.specs.FinMap.{entries}
 use Rattle.iv_types.specs.Maps.{Entry, entry_at}
-use Rattle.iv_meaning.specs.Database.{Row}
 use Rattle.table_store.specs.Stored.{before}
 use Rattle.table_store.proofs.Walks.{place, todo, low_part, rest_from, past, at_held, after_held, walk_begins, walk_goes_on, ended, goes_on}
-use Rattle.data_store.specs.Shown.{Shows, Counts, noted_rows}
+use Rattle.data_store.specs.Shown.{Shows, Counts}
 use Rattle.data_store.proofs.Noting.{counts_all, counts_more, counts_none}
 use Rattle.data_store.proofs.noted.noted_between.Goals as goal
 

@@ -1,4 +1,4 @@
-use Rattle.std.proofs.Common.{◌≡◌, ◌+◌, ◌-◌, ◌^◌, List, ℕ, true, false, ◌∷◌, min, length, sym, ap, ◌∙◌, rules}
+use Rattle.std.proofs.Common.{◌≡◌, ◌+◌, ◌-◌, ◌^◌, List, ℕ, true, false, min, length, ap, ◌∙◌, rules}
 use Rattle.iv_types.specs.Encoding.{row_bytes}
 use Rattle.iv_meaning.specs.Database.{Row}
 use Rattle.data_store.specs.Shown.{stands}

@@ -1,4 +1,4 @@
-use Rattle.std.proofs.Common.{rules, ◌≡◌, List, ℤ, true, false, [], ◌∷◌, ◌++◌, sym, ap, refl, ◌∙◌, append_assoc}
+use Rattle.std.proofs.Common.{◌≡◌, List, ℤ, true, false, [], ◌∷◌, ◌++◌, sym, ap, refl, ◌∙◌, append_assoc}
 use Rattle.std.proofs.lemmas.Result.{on_ok_weaker}
 use Rattle.iv_meaning.specs.Database.{Row}
 use Rattle.data_store.specs.Shown.{stands}

@@ -1,4 +1,4 @@
-use Rattle.std.proofs.Common.{◌≡◌, ◌+◌, ◌∙◌, ap, ℤ, List, length, ◌++◌, ◌∷◌, [], arith, rules}
+use Rattle.std.proofs.Common.{◌≡◌, ◌∙◌, ap, length, ◌++◌, ◌∷◌, [], rules}
 use Rattle.iv_types.specs.declared.value.Value.TheVariants.{Number}
 use Rattle.ghost_rows.proofs.NumberSteps.{empty_is, long}
 use Rattle.data_store.proofs.ShownRows.{left_more, left_none, fewer}

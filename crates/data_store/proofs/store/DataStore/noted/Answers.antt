@@ -1,12 +1,8 @@
-use Rattle.std.proofs.Common.{◌≡◌, ◌-◌, ◌^◌, ℕ, List, min, sym, ap, subst, ◌∙◌}
-use Rattle.std.proofs.lemmas.Result.{IfOk-weaker}
-use Rattle.std.specs.FinMap.{entries}
+use Rattle.std.proofs.Common.{List, sym, subst, ◌∙◌}
 use Rattle.iv_types.specs.declared.value.Kind.{Kind}
-use Rattle.iv_meaning.specs.Database.{Row}
 use Rattle.iv_meaning.specs.Schema.{group_kinds}
 use Rattle.iv_meaning.specs.Objects.{schema_of, view_tree}
-use Rattle.table_store.specs.Stored.{between}
-use Rattle.data_store.specs.Shown.{AreGroupRows, Shows, noted_rows}
+use Rattle.data_store.specs.Shown.{AreGroupRows}
 use Rattle.data_store.proofs.store.DataStore.noted.Goals as goal
 
 pub noted_between-requires-after_bounds : goal.noted_between-requires-after_bounds

@@ -1,14 +1,12 @@
-use Rattle.std.proofs.Common.{◌≡◌, Some, IsSome, sym, ap, subst, ◌∙◌}
+use Rattle.std.proofs.Common.{◌≡◌, Some, sym, ap, ◌∙◌}
 use Rattle.std.specs.Prelude.{Option}
 use Rattle.std.proofs.lemmas.Result.{IfOk-weaker}
-use Rattle.iv_types.specs.declared.catalog.TableDef.{TableDef}
 use Rattle.iv_meaning.specs.Schema.{Schema, Object, table, numbered}
 use Rattle.iv_meaning.specs.Objects.{schema_of}
-use Rattle.table_store.specs.Stored.{table_of}
 use Rattle.table_store.proofs.Fresh.{in_schema}
 use Rattle.txn_machine.specs.Steps.{put_wants}
 use Rattle.txn_machine.specs.RowChanges.{row_change}
-use Rattle.data_store.proofs.Finding.{finds, table_is, is_some_table}
+use Rattle.data_store.proofs.Finding.{finds, is_some_table}
 use Rattle.view_delta.proofs.Readable.{found_fit}
 use Rattle.data_store.proofs.store.DataStore.put_wants.Goals as goal
 

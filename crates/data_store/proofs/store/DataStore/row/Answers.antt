@@ -1,4 +1,3 @@
-use Rattle.std.proofs.Common.{ap, ◌∙◌}
 use Rattle.std.proofs.lemmas.Result.{IfOk-weaker}
 use Rattle.data_store.proofs.Finding.{table_there, table_held}
 use Rattle.data_store.proofs.store.DataStore.row.Goals as goal

@@ -1,10 +1,10 @@
-use Rattle.std.proofs.Common.{◌≡◌, ◌+◌, ◌*◌, ◌<◌, ◌≤◌, List, length, arith, sym, ap, subst, ◌∙◌}
+use Rattle.std.proofs.Common.{◌+◌, ◌*◌, ◌<◌, ◌≤◌, List, length, arith, sym, ap, subst, ◌∙◌}
 use Rattle.iv_types.specs.declared.statement.ColumnDef.{ColumnDef}
 use Rattle.iv_types.specs.declared.value.Value.{Value}
 use Rattle.iv_types.specs.Encoding.{kinds_of, FitAll, value_bytes, row_bytes}
 use Rattle.row_codec.proofs.Columns.{written_inside, kind_at, count_kinds}
-use Rattle.data_store.proofs.LengthLemmas.{measured_more, measured_most, row_short}
-use Rattle.data_store.proofs.lengths.table_row_len.Goals as goal
+use Rattle.row_codec.proofs.LengthLemmas.{measured_more, measured_most, row_short}
+use Rattle.row_codec.proofs.lengths.table_row_len.Goals as goal
 
 pub bounds-values-place : goal.bounds-values-place
 bounds-values-place c =

@@ -1,11 +1,11 @@
-use Rattle.std.proofs.Common.{rules, ◌≡◌, ◌+◌, ◌*◌, ◌<◌, ◌≤◌, length, get_or, arith}
+use Rattle.std.proofs.Common.{rules, ◌+◌, ◌*◌, ◌<◌, ◌≤◌, length, get_or, arith}
 use Rattle.std.proofs.lemmas.List.{get_or_default}
 use Rattle.iv_types.specs.declared.value.Kind.{Kind}
 use Rattle.iv_types.specs.declared.value.Kind.TheVariants.{Int}
 use Rattle.iv_types.specs.Encoding.{row_bytes}
 use Rattle.row_codec.proofs.Columns.{written_inside}
-use Rattle.data_store.proofs.LengthLemmas.{measured_more, measured_most, row_short}
-use Rattle.data_store.proofs.lengths.row_len.Goals as goal
+use Rattle.row_codec.proofs.LengthLemmas.{measured_more, measured_most, row_short}
+use Rattle.row_codec.proofs.lengths.row_len.Goals as goal
 
 pub offset_bounds-values-place : goal.offset_bounds-values-place
 offset_bounds-values-place c =

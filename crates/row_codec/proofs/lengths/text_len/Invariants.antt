@@ -1,7 +1,7 @@
 use Rattle.std.proofs.Common.{◌≡◌, ◌+◌, ◌*◌, ◌≤◌, length, drop}
 use Rattle.std.specs.List.{flat_map}
 use Rattle.iv_types.specs.Encoding.{key_byte}
-use Rattle.data_store.proofs.lengths.text_len.Given as goal
+use Rattle.row_codec.proofs.lengths.text_len.Given as goal
 
 abbrev pub invariant-loop-byte : goal.invariant-loop-byte
 invariant-loop-byte l = record {

@@ -1,7 +1,7 @@
-use Rattle.std.proofs.Common.{◌≡◌, ◌≤◌, ◌∷◌, [], length, Some, sym, arith}
+use Rattle.std.proofs.Common.{◌≡◌, ◌∷◌, [], length, sym, arith}
 use Rattle.table_store.specs.Stored.{key_at}
-use Rattle.data_store.proofs.LengthLemmas.{no_place, this_place, place_short}
-use Rattle.data_store.proofs.lengths.place_len.Goals as goal
+use Rattle.table_store.proofs.LengthLemmas.{no_place, this_place, place_short}
+use Rattle.table_store.proofs.lengths.place_len.Goals as goal
 
 pub returns-in-Some-clause-len : goal.returns-in-Some-clause-len
 returns-in-Some-clause-len c =

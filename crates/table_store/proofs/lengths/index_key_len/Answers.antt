@@ -1,7 +1,7 @@
-use Rattle.std.proofs.Common.{◌≡◌, ◌+◌, ◌++◌, ℕ, List, length, sym, ap, ◌∙◌, length-append}
+use Rattle.std.proofs.Common.{◌≡◌, ◌+◌, ℕ, List, length, sym, ap, ◌∙◌, length-append}
 use Rattle.table_store.specs.Stored.{key_at}
 use Rattle.table_store.proofs.IndexKeys.{key_append}
-use Rattle.data_store.proofs.lengths.index_key_len.Goals as goal
+use Rattle.table_store.proofs.lengths.index_key_len.Goals as goal
 
 pub returns-clause-len : goal.returns-clause-len
 returns-clause-len c =

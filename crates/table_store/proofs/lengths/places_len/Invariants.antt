@@ -1,6 +1,6 @@
 use Rattle.std.proofs.Common.{◌≡◌, ◌+◌, ◌*◌, ◌≤◌, length, drop}
 use Rattle.table_store.specs.Stored.{key_at}
-use Rattle.data_store.proofs.lengths.places_len.Given as goal
+use Rattle.table_store.proofs.lengths.places_len.Given as goal
 
 abbrev pub invariant-loop-place : goal.invariant-loop-place
 invariant-loop-place l = record {

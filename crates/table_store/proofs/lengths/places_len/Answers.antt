@@ -1,6 +1,6 @@
-use Rattle.std.proofs.Common.{◌≡◌, ◌+◌, ◌*◌, ◌≤◌, arith}
-use Rattle.data_store.proofs.LengthLemmas.{places_more}
-use Rattle.data_store.proofs.lengths.places_len.Goals as goal
+use Rattle.std.proofs.Common.{arith}
+use Rattle.table_store.proofs.LengthLemmas.{places_more}
+use Rattle.table_store.proofs.lengths.places_len.Goals as goal
 
 pub loop-place-preserved : goal.loop-place-preserved
 loop-place-preserved c = record {
