@@ -1,5 +1,6 @@
 pub mod Numbers
 pub mod Columns
+pub mod LengthLemmas
 pub mod Formats
 pub mod RowFormat
 pub mod Shifts

@@ -8,6 +8,7 @@ pub mod Rows
 pub mod Fresh
 pub mod Staging
 pub mod IndexKeys
+pub mod LengthLemmas
 pub mod IndexRows
 pub mod TableIndexes
 pub mod Moves

@@ -5,12 +5,14 @@ mod entry_list;
 mod exchange;
 mod filling;
 mod keys;
+mod lengths;
 mod list_maps;
 mod row_entries;
 mod stored;
 mod tables;
 
 pub use exchange::make_room;
+pub use lengths::index_key_len;
 pub use list_maps::ListMaps;
 pub use row_entries::{index_key, key_at, own_entries};
 pub use tables::{Ready, Tables, entry_bytes};

@@ -1,0 +1,6 @@
+pub mod ShownRows
+pub mod Listing
+pub mod Finding
+pub mod Noting
+pub mod EntrySums
+pub mod Sizing

@@ -1,0 +1,4 @@
+pub mod Contents
+pub mod Held
+pub mod Shown
+pub mod Reading
