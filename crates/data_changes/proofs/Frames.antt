@@ -1,8 +1,13 @@
 -- What a change of one stored view row leaves.
-use Rattle.std.specs.Prelude.{◌≡◌, ◌≢◌, ℕ, suc, ℤ, List, length, Option, Some, None, IsSome, IfSome}
+use Rattle.std.specs.Prelude.{◌≡◌, ◌≢◌, ℕ, suc, ◌<◌, ◌≤◌, ℤ, List, length, slice_get, Option, Some, None, IsSome, IfSome}
 use Rattle.std.specs.Option.{option_map}
-use Rattle.std.specs.FinMap.{get}
-use mathlib.Core.Path.{sym, ap, subst, ◌∙◌}
+use Rattle.std.specs.FinMap.{get, empty}
+use Rattle.std.specs.List.{AllByRecursion}
+use Rattle.std.specs.Cmp.Lexicographic.{nat_list_cmp_total}
+use mathlib.Core.Path.{refl, sym, ap, subst, ◌∙◌}
+use Rattle.std.proofs.Common.{arith}
+use Rattle.std.proofs.lemmas.List.{length-map}
+use Rattle.std.proofs.lemmas.Option.{slice_get_within}
 use Rattle.iv_types.specs.Maps.{Map}
 use Rattle.iv_types.specs.Definitions.{Definitions, AreNumbered}
 use Rattle.iv_types.specs.Definitions as definition
@@ -15,7 +20,8 @@ use Rattle.table_laws.specs.Place.{Place}
 use Rattle.table_laws.specs.Table.{write}
 use Rattle.table_laws.proofs.Stored.{by_session}
 use Rattle.table_laws.proofs.Place.{place_cmp_total, place_cmp-IsAntisymmetric}
-use Rattle.table_laws.proofs.Tables.{get-write_same, get-write_other, get-write_at}
+use Rattle.table_laws.proofs.Tables.{get-write_same, get-write_other, get-write_at, same_table}
+use Rattle.iv_types.specs.Encoding.{IsHuge}
 use Rattle.iv_meaning.specs.Schema as schema
 use Rattle.iv_meaning.specs.Schema.{ViewTree}
 use Rattle.iv_meaning.specs.Database.{Rows}
@@ -23,6 +29,7 @@ use Rattle.iv_meaning.specs.Objects.{object_of, schema_of}
 use Rattle.txn_machine.specs.Keeping.{KeptStep}
 use Rattle.txn_machine.specs.Locks.{with_one}
 use Rattle.txn_machine.proofs.Basics.{one_same, one_other}
+use Rattle.table_store.proofs.Maps.{bytes_same}
 use Rattle.table_store.proofs.Held.{alike}
 use Rattle.table_store.proofs.TableIndexes.{table_number}
 use Rattle.table_store.specs.Changes.{Sets}
@@ -34,6 +41,9 @@ use Rattle.ghost_rows.specs.Kept.{StandsFor}
 use Rattle.ghost_rows.specs.State.{State, stored_at, AreKept, HasSeat, OnlyAt, StoresOnlyAt}
 use Rattle.ghost_rows.specs.Ghosts.{StayListed, IsGhostRow, IsCandidate}
 use Rattle.ghost_rows.proofs.TableLemmas.{by_place}
+use Rattle.ghost_rows.proofs.StateLemmas.{some_of}
+use Rattle.ghost_rows.proofs.RowLemmas.{huge_fit}
+use Rattle.ghost_rows.proofs.NumberSteps.{numbers_same}
 use Rattle.data_store.specs.Contents.{Contents, pays_on}
 use Rattle.data_store.specs.Held.{IsHeld}
 
@@ -57,6 +67,23 @@ is_no_table ds n v t is of same = no_table (definition.numbered ds n) v t (sym (
 
 pub is_no_index : (ds : Definitions) (n : ℕ) (v : ViewTree) (t : TableDef) (i : IndexDef) → schema.numbered (schema_of ds) n ≡ Some (schema.view v) → IsIndexOf ds t i → i.number ≢ n
 is_no_index ds n v t i is of same = no_index (definition.numbered ds n) v i (sym (alike ds n) ∙ is) (subst (λ m. index_of ds m ≡ Some i) same of.is)
+
+-- a number that has an object is none behind the last
+pub number_within : (objects : schema.Schema) (n : ℕ) (o : schema.Object) → schema.numbered objects n ≡ Some o → n ≤ length objects
+number_within objects ℕ.zero o e = omega arith
+number_within objects (suc n) o e = let lt : n < length objects = slice_get_within objects n o e in omega arith
+
+defined_within : (ds : Definitions) (n : ℕ) → IsSome (definition.numbered ds n) → n ≤ length ds
+defined_within ds ℕ.zero e = omega arith
+defined_within ds (suc n) e = let there = some_of (slice_get ds n) e in let lt : n < length ds = slice_get_within ds n there.0 there.1 in omega arith
+
+table_some : (d : Option Definition) (t : TableDef) → as_table d ≡ Some t → IsSome d
+table_some None t e = absurd (cc)
+table_some (Some d) t e = refl
+
+index_some : (d : Option Definition) (i : IndexDef) → as_index d ≡ Some i → IsSome d
+index_some None i e = absurd (cc)
+index_some (Some d) i e = refl
 
 -- ---- the rows of tables
 
@@ -98,9 +125,9 @@ row_changed ds maps new state after c place v found kept h is only rows listed s
       (λ e. subst (λ q. stored_at new q ≡ option_map numbers_bytes (get (write c.view place found) q)) (sym e)
       (stored.bytes ∙ ap (option_map numbers_bytes) (sym (get-write_same place_cmp_total place_cmp-IsAntisymmetric c.view place found))))
       (λ ne. only (n, group) ne ∙ (h.views n u at group ∙ ap (option_map numbers_bytes) (sym (get-write_other place_cmp_total place_cmp-IsAntisymmetric c.view place found (n, group) ne))));
-  fit = λ n u at group numbers there. by_place (n, group) place
-      (λ e. stored.fit numbers (sym (get-write_at place_cmp_total place_cmp-IsAntisymmetric c.view place found (n, group) e) ∙ there))
-      (λ ne. h.fit n u at group numbers (sym (get-write_other place_cmp_total place_cmp-IsAntisymmetric c.view place found (n, group) ne) ∙ there));
+  in_range = λ n u at group numbers there. by_place (n, group) place
+      (λ e. huge_here numbers (sym (get-write_at place_cmp_total place_cmp-IsAntisymmetric c.view place found (n, group) e) ∙ there))
+      (λ ne. h.in_range n u at group numbers (sym (get-write_other place_cmp_total place_cmp-IsAntisymmetric c.view place found (n, group) ne) ∙ there));
   pays = λ n u at group. by_place (n, group) place
       (λ e.
       let one : n ≡ place.0 = ap (λ (q : Place). q.0) e in
@@ -110,8 +137,18 @@ row_changed ds maps new state after c place v found kept h is only rows listed s
       (subst (λ q. AreKept after new q (suc (length v.sums)) (λ s. pays_on q (kept s))) (sym e) keeps))
       (λ ne. as_before (n, group) (suc (length u.sums)) ne (h.pays n u at group));
   ghosts = λ n u at group. listed (n, group) (h.ghosts n u at group);
+  unused = λ index past.
+      let within : place.0 ≤ length c.objects = number_within c.objects place.0 (schema.view v) is in
+      same_table nat_list_cmp_total bytes_same (new index) empty
+      (λ key. only (index, key) (λ e. let one : index ≡ place.0 = ap (λ (q : Place). q.0) e in absurd (omega (arith, past, within, one))) ∙ ap (λ (m : Map). get m key) (h.unused index past));
 }
   where
+    huge_here : (numbers : List ℤ) → found ≡ Some numbers → AllByRecursion IsHuge numbers
+    huge_here numbers there =
+        let bytes : stored_at new place ≡ Some (numbers_bytes numbers) = stored.bytes ∙ ap (option_map numbers_bytes) there in
+        let same : keeps.numbers ≡ numbers = numbers_same keeps.numbers numbers (huge_fit keeps.numbers keeps.has.huge) (stored.fit numbers there) (sym (subst (λ o. IfSome o (λ b. b ≡ numbers_bytes keeps.numbers)) bytes keeps.has.bytes)) in
+        subst (AllByRecursion IsHuge) same keeps.has.huge
+
     as_before : (q : Place) (width : ℕ) → q ≢ place → AreKept state maps q width (λ s. pays_on q (c.kept s)) → AreKept after new q width (λ s. pays_on q (kept s))
     as_before q width ne k =
         let pays : (λ s. pays_on q (c.kept s)) ≡ (λ s. pays_on q (kept s)) = λ i. λ s. sym (others q ne s) i in
@@ -131,11 +168,12 @@ unchanged ds maps new state after c same listed h = record {
         others = λ i of_table. index_as c.rows t i (maps i.number) (new i.number) (λ key. (same (i.number, key)).1) (held.others i of_table);
       };
   views = λ n u at group. (same (n, group)).1 ∙ h.views n u at group;
-  fit = h.fit;
+  in_range = h.in_range;
   pays = λ n u at group.
       subst (λ o. StandsFor (row_at after.rows (n, group)) o (suc (length u.sums)) (λ s. pays_on (n, group) (c.kept s))) (sym (same (n, group)).1)
       (subst (λ r. StandsFor r (stored_at maps (n, group)) (suc (length u.sums)) (λ s. pays_on (n, group) (c.kept s))) (sym (same (n, group)).0) (h.pays n u at group));
   ghosts = λ n u at group. listed (n, group) (h.ghosts n u at group);
+  unused = λ index past. same_table nat_list_cmp_total bytes_same (new index) empty (λ key. (same (index, key)).1 ∙ ap (λ (m : Map). get m key) (h.unused index past));
 }
 
 -- seats stay where those of one row do, and all other rows are as before
@@ -149,17 +187,18 @@ seats_stay place old new only here s q seat = by_place q place
 
 -- the rows of tables changed, and kept steps that are no pays
 pub rows_changed : (ds : Definitions) (maps new : ℕ → Map) (state : State) (c : Contents) (rows : Rows) (kept : ℕ → List KeptStep) → IsHeld ds maps state c → Holds ds rows new
-    → ((n : ℕ) (v : ViewTree) → schema.numbered c.objects n ≡ Some (schema.view v) → new n ≡ maps n) → ((q : Place) (s : ℕ) → pays_on q (kept s) ≡ pays_on q (c.kept s)) → IsHeld ds new state (record c { rows = rows; kept = kept })
-rows_changed ds maps new state c rows kept h held same others = record {
+    → ((n : ℕ) (v : ViewTree) → schema.numbered c.objects n ≡ Some (schema.view v) → new n ≡ maps n) → ((n : ℕ) → length c.objects < n → new n ≡ maps n) → ((q : Place) (s : ℕ) → pays_on q (kept s) ≡ pays_on q (c.kept s)) → IsHeld ds new state (record c { rows = rows; kept = kept })
+rows_changed ds maps new state c rows kept h held same past others = record {
   objects = h.objects;
   tables = held;
   views = λ n u at group. ap (λ (m : Map). get m group) (same n u at) ∙ h.views n u at group;
-  fit = h.fit;
+  in_range = h.in_range;
   pays = λ n u at group.
       let pays : (λ s. pays_on (n, group) (c.kept s)) ≡ (λ s. pays_on (n, group) (kept s)) = λ i. λ s. sym (others (n, group) s) i in
       subst (λ o. StandsFor (row_at state.rows (n, group)) o (suc (length u.sums)) (λ s. pays_on (n, group) (kept s))) (sym (ap (λ (m : Map). get m group) (same n u at)))
       (subst (λ ps. StandsFor (row_at state.rows (n, group)) (stored_at maps (n, group)) (suc (length u.sums)) ps) pays (h.pays n u at group));
   ghosts = λ n u at group. subst (λ o. IsGhostRow (row_at state.rows (n, group)) o → IsCandidate state (n, group)) (sym (ap (λ (m : Map). get m group) (same n u at))) (h.ghosts n u at group);
+  unused = λ index behind. past index behind ∙ h.unused index behind;
 }
 
 -- a change of a row of a table leaves the maps of views
@@ -169,6 +208,15 @@ views_stay ds maps new number key one other t are of sets objects same n v is =
     let here : schema.numbered (schema_of ds) n ≡ Some (schema.view v) = subst (λ os. schema.numbered os n ≡ Some (schema.view v)) (sym same) is in
     sets.rest n (λ e. is_no_table ds n v t here (subst (λ m. table_of ds m ≡ Some t) (sym (table_number ds number t are of)) of) (sym e))
     (λ i of_table e. is_no_index ds n v t i here of_table (sym e))
+
+-- and those behind the last object
+pub unused_stay : (ds : Definitions) (maps new : ℕ → Map) (number : ℕ) (key : List ℕ) (one other : Option (List Value)) (t : TableDef) → AreNumbered ds → table_of ds number ≡ Some t → Sets ds key one other maps new t
+    → (objects : schema.Schema) → schema_of ds ≡ objects → (n : ℕ) → length objects < n → new n ≡ maps n
+unused_stay ds maps new number key one other t are of sets objects same n past =
+    let many : length ds ≡ length objects = sym (length-map ds object_of) ∙ ap length same in
+    let here : table_of ds t.number ≡ Some t = subst (λ m. table_of ds m ≡ Some t) (sym (table_number ds number t are of)) of in
+    sets.rest n (λ e. let le : t.number ≤ length ds = defined_within ds t.number (table_some (definition.numbered ds t.number) t here) in absurd (omega (arith, le, e, many, past)))
+    (λ i of_table e. let le : i.number ≤ length ds = defined_within ds i.number (index_some (definition.numbered ds i.number) i of_table.is) in absurd (omega (arith, le, e, many, past)))
 
 -- the pays of all sessions, where those of one stay
 pub pays_else : (q : Place) (kept : ℕ → List KeptStep) (session : ℕ) (ks : List KeptStep) → pays_on q ks ≡ pays_on q (kept session) → (s : ℕ) → pays_on q (with_one kept session ks s) ≡ pays_on q (kept s)

@@ -70,10 +70,11 @@ settled_held ds maps state after session c keeps listed h = record {
   objects = h.objects;
   tables = h.tables;
   views = h.views;
-  fit = h.fit;
+  in_range = h.in_range;
   pays = λ n u at group. subst (λ ps. AreKept after maps (n, group) (suc (length u.sums)) ps) (sym (pays_kept (n, group) c.kept session []))
       (keeps maps (n, group) (length u.sums) (λ s. pays_on (n, group) (c.kept s)) (h.pays n u at group));
   ghosts = λ n u at group. listed maps (n, group) (length u.sums) (λ s. pays_on (n, group) (c.kept s)) (h.pays n u at group) (h.ghosts n u at group);
+  unused = h.unused;
 }
 
 -- as the call tells it

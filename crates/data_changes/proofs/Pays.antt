@@ -77,7 +77,7 @@ module _ (ds : Definitions) (maps : ℕ → Map) (state : State) (c : Contents) 
 
   -- its numbers are those that are kept
   pub numbers_here : (k : AreKept state maps (place_of d) (width d) (λ s. pays_on (place_of d) (c.kept s))) (numbers : List ℤ) → get c.view (place_of d) ≡ Some numbers → k.numbers ≡ numbers
-  numbers_here k numbers there = numbers_same k.numbers numbers (huge_fit k.numbers k.has.huge) (h.held.fit d.view h.of_view.of h.of_view.is d.group numbers there)
+  numbers_here k numbers there = numbers_same k.numbers numbers (huge_fit k.numbers k.has.huge) (huge_fit numbers (h.held.in_range d.view h.of_view.of h.of_view.is d.group numbers there))
       (let stored : stored_at maps (place_of d) ≡ Some (numbers_bytes numbers) = h.held.views d.view h.of_view.of h.of_view.is d.group ∙ ap (option_map numbers_bytes) there in
       sym (subst (λ o. IfSome o (λ bytes. bytes ≡ numbers_bytes k.numbers)) stored k.has.bytes))
 
