@@ -4,3 +4,4 @@ pub mod Finding
 pub mod Noting
 pub mod EntrySums
 pub mod Sizing
+pub mod Were
