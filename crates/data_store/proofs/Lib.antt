@@ -5,3 +5,4 @@ pub mod Noting
 pub mod EntrySums
 pub mod Sizing
 pub mod Were
+pub mod PastEntries

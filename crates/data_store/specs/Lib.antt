@@ -3,3 +3,4 @@ pub mod Held
 pub mod Shown
 pub mod Reading
 pub mod Past
+pub mod ViewPast

@@ -17,6 +17,7 @@ mod shown;
 mod sizes;
 mod store;
 mod texts;
+mod view_past;
 
 pub use deltas::delta_entry;
 pub use store::{DataStore, Pending};
