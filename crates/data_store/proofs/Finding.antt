@@ -40,7 +40,7 @@ use Rattle.data_store.proofs.Listing.{IsGood, huge_fit, lists, shows}
 
 -- ---- objects of the catalog
 
-alike : (ds : Definitions) (n : ℕ) → numbered (schema_of ds) n ≡ option_map object_of (definitions.numbered ds n)
+pub alike : (ds : Definitions) (n : ℕ) → numbered (schema_of ds) n ≡ option_map object_of (definitions.numbered ds n)
 alike ds zero = refl
 alike ds (suc n) = slice_get-map object_of ds n
 
@@ -49,7 +49,7 @@ object_at ds n d e = alike ds n ∙ ap (option_map object_of) e
 
 -- ---- entries of a view
 
-group_row : (kinds : List Kind) (key value : List ℕ) (group : Row) (many : ℕ) (numbers : List ℤ) → FitAll kinds group → key ≡ key_bytes kinds group → length numbers ≡ suc many
+pub group_row : (kinds : List Kind) (key value : List ℕ) (group : Row) (many : ℕ) (numbers : List ℤ) → FitAll kinds group → key ≡ key_bytes kinds group → length numbers ≡ suc many
     → Fits128 numbers → value ≡ numbers_bytes numbers → IsGroupRow kinds key value
 group_row kinds key value group many [] fits key_is width in_range value_is = absurd (omega arith)
 group_row kinds key value group many (n ∷ ns) fits key_is width in_range value_is =

@@ -4,3 +4,5 @@ pub mod Finding
 pub mod Noting
 pub mod EntrySums
 pub mod Sizing
+pub mod Were
+pub mod PastEntries

@@ -16,7 +16,7 @@ use Rattle.iv_types.specs.declared.value.Kind.{Kind}
 use Rattle.iv_types.specs.declared.value.Interval.{Interval}
 use Rattle.iv_types.specs.declared.value.Value.TheVariants.{Number}
 use Rattle.iv_types.specs.Encoding.{IsHuge, lies_in}
-use Rattle.iv_types.specs.Maps.{Map}
+use Rattle.iv_types.specs.Maps.{Map, Entry}
 use Rattle.table_laws.specs.Place.{Place, place_cmp}
 use Rattle.table_laws.specs.Table.{rows_where}
 use Rattle.table_laws.proofs.Place.{place_cmp_total, place_cmp-IsAntisymmetric}
@@ -63,7 +63,7 @@ below_view n k (e ∷ es) h = elim (e.0.0 == n) as (λ b. (e.0.0 == n) ≡ b →
   | false ↦ λ is. below_view n k es (second _ _ h)
 ] refl
 
-view_sorted : (n : ℕ) (es : List ViewEntry) → T (is_sorted place_cmp es) → T (is_sorted by_bytes (of_view n es))
+pub view_sorted : (n : ℕ) (es : List ViewEntry) → T (is_sorted place_cmp es) → T (is_sorted by_bytes (of_view n es))
 view_sorted n [] s = tt
 view_sorted n (e ∷ es) s = elim (e.0.0 == n) as (λ b. (e.0.0 == n) ≡ b → T (is_sorted by_bytes (map without_view (cond b (e ∷ at_view n es) (at_view n es))))) [
   | true ↦ λ is.
@@ -72,7 +72,7 @@ view_sorted n (e ∷ es) s = elim (e.0.0 == n) as (λ b. (e.0.0 == n) ≡ b → 
   | false ↦ λ is. view_sorted n es (rest_sorted place_cmp e es s)
 ] refl
 
-find_view : (n : ℕ) (q : List ℕ) (es : List ViewEntry) → find by_bytes q (of_view n es) ≡ find place_cmp (n, q) es
+pub find_view : (n : ℕ) (q : List ℕ) (es : List ViewEntry) → find by_bytes q (of_view n es) ≡ find place_cmp (n, q) es
 find_view n q [] = refl
 find_view n q (e ∷ es) = elim (e.0.0 == n) as (λ b. (e.0.0 == n) ≡ b → find by_bytes q (map without_view (cond b (e ∷ at_view n es) (at_view n es))) ≡ find place_cmp (n, q) (e ∷ es)) [
   | true ↦ λ is.
@@ -205,6 +205,17 @@ module _ (n many : ℕ) where
 
 -- ---- both
 
+-- the rows that entries show are those that the machine lists of these stored rows, where they are their entries
+pub lists_by : (objects : Schema) (v : ViewTree) (stored : ViewRows) (good : (group : List ℕ) (numbers : List ℤ) → get stored (v.number, group) ≡ Some numbers → IsGood (suc (length v.sums)) numbers)
+    (interval : Interval) (es : List Entry) (rows : List Row) → es ≡ entries_of (within interval (of_view v.number (entries stored))) → Shows (group_kinds objects v) es rows → Lists objects v interval stored rows
+lists_by objects v stored good interval es rows e s =
+    let many : ℕ = suc (length v.sums) in
+    let each = each_good v.number many stored good in
+    let here : List StoredRow = within interval (of_view v.number (entries stored)) in
+    let is : s.stored ≡ here = one_stored s.stored here s.in_range (all_fit v.number many interval (entries stored) each) (sym s.bytes ∙ e) in
+    to_listed objects v (rows_where (is_shown v.number interval) (entries stored)) rows (all_wide v.number many interval (entries stored) each)
+    (subst (λ (l : List StoredRow). AllZip (IsShownAs (group_kinds objects v)) l rows) (ap counted is ∙ shown_are v.number interval (entries stored)) s.shown)
+
 module _ (objects : Schema) (v : ViewTree) (stored : ViewRows) (m : Map)
     (same : (group : List ℕ) → get m group ≡ option_map numbers_bytes (get stored (v.number, group)))
     (good : (group : List ℕ) (numbers : List ℤ) → get stored (v.number, group) ≡ Some numbers → IsGood (suc (length v.sums)) numbers) (interval : Interval) where
@@ -225,10 +236,7 @@ module _ (objects : Schema) (v : ViewTree) (stored : ViewRows) (m : Map)
 
   -- the rows that the entries in the interval show are those that the machine lists
   pub lists : (rows : List Row) → Shows kinds (between interval (entries m)) rows → Lists objects v interval stored rows
-  lists rows s =
-      let is : s.stored ≡ here = one_stored s.stored here s.in_range here_fit (sym s.bytes ∙ here_encoded) in
-      to_listed objects v (rows_where (is_shown v.number interval) (entries stored)) rows here_wide
-      (subst (λ (l : List StoredRow). AllZip (IsShownAs kinds) l rows) (ap counted is ∙ shown_are v.number interval (entries stored)) s.shown)
+  lists rows s = lists_by objects v stored good interval (between interval (entries m)) rows here_encoded s
 
   pub shows : (rows : List Row) → Lists objects v interval stored rows → Shows kinds (between interval (entries m)) rows
   shows rows l = record {

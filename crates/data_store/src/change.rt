@@ -1,6 +1,5 @@
 //! What a change of a row asks for, and what it owes to the views.
-ghost use Rattle.std.specs.Prelude.{◌≡◌, Some, IsSome, IfOk};
-ghost use Rattle.table_store.specs.Stored as stored;
+ghost use Rattle.std.specs.Prelude.{◌≡◌, IfOk};
 ghost use Rattle.iv_meaning.specs.Schema.{numbered};
 ghost use Rattle.txn_machine.specs.Deltas as machine;
 ghost use Rattle.txn_machine.specs.Steps.{put_wants};
@@ -11,19 +10,9 @@ ghost use Rattle.data_store.specs.Held.{IsHeld};
 ghost use Rattle.data_store.specs.Reading.{CanChange};
 
 use crate::store::DataStore;
-use iv_types::{Catalog, Change, Definition, DeltaList, NoMemory, SortedMaps, TableDef, WantList};
+use iv_types::{Change, DeltaList, NoMemory, SortedMaps, WantList};
+use table_store::table_of;
 use view_delta::{owed, wants_of};
-
-// The table of an object number that is a table's.
-fn table_of(catalog: &Catalog, number: u32) -> &TableDef
-    requires { IsSome (stored.table_of catalog.now number) }
-    ensures { stored.table_of catalog.now number ≡ Some result.now }
-{
-    match catalog.get(number) {
-        Some(Definition::Table(table)) => table,
-        _ => unreachable!(),
-    }
-}
 
 impl<M: SortedMaps> DataStore<M> {
     /// The locks of a change of a row of a table: on its entries before and after, and on what has to be looked up to know what

@@ -72,8 +72,12 @@ fn row_of(alloc: Global, kinds: &[Kind], key: &[u8], value: &[u8]) -> Result<Row
     Ok(row)
 }
 
-// Adds the row that an entry of a view shows, if it stands for a group.
-fn add_shown(
+/// Adds the row that an entry of a view shows, if it stands for a group.
+///
+/// # Errors
+///
+/// Where there is no memory for it.
+pub fn add_shown(
     alloc: Global,
     rows: &mut RowList,
     kinds: &[Kind],

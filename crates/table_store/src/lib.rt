@@ -15,4 +15,5 @@ pub use exchange::make_room;
 pub use lengths::index_key_len;
 pub use list_maps::ListMaps;
 pub use row_entries::{index_key, key_at, own_entries};
+pub use stored::{row_of, table_of};
 pub use tables::{Ready, Tables, entry_bytes};

@@ -16,7 +16,7 @@ table_of-table-requires g c =
     is_some_table store.catalog (g.M.SortedMaps.maps store.tables) store.views c.requires.contents c.requires.held c.args.change.now.table c.requires.of_table
 
 pub wants_of-requires-clause-table : goal.wants_of-requires-clause-table
-wants_of-requires-clause-table g c = in_schema c.args.self.now.catalog c.args.change.now.table c.table_of-table.result.now c.table_of-table.ensures
+wants_of-requires-clause-table g c = in_schema c.args.self.now.catalog c.args.change.now.table c.table_of-table.result.now c.table_of-table.ensures.table
 
 pub wants_of-requires-clause-rows : goal.wants_of-requires-clause-rows
 wants_of-requires-clause-rows g c =
@@ -28,7 +28,7 @@ pub returns : goal.returns
 returns g c =
     let ds = c.args.self.now.catalog in
     let change = c.args.change.now in
-    let there : numbered (schema_of ds) change.table ≡ Some (table c.table_of-table.result.now) = in_schema ds change.table c.table_of-table.result.now c.table_of-table.ensures in
+    let there : numbered (schema_of ds) change.table ≡ Some (table c.table_of-table.result.now) = in_schema ds change.table c.table_of-table.result.now c.table_of-table.ensures.table in
     IfOk-weaker c.wants_of.result _ _ (λ wants is contents held.
     is ∙ (ap (λ (o : Option Object). put_wants (schema_of ds) o (row_change change)) (sym there)
     ∙ ap (λ (s : Schema). put_wants s (numbered s change.table) (row_change change)) held.objects)) c.wants_of.ensures
