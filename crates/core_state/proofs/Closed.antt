@@ -238,6 +238,8 @@ module _ {M : Type 0} (maps : M → ℕ → Map) (core : CoreState M) (s : State
             running = λ none. by_bool (s.steps + 1 == most_steps)
                 (λ e. absurd (let bad : Some (record { step = s.steps + 1; act = a }) ≡ None = sym (stopped ∙ ap (λ b. stop_if b (record { step = s.steps + 1; act = a })) e) ∙ none in cc))
                 (λ e. not_last e);
+            begun = let one = t.begins_one in let few = t.counts.begun in omega (arith, one, few);
+            next = let one = t.appends_one in let few = t.counts.next in omega (arith, one, few);
             stop = stops ∙ (ap (λ n. option_map (λ (y : Stop). y.step) (stop_if (n == most_steps) (record { step = n; act = a }))) number ∙ ap (option_map (λ (y : Stop). y.step)) (sym stopped));
           };
         };
@@ -279,6 +281,8 @@ stop_told maps core s i a stop seats may within h stopped own others =
           cleaner = h.counts.cleaner;
           removed = h.counts.removed;
           running = λ none. absurd (let bad : Some stop ≡ None = sym stopped ∙ none in cc);
+          begun = h.counts.begun;
+          next = h.counts.next;
           stop = h.counts.stop;
         };
       };

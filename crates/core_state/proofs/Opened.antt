@@ -51,6 +51,8 @@ module _ {M : Type 0} (maps : M → ℕ → Map) (core : CoreState M) (t : Table
       cleaner = h.counts.cleaner;
       removed = h.counts.removed;
       running = h.counts.running;
+      begun = h.counts.begun;
+      next = h.counts.next;
       stop = h.counts.stop;
     };
   }
@@ -94,6 +96,8 @@ module _ {M : Type 0} (maps : M → ℕ → Map) (core : CoreState M) (number : 
       cleaner = cleaner;
       removed = omega arith;
       running = λ e. omega arith;
+      begun = omega arith;
+      next = omega arith;
       stop = stop;
     };
   }

@@ -1,7 +1,7 @@
 -- No clause of `run` rests on this module: it serves contracts between crates.
 --
 -- In which state of the machine a core is. It has no limits of log and data, and no disk.
-use Rattle.std.specs.Prelude.{◌≡◌, ◌≢◌, ℕ, ◌<◌, ◌≤◌, List, [], None, false, true, Bool}
+use Rattle.std.specs.Prelude.{◌≡◌, ◌≢◌, ℕ, ◌+◌, ◌<◌, ◌≤◌, List, [], None, false, true, Bool}
 use Rattle.std.specs.Option.{option_map}
 use Rattle.iv_types.specs.Maps.{Map}
 use Rattle.iv_types.specs.declared.session.Sessions.{Sessions}
@@ -45,6 +45,8 @@ module _ {M : Type 0} (maps : M → ℕ → Map) where
     pub cleaner : machine_cleaner core.cleaner ≡ s.cleaner
     pub removed : s.cleaner.removed ≤ s.steps
     pub running : s.stop ≡ None → s.steps < most_steps
+    pub begun : s.log.begun ≤ s.steps
+    pub next : s.log.next ≤ s.steps + 1
     pub stop : core.stop ≡ option_map (λ x. x.step) s.stop
 
   -- a core is in a state that steps lead to
@@ -78,6 +80,9 @@ module _ {M : Type 0} (maps : M → ℕ → Map) where
     pub waiting : (other : ℕ) → IsSession other → other ≢ session → table.waiting_of core.locks other ≡ s.waiting other
     pub counts : Counts core s
     pub no_fault : is_fault said ≡ false
+    -- a step begins one transaction at most, and appends one record
+    pub begins_one : (log_after s session a said effects).begun ≤ s.log.begun + 1
+    pub appends_one : (log_after s session a said effects).next ≤ s.log.next + 1
 
   -- a step was answered so, and led to the state in which the core is
   pub record Moved (s : State) (session : ℕ) (a : Act) (said : Answer) (core : CoreState M) : Type 0 where

@@ -1,6 +1,11 @@
 -- What an answer tells of all contents.
 use Rattle.std.specs.Prelude.{Result, Ok, Err, IfOk, IfErr, OnOk, OnErr}
 
+-- what follows from what is told of a result
+pub if_ok_as : {T E : Type 0} (r : Result T E) (P Q : T → Type 0) → ((x : T) → P x → Q x) → IfOk r P → IfOk r Q
+if_ok_as (Ok x) P Q f h = f x h
+if_ok_as (Err y) P Q f h = tt
+
 module _ {T E C : Type 0} where
   pub on_ok_each : (r : Result T E) (H X : C → Type 0) → ((c : C) → H c → OnOk r (X c)) → OnOk r ((c : C) → H c → X c)
   on_ok_each (Ok x) H X f = f

@@ -32,6 +32,7 @@ use Rattle.txn_machine.specs.Store.{Store, opened, schema_of, now, changes_by, l
 use Rattle.txn_machine.specs.State.{State, Stop, is_fault, stop_after, opened_state, most_steps}
 use Rattle.txn_machine.specs.May.{IsOpenIn, MayAct, Owes}
 use Rattle.txn_machine.specs.Steps.{NoneIsOpen, log_need, CommitsAs, Says, Step, Did, Run, with_ghost, log_after, MayWait, MayBegin, MakesGhost}
+use Rattle.txn_machine.specs.Laws.{IsReached}
 use Rattle.txn_machine.specs.LogLaws.{LogRoomLaw}
 use Rattle.txn_machine.proofs.Basics.{one_same, one_other}
 use Rattle.txn_machine.proofs.Agreeing.{written_at}
@@ -401,8 +402,11 @@ opened_roomy opening db view below runs =
       fits = within_less opening.log_limit (block_bytes + 1) (s.log.used + reserved s.store s.log) below (omega (arith, nothing_reserved));
     }
 
-pub log_room_law : LogRoomLaw
-log_room_law s r below runs =
+-- while an engine runs
+pub roomy_reached : (s : State) → IsReached s → Within s.opening.log_limit (block_bytes + 1) → s.stop ≡ None → Roomy s.opening.log_limit s.store s.log
+roomy_reached s r below runs =
     let g = opened_good the_views fresh view_laws r.db r.view r.was_opened.sound r.was_opened.rows r.was_opened.in_range in
-    let roomy = roomy_run _ r.steps s g (opened_roomy r.opening r.db r.view) r.run below runs in
-    (roomy.fits, roomy.carries)
+    roomy_run _ r.steps s g (opened_roomy r.opening r.db r.view) r.run below runs
+
+pub log_room_law : LogRoomLaw
+log_room_law s r below runs = let roomy = roomy_reached s r below runs in (roomy.fits, roomy.carries)

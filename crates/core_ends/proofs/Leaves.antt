@@ -1,0 +1,179 @@
+-- A transaction ends.
+use Rattle.std.specs.Prelude.{◌≡◌, ◌≢◌, ℕ, ◌+◌, ◌≤◌, cond, Bool, true, false, List, [], ◌∷◌, ◌++◌, Option, None, Some, refl}
+use Rattle.std.specs.Option.{unwrap_or}
+use mathlib.Core.Path.{sym, ap, subst, ◌∙◌}
+use Rattle.std.proofs.Common.{arith}
+use Rattle.table_laws.specs.Kept.{redo}
+use Rattle.table_laws.proofs.Stored.{by_session}
+use Rattle.iv_types.specs.declared.session.Sessions.{Sessions}
+use Rattle.iv_types.specs.Maps.{Map}
+use Rattle.iv_types.specs.declared.statement.Mode.TheVariants.{Serial}
+use Rattle.iv_meaning.specs.Schema.{Schema}
+use Rattle.iv_meaning.specs.Database.{Database}
+use Rattle.iv_meaning.specs.Escrow.{IsSession}
+use Rattle.lock_manager.specs.Table as table
+use Rattle.lock_manager.specs.Table.{Table, SessionLocks, IsReleased}
+use Rattle.lock_desk.specs.Asking.{HasLocks}
+use Rattle.txn_machine.specs.Acts.{Act}
+use Rattle.txn_machine.specs.Answers as answer
+use Rattle.txn_machine.specs.Answers.{Answer}
+use Rattle.txn_machine.specs.Locks.{with_one}
+use Rattle.txn_machine.specs.Keeping.{Open, idle}
+use Rattle.txn_machine.specs.Records.{Record, Abort}
+use Rattle.txn_machine.specs.Store.{Store, Effect, committed, schema_of, changes_by, with_txn, with_entry, entry_changes, now, locks_of, Ends, Commits, run}
+use Rattle.txn_machine.specs.Counts.{definition_sizes}
+use Rattle.txn_machine.specs.Ghosts.{the_views}
+use Rattle.txn_machine.specs.Fresh.{fresh}
+use Rattle.txn_machine.specs.Log.{Log, log_all, appended, not_logged, with_logged}
+use Rattle.txn_machine.specs.State.{State, is_fault}
+use Rattle.txn_machine.specs.May.{IsOpen, IsReady}
+use Rattle.txn_machine.specs.Deltas.{RowChange}
+use Rattle.txn_machine.specs.Steps.{Says, CommitsAs, number_unchanged, log_after, definitions_after}
+use Rattle.txn_machine.proofs.Basics.{one_same, one_other}
+use Rattle.txn_machine.proofs.LogRoom.{logs_logged}
+use Rattle.txn_machine.proofs.Looking.{view_laws}
+use Rattle.txn_machine.proofs.Runs.{committed_after}
+use Rattle.txn_book.specs.Opens.{open_at}
+use Rattle.txn_book.specs.Books.{IsBook, Seats, Committed}
+use Rattle.txn_book.specs.Txns.{txn_of}
+use Rattle.txn_book.specs.Holding as book
+use Rattle.txn_book.proofs.Holding.{seated_holds}
+use Rattle.txn_book.proofs.Entering.{committed_holds}
+use Rattle.data_store.specs.Contents.{Contents, contents_of}
+use Rattle.data_store.specs.Held.{IsHeld}
+use Rattle.data_changes.specs.Effects.{keeping}
+use Rattle.core_state.specs.Seats.{machine_seat, machine_cleaner, seat_at}
+use Rattle.core_state.specs.Stands.{Began, Told, Holds, Counts, is_blocked}
+use Rattle.core_state.specs.declared.state.CoreState.{CoreState}
+use Rattle.core_ends.specs.Ends.{Left}
+use Rattle.core_ends.proofs.Sessions.{contents_as, kept_of, HasTxn, now_is}
+
+-- ---- the log
+
+abbrev aborts : Log → ℕ → Option Record
+aborts l i = cond (l.logged i).wrote (Some (Abort (l.logged i).transaction)) None
+
+appended_next : (objects : Schema) (r : Record) (l : Log) (b : Bool) → (appended objects (cond b (Some r) None) l).next ≡ cond b (l.next + 1) l.next
+appended_next objects r l true = refl
+appended_next objects r l false = refl
+
+next_few : (b : Bool) (n : ℕ) → cond b (n + 1) n ≤ n + 1
+next_few true n = omega arith
+next_few false n = omega arith
+
+-- ---- what is left
+
+module _ {M : Type 0} (maps : M → ℕ → Map) (core new : CoreState M) (s : State) (i : ℕ) (h : Began maps core s i) (is : IsSession i) (good : IsBook core.book)
+    (released : IsReleased core.locks new.locks i)
+    (stored : (c : Contents) → IsHeld core.store.catalog (maps core.store.tables) core.store.views c → IsHeld new.store.catalog (maps new.store.tables) new.store.views (keeping c i []))
+    (begun : new.begun ≡ core.begun) (steps : new.steps ≡ core.steps) (seats : new.seats ≡ core.seats) (cleaner : new.cleaner ≡ core.cleaner) (stop : new.stop ≡ core.stop) where
+  left_locks : (u : Store) → ((j : ℕ) → u.open_of j ≡ with_one s.store.open_of i None j) → (j : ℕ) → IsSession j → HasLocks (table.locks_of new.locks j) (locks_of u j)
+  left_locks u opens j js =
+      subst (λ o. HasLocks (table.locks_of new.locks j) (unwrap_or o idle).locks) (sym (opens j))
+      (by_session j i
+      (λ e. subst (λ k. HasLocks (table.locks_of new.locks k) (unwrap_or (with_one s.store.open_of i None k) idle).locks) (sym e)
+      (subst (λ oo. HasLocks (table.locks_of new.locks i) (unwrap_or oo idle).locks) (sym (one_same s.store.open_of i None i refl)) (subst (λ ls. HasLocks ls []) (sym (ap (λ (y : SessionLocks). y.locks) released.changed)) (λ w. (λ c. c, λ c. c)))))
+      (λ ne. subst (λ (y : SessionLocks). HasLocks y.locks (unwrap_or (with_one s.store.open_of i None j) idle).locks) (sym (released.others j ne))
+      (subst (λ oo. HasLocks (table.locks_of core.locks j) (unwrap_or oo idle).locks) (sym (one_other s.store.open_of i None j ne)) (h.holds.locks j js))))
+
+  left_counts : Counts maps new s
+  left_counts = record {
+    steps = steps ∙ h.counts.steps;
+    seats = λ j le. ap (λ ss. machine_seat (seat_at ss j)) seats ∙ h.counts.seats j le;
+    few = h.counts.few;
+    cleaner = ap machine_cleaner cleaner ∙ h.counts.cleaner;
+    removed = h.counts.removed;
+    running = h.counts.running;
+    begun = h.counts.begun;
+    next = h.counts.next;
+    stop = stop ∙ h.counts.stop;
+  }
+
+  left_stored : (u : Store) → schema_of u ≡ schema_of s.store → u.rows ≡ s.store.rows → u.view ≡ s.store.view → ((j : ℕ) → u.open_of j ≡ with_one s.store.open_of i None j)
+      → IsHeld new.store.catalog (maps new.store.tables) new.store.views (contents_of u)
+  left_stored u objects rows view opens =
+      subst (IsHeld new.store.catalog (maps new.store.tables) new.store.views)
+      (contents_as (keeping (contents_of s.store) i []) (contents_of u) (sym objects) (sym rows) (sym view) (λ j. sym (ap (λ o. (unwrap_or o idle).kept) (opens j) ∙ kept_of s.store.open_of i None j)))
+      (stored (contents_of s.store) h.holds.stored)
+
+  -- without an entry
+  pub ended : (o : IsOpen s.store i) → Seats core.book new.book i None → new.next ≡ cond (s.log.logged i).wrote (core.next + 1) core.next → Left maps s i Ends core new
+  ended o seated next = record {
+    holds = λ a. record {
+      stored = left_stored (with_txn s.store i None) refl refl refl (λ j. refl);
+      book = subst (λ l. book.Holds new.book (schema_of s.store) (with_one s.store.open_of i None) l s.store.history (committed s.store).number (definition_sizes s.definitions)) (sym (logs_logged s.store i a Ends s.log))
+          (seated_holds core.book (schema_of s.store) s.store.open_of s.log.logged s.store.history (committed s.store).number (definition_sizes s.definitions) h.holds.book good i is new.book (with_one s.store.open_of i None) (with_one s.log.logged i not_logged)
+          (λ j n. (one_other s.store.open_of i None j n, one_other s.log.logged i not_logged j n)) None seated
+          (subst (λ x. book.IsSame (schema_of s.store) None x (with_one s.log.logged i not_logged i)) (sym (one_same s.store.open_of i None i refl)) tt));
+      locks = left_locks (with_txn s.store i None) (λ j. refl);
+      begun = begun ∙ h.holds.begun;
+      next = next ∙ (ap (λ n. cond (s.log.logged i).wrote (n + 1) n) h.holds.next ∙ sym (appended_next (schema_of s.store) (Abort (s.log.logged i).transaction) (with_logged s.log i not_logged) (s.log.logged i).wrote));
+    };
+    own = ap (λ (y : SessionLocks). y.waiting) released.changed;
+    others = λ j n. ap (λ (y : SessionLocks). y.waiting) (released.others j n);
+    counts = left_counts;
+    appends_one = λ a. subst (λ n. n ≤ s.log.next + 1) (sym (appended_next (schema_of s.store) (Abort (s.log.logged i).transaction) (with_logged s.log i not_logged) (s.log.logged i).wrote)) (next_few (s.log.logged i).wrote s.log.next);
+  }
+
+  -- with one
+  pub entered : (r : IsReady s.store i Serial) (own : HasTxn (schema_of s.store) (open_at core.book.opens i) r.goes_on.transaction (s.log.logged i)) → Committed core.book new.book i (txn_of own.txn) → new.next ≡ core.next + 1
+      → Left maps s i Commits core new
+  entered r own did next =
+      let o : IsOpen s.store i = record { of_session = is; transaction = r.goes_on.transaction; is_open = r.goes_on.is_open } in
+      let u : Store = with_txn (with_entry s.store i (entry_changes (now s.store i).kept)) i None in
+      let after : committed u ≡ record (committed s.store) { number = (committed s.store).number + 1; rows = redo (changes_by s.store i) (committed s.store).rows } = committed_after the_views fresh view_laws s.store i in
+      let objects : schema_of u ≡ schema_of s.store = ap (λ (d : Database). d.schema) after in
+      let greatest : (committed u).number ≡ (committed s.store).number + 1 = ap (λ (d : Database). d.number) after in
+      record {
+        holds = λ a. record {
+          stored = left_stored u objects refl refl (λ j. refl);
+          book = subst (λ l. book.Holds new.book (schema_of u) u.open_of l u.history (committed u).number (definition_sizes s.definitions)) (sym (logs_logged s.store i a Commits s.log))
+              (subst (λ n. book.Holds new.book (schema_of u) u.open_of (with_one s.log.logged i not_logged) u.history n (definition_sizes s.definitions)) (sym greatest)
+              (subst (λ os. book.Holds new.book os u.open_of (with_one s.log.logged i not_logged) u.history ((committed s.store).number + 1) (definition_sizes s.definitions)) (sym objects)
+              (subst (λ (t : Open). book.Holds new.book (schema_of s.store) (with_one s.store.open_of i None) (with_one s.log.logged i not_logged) (s.store.history ++ record { number = (committed s.store).number + 1; session = i; kept = entry_changes t.kept } ∷ []) ((committed s.store).number + 1) (definition_sizes s.definitions)) (sym (now_is maps core s i h o))
+              (committed_holds core.book (schema_of s.store) s.store.open_of s.log.logged s.store.history (committed s.store).number (definition_sizes s.definitions) h.holds.book i new.book good is (with_one s.store.open_of i None) (with_one s.log.logged i not_logged)
+              (λ j n. (one_other s.store.open_of i None j n, one_other s.log.logged i not_logged j n)) (txn_of own.txn) o.transaction (s.log.logged i) own.is r.goes_on.mode_is (one_same s.store.open_of i None i refl) did))));
+          locks = left_locks u (λ j. refl);
+          begun = begun ∙ h.holds.begun;
+          next = next ∙ ap (λ n. n + 1) h.holds.next;
+        };
+        own = ap (λ (y : SessionLocks). y.waiting) released.changed;
+        others = λ j n. ap (λ (y : SessionLocks). y.waiting) (released.others j n);
+        counts = left_counts;
+        appends_one = λ a. omega arith;
+      }
+
+-- ---- the answer
+
+-- of an act whose one effect ends the transaction
+pub left_told : {M : Type 0} (maps : M → ℕ → Map) (core new : CoreState M) (s : State) (i : ℕ) (a : Act) (said : Answer) (e : Effect) → Began maps core s i → IsSession i → Left maps s i e core new → Says s i a said (e ∷ [])
+    → log_after s i a said (e ∷ []) ≡ log_all s.store i a (e ∷ []) s.log → definitions_after s.definitions a said ≡ s.definitions → is_blocked said ≡ false → is_fault said ≡ false → (log_all s.store i a (e ∷ []) s.log).begun ≤ s.log.begun + 1
+    → Told maps s i a said new
+left_told maps core new s i a said e h is left says logs_same definitions not fine few = record {
+  reached = h.reached;
+  opening = h.opening;
+  runs = h.runs;
+  effects = e ∷ [];
+  says = says;
+  holds = subst (λ ds. Holds maps new (run the_views s.store i (e ∷ [])) (log_after s i a said (e ∷ [])) ds) (sym definitions)
+      (subst (λ l. Holds maps new (run the_views s.store i (e ∷ [])) l s.definitions) (sym logs_same) (left.holds a));
+  own = λ sessions b. absurd (blocked_no said sessions b not);
+  none = λ _ _. left.own;
+  waiting = λ j js n. left.others j n ∙ h.waiting j js n;
+  counts = left.counts;
+  no_fault = fine;
+  begins_one = subst (λ (l : Log). l.begun ≤ s.log.begun + 1) (sym logs_same) few;
+  appends_one = subst (λ (l : Log). l.next ≤ s.log.next + 1) (sym logs_same) (left.appends_one a);
+}
+  where
+    blocked_no : (m : Answer) (sessions : Sessions) → m ≡ answer.Blocked sessions → is_blocked m ≡ false → ⊥
+    blocked_no m sessions e none = let bad : true ≡ false = sym (ap is_blocked e) ∙ none in absurd (cc)
+
+-- a transaction that keeps changes commits them, and another ends
+pub commits_some : (s : Store) (i number : ℕ) (cs : List RowChange) → cs ≢ [] → number ≡ (committed s).number + 1 → CommitsAs s i cs number (Commits ∷ [])
+commits_some s i number [] some is = absurd (some refl)
+commits_some s i number (c ∷ cs) some is = (is, refl)
+
+pub commits_none : (s : Store) (i number : ℕ) (cs : List RowChange) → cs ≡ [] → number ≡ number_unchanged s (now s i) → CommitsAs s i cs number (Ends ∷ [])
+commits_none s i number [] none is = (is, refl)
+commits_none s i number (c ∷ cs) none is = absurd (cc)

@@ -1,0 +1,29 @@
+-- No clause of `run` rests on this module: it serves contracts between crates.
+--
+-- How transactions begin, and what one leaves that ends.
+use Rattle.std.specs.Prelude.{◌≡◌, ◌≢◌, ℕ, ◌+◌, ◌≤◌, [], ◌∷◌}
+use Rattle.iv_types.specs.Maps.{Map}
+use Rattle.iv_types.specs.declared.statement.Mode.{Mode}
+use Rattle.iv_types.specs.declared.statement.Mode.TheVariants.{Serial, Snapshot}
+use Rattle.lock_manager.specs.Table as table
+use Rattle.txn_machine.specs.Acts.{Act}
+use Rattle.txn_machine.specs.Store.{Effect, run}
+use Rattle.txn_machine.specs.Ghosts.{the_views}
+use Rattle.txn_machine.specs.Log.{log_all}
+use Rattle.txn_machine.specs.State.{State}
+use Rattle.core_state.specs.Stands.{Holds, Counts}
+use Rattle.core_state.specs.declared.state.CoreState.{CoreState}
+
+-- the number in the log of a transaction of a mode, the latest of so many
+abbrev pub number_in_log : Mode → ℕ → ℕ
+number_in_log Serial begun = begun
+number_in_log Snapshot begun = 0
+
+-- The core holds what one effect of a session leaves that ends its transaction, whatever the act; the session waits for nothing, and
+-- the others for what they waited for.
+pub record Left {M : Type 0} (maps : M → ℕ → Map) (s : State) (session : ℕ) (e : Effect) (old new : CoreState M) : Type 0 where
+  pub holds : (a : Act) → Holds maps new (run the_views s.store session (e ∷ [])) (log_all s.store session a (e ∷ []) s.log) s.definitions
+  pub own : table.waiting_of new.locks session ≡ []
+  pub others : (other : ℕ) → other ≢ session → table.waiting_of new.locks other ≡ table.waiting_of old.locks other
+  pub counts : Counts maps new s
+  pub appends_one : (a : Act) → (log_all s.store session a (e ∷ []) s.log).next ≤ s.log.next + 1
