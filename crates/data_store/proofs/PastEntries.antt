@@ -1,15 +1,13 @@
 -- The entries of a view with the values that they had at a commit number.
-use Rattle.std.specs.Prelude.{◌≡◌, ℕ, suc, ℤ, Bool, true, false, cond, T, List, [], ◌∷◌, map, filter, length, Option, Some, None, IsSome}
+use Rattle.std.specs.Prelude.{◌≡◌, ℕ, suc, ℤ, true, false, cond, T, List, [], ◌∷◌, map, length, Option, Some, None, IsSome}
 use Rattle.std.specs.Option.{option_map, option_map_or}
-use Rattle.std.specs.List.{AllByRecursion}
 use mathlib.Core.Path.{refl, sym, ap, subst, ◌∙◌}
 use Rattle.std.specs.FinMap.{get, entries, find, is_sorted, get-entries, entries_sorted}
 use Rattle.std.specs.FinMap.Entries.{below_all, same_entries}
-use Rattle.std.specs.Ordering.{eq_by_cmp, is_eq}
+use Rattle.std.specs.Ordering.{eq_by_cmp}
 use Rattle.std.specs.Cmp.Lexicographic.{nat_list_cmp_total}
-use Rattle.iv_types.specs.declared.value.Kind.{Kind}
 use Rattle.iv_types.specs.declared.value.Interval.{Interval}
-use Rattle.iv_types.specs.Encoding.{IsHuge, FitAll, key_bytes, lies_in}
+use Rattle.iv_types.specs.Encoding.{FitAll, key_bytes, lies_in}
 use Rattle.iv_types.specs.Maps.{Map, Entry}
 use Rattle.iv_types.specs.declared.catalog.ViewDef.{ViewDef}
 use Rattle.iv_types.specs.declared.catalog.Definition.{Definition}
@@ -31,7 +29,7 @@ use Rattle.ghost_rows.specs.State.{State, stored_at}
 use Rattle.data_store.specs.Contents.{Contents, pays_on}
 use Rattle.data_store.specs.Reading.{CanBeRead}
 use Rattle.data_store.specs.Shown.{StoredRow, entries_of, IsGroupRow, Shows}
-use Rattle.data_store.specs.ViewPast.{as_view, view_of, DeltaVersions, WereViewRows, past_value, past_entries, WasGroupRow, CanShowAt}
+use Rattle.data_store.specs.ViewPast.{as_view, view_of, DeltaVersions, WereViewRows, past_value, past_entries, CanShowAt}
 use Rattle.data_store.proofs.Listing.{of_view, within, view_sorted, find_view, IsGood, huge_fit, lists_by}
 use Rattle.data_store.proofs.Finding.{alike, group_row, object_is}
 

@@ -1,7 +1,7 @@
 -- No clause of `run` rests on this module: it serves contracts between crates.
 --
 -- The stored rows of a view at a commit number: what is committed of them, less what was committed above that number.
-use Rattle.std.specs.Prelude.{◌≡◌, ℕ, suc, ℤ, List, map, length, [], Option, IsSome, Some, None}
+use Rattle.std.specs.Prelude.{◌≡◌, ℕ, suc, ℤ, List, map, [], Option, IsSome, Some, None}
 use Rattle.std.specs.List.{AllByRecursion}
 use Rattle.std.specs.Option.{option_map_or}
 use Rattle.std.specs.FinMap.{get}

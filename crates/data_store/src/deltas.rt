@@ -6,6 +6,15 @@ ghost use Rattle.txn_machine.specs.Log as log;
 
 use iv_types::GroupDelta;
 
+// What a delta counts in its transaction, besides its group and its sums.
+const DELTA_BYTES: u64 = 128;
+
+// What the entry of its row counts in the data besides these: the count, and 8.
+const ENTRY_BYTES: u64 = 24;
+
+// What it reserves in the log, besides its group, twice, and its sums: its record, that of its undo, and that of a ghost.
+const RESERVED_BYTES: u128 = 65;
+
 /// The end of a `u64`, where a number does not fit.
 pub fn capped(number: u128) -> u64
     ensures { result ≡ min number (2 ^ 64 - 1) }
@@ -28,7 +37,7 @@ pub fn kept_by(owed: &[GroupDelta]) -> u64
 {
     let mut size: u64 = 0;
     for delta in owed {
-        size = size.saturating_add(delta_len(delta, 128));
+        size = size.saturating_add(delta_len(delta, DELTA_BYTES));
     }
     size
 }
@@ -39,7 +48,7 @@ fn reserved_by(delta: &GroupDelta) -> u64
 {
     let group = delta.group.as_slice().len() as u128;
     let sums = delta.sums.as_slice().len() as u128;
-    capped(65 + 2 * group + 16 * sums)
+    capped(RESERVED_BYTES + 2 * group + 16 * sums)
 }
 
 /// What owed deltas reserve in the log.
@@ -57,7 +66,7 @@ pub fn reserved(owed: &[GroupDelta]) -> u64
 pub fn delta_entry(delta: &GroupDelta) -> u64
     ensures { result ≡ min (log.delta_entry delta.now) (2 ^ 64 - 1) }
 {
-    delta_len(delta, 24)
+    delta_len(delta, ENTRY_BYTES)
 }
 
 /// What the entries of owed deltas' rows count in the data.

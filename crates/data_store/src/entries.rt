@@ -12,6 +12,9 @@ use iv_types::{Catalog, Definition, Row, TableDef};
 use row_codec::table_row_len;
 use table_store::index_key_len;
 
+// What an entry counts, besides the bytes of its key and of its value.
+const ENTRY_BYTES: u128 = 8;
+
 // What a row's entry counts where a definition is that of an index of its table.
 fn index_entry(table: &TableDef, definition: &Definition, row: &Row) -> u128
     requires { FitAll (kinds_of table.now) row.now }
@@ -20,7 +23,7 @@ fn index_entry(table: &TableDef, definition: &Definition, row: &Row) -> u128
 {
     match definition {
         Definition::Index(index) if index.table == table.number => {
-            index_key_len(table, index, row) + 8
+            index_key_len(table, index, row) + ENTRY_BYTES
         }
         _ => 0,
     }
@@ -45,7 +48,7 @@ fn row_entries(catalog: &Catalog, table: u32, key: &[u8], row: &Row) -> u128
     requires { FitAll (kinds_of_table (numbered (schema_of catalog.now) table)) row.now }
     ensures { result ≡ log.row_entries (schema_of catalog.now) (table, key.now) row.now }
 {
-    let own = key.len() as u128 + 8;
+    let own = key.len() as u128 + ENTRY_BYTES;
     match catalog.get(table) {
         Some(Definition::Table(table)) => {
             own + table_row_len(table, row) + index_entries(catalog, table, row)

@@ -2,8 +2,8 @@
 //! transactions, and the versions of both.
 //!
 //! `specs/Contents` says what that is in the words of the machine, and `specs/Held` when a store has it. `found` reads what an
-//! index has in an interval and `found_bytes` what that counts, `row` what stands under a key and `row_at` what stood there at a
-//! commit number, and `put_wants` and `owed` what a change asks for and owes. The sizes of a change are numbers of the machine's
+//! index has in an interval and `found_bytes` what that counts, and `row` what stands under a key; `row_at` and `shown_at` read at
+//! a commit number. `put_wants` and `owed` tell what a change asks for and owes. The sizes of a change are numbers of the machine's
 //! `Counts` and `Log`, and none takes memory.
 #![tactic(auto)]
 

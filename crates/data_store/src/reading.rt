@@ -18,6 +18,9 @@ use crate::store::DataStore;
 use iv_types::{Definition, Interval, NoMemory, Row, RowList, SortedMaps, ViewDef};
 use object_kinds::group_kinds;
 
+// What a note counts, besides its interval and its rows.
+const NOTE_BYTES: u128 = 64;
+
 // The bytes of an interval's ends.
 fn interval_len(interval: &Interval) -> u128
     ensures size { result ≡ interval_size interval.now }
@@ -118,7 +121,7 @@ impl<M: SortedMaps> DataStore<M> {
             → db.schema ≡ c.objects → db.rows ≡ c.rows → FindsIn db c.view (numbered c.objects index) index interval.now rows → size ≡ min (fetch_size c.objects index interval.now rows) (2 ^ 64 - 1)) }
     {
         let rows = self.rows_bytes(index, interval)?;
-        Ok(capped(64 + interval_len(interval) + u128::from(rows)))
+        Ok(capped(NOTE_BYTES + interval_len(interval) + u128::from(rows)))
     }
 
     /// The row of a table under an encoded primary key, if one is there.

@@ -17,6 +17,18 @@ use crate::store::DataStore;
 use iv_types::{Catalog, Change, Definition, GroupDelta, Row, SortedMaps};
 use row_codec::table_row_len;
 
+// What a change counts in its transaction, besides its bytes and what it owes.
+const PUT_BYTES: u128 = 128;
+
+// What it counts in the history, besides its bytes.
+const KEPT_BYTES: u128 = 32;
+
+// Of a row's length in a record.
+const LENGTH_BYTES: u128 = 2;
+
+// Of the record of a change, besides its bytes and the lengths of its rows, and of that of its undo.
+const RECORD_BYTES: u128 = 50;
+
 // The bytes of a row of a table.
 fn row_size(catalog: &Catalog, table: u32, row: &Row) -> u128
     requires { FitAll (kinds_of_table (numbered (schema_of catalog.now) table)) row.now }
@@ -57,7 +69,7 @@ fn length_bytes(row: &Option<Row>) -> u128
     ensures { result ≡ option_map_or (λ r. 2) row.now 0 }
 {
     match row {
-        Some(_) => 2,
+        Some(_) => LENGTH_BYTES,
         None => 0,
     }
 }
@@ -68,7 +80,10 @@ fn record_size(catalog: &Catalog, change: &Change) -> u128
     ensures size { result ≡ records.write_bytes (schema_of catalog.now) (row_change change.now) + records.undo_bytes }
     ensures most { result ≤ 406 * 2 ^ 64 }
 {
-    change_size(catalog, change) + length_bytes(&change.before) + length_bytes(&change.after) + 50
+    change_size(catalog, change)
+        + length_bytes(&change.before)
+        + length_bytes(&change.after)
+        + RECORD_BYTES
 }
 
 // By how much the entries of a row in all indexes of its table are more than those of another.
@@ -89,7 +104,7 @@ impl<M: SortedMaps> DataStore<M> {
         requires { RowsFit (schema_of self.now.catalog) change.now }
         ensures { result ≡ min (counts.put_size (schema_of self.now.catalog) (row_change change.now) owed.now) (2 ^ 64 - 1) }
     {
-        capped(128 + change_size(&self.catalog, change)).saturating_add(kept_by(owed))
+        capped(PUT_BYTES + change_size(&self.catalog, change)).saturating_add(kept_by(owed))
     }
 
     /// What a change counts in the history.
@@ -97,7 +112,7 @@ impl<M: SortedMaps> DataStore<M> {
         requires { RowsFit (schema_of self.now.catalog) change.now }
         ensures { result ≡ min (counts.kept_change_size (schema_of self.now.catalog) (row_change change.now)) (2 ^ 64 - 1) }
     {
-        capped(32 + change_size(&self.catalog, change))
+        capped(KEPT_BYTES + change_size(&self.catalog, change))
     }
 
     /// What a change needs in the log: its record, that of its undo, and what the deltas that it owes reserve.
