@@ -3,7 +3,6 @@ ghost use Rattle.std.specs.Prelude.{◌≡◌, map, IfOk, ◌++◌};
 ghost use Rattle.std.specs.List.{filter_map};
 ghost use Rattle.std.specs.Option.{option_map, option_to_list};
 ghost use Rattle.iv_types.specs.Trees.{perhaps_tree, trees};
-ghost use Rattle.iv_meaning.specs.Binding.{second_kept, summed, bound_query};
 ghost use Rattle.iv_meaning.specs.Bound.{bound_tree, item_tree, order_tree};
 ghost use Rattle.iv_meaning.specs.Objects.{object_of, schema_of, view_tree};
 ghost use Rattle.iv_meaning.specs.Shape.{object_number};
@@ -80,7 +79,7 @@ fn names_of(alloc: Global, items: &[NamedItem<'_>]) -> Result<NameList, NoMemory
 
 // The columns that items sum.
 fn sums_of(alloc: Global, items: &[NamedItem<'_>]) -> Result<ColumnAtList, NoMemory>
-    ensures { IfOk result (λ sums. sums ≡ filter_map (λ i. summed i.item) (map item_seen items.now)) }
+    ensures { IfOk result (λ sums. sums ≡ filter_map (λ i. meant.summed i.item) (map item_seen items.now)) }
 {
     let mut sums = ColumnAtList::new(alloc);
     for item in items {
@@ -98,7 +97,7 @@ fn kept_second(
     first: &TableDef,
     query: &ResolvedQuery<'_>,
 ) -> Result<Option<Second>, NoMemory>
-    ensures { IfOk result (λ second. second ≡ option_map (second_kept (schema_of catalog.now) first.now) (tests.second_of (query_seen query.now))) }
+    ensures { IfOk result (λ second. second ≡ option_map (meant.second_kept (schema_of catalog.now) first.now) (tests.second_of (query_seen query.now))) }
 {
     let Some((second, joined)) = second_of(alloc, query)? else {
         return Ok(None);
@@ -217,13 +216,10 @@ fn conditions(
 {
     let joins = joins.into_vec().into_iter();
     let mut found = ExprList::from_vec(joins.map(on_of).collect(alloc)?);
-    match condition {
-        Some(condition) => {
-            found.push(condition)?;
-            Ok(found)
-        }
-        None => Ok(found),
+    if let Some(condition) = condition {
+        found.push(condition)?;
     }
+    Ok(found)
 }
 
 fn item_of(item: NamedItem<'_>) -> BoundItem
@@ -248,7 +244,7 @@ pub fn selection(
     query: ResolvedQuery<'_>,
     order: &[Order],
 ) -> Result<Bound, NoMemory>
-    ensures { IfOk result (λ b. bound_tree b ≡ bound.select (bound_query (query_seen query.entry) order.now)) }
+    ensures { IfOk result (λ b. bound_tree b ≡ bound.select (meant.bound_query (query_seen query.entry) order.now)) }
 {
     let relations = relations_of(alloc, &query)?;
     let order = order_of(alloc, query.items.as_slice(), order)?;
