@@ -77,11 +77,7 @@ fn kinds_of_columns(alloc: Global, columns: &[ColumnDef]) -> Result<Vec<Kind>, N
 }
 
 // Bytes of new columns of these places in a key, and of a row of the new columns.
-fn new_widths(
-    alloc: Global,
-    columns: &[ColumnDef],
-    primary: &[u32],
-) -> Result<(u128, u128), NoMemory>
+fn widths(alloc: Global, columns: &[ColumnDef], primary: &[u32]) -> Result<(u128, u128), NoMemory>
     ensures key { IfOk result (λ bytes. bytes.0 ≡ width key_width (items_at (map (λ c. c.kind) columns.now) primary.now)) }
     ensures row { IfOk result (λ bytes. bytes.1 ≡ width row_width (map (λ c. c.kind) columns.now)) }
 {
@@ -151,7 +147,7 @@ pub fn check_table(
     ensures { IsMeant (λ u. u) result (passed (table_tests (schema_of catalog.now) (statement_size (statement_tree statement.now)) columns.now primary.now)) }
 {
     let tables = count_of(ObjectKind::Table, catalog) as u128;
-    let (key, row) = new_widths(alloc, columns, primary)?;
+    let (key, row) = widths(alloc, columns, primary)?;
     rule(ShapeRule::ColumnTwice, repeats(primary))?;
     limit(Limit::Columns, columns.len() as u128)?;
     limit(Limit::Tables, tables + 1)?;

@@ -19,7 +19,7 @@ use bind_resolve::{Joined, NamedItem, ResolvedQuery, place};
 use iv_types::{
     Bound, BoundItem, BoundItemList, BoundOrder, BoundOrderList, BoundSelect, Bytes, Catalog,
     ColumnAtList, ColumnDef, Definition, Expr, ExprList, IndexDef, NameList, NoMemory, Order,
-    Places, Second, Sequence, TableDef, ViewDef, copied_columns,
+    Places, Second, Sequence, TableDef, ViewDef, copied_columns, copied_condition,
 };
 use std::alloc::Global;
 
@@ -110,7 +110,7 @@ fn kept_second(
     }))
 }
 
-// The view that a query of this first table makes, without the condition and the columns of GROUP BY.
+// The view that a query of this first table makes.
 fn made_view(
     alloc: Global,
     catalog: &Catalog,
@@ -118,7 +118,7 @@ fn made_view(
     first: &TableDef,
     query: &ResolvedQuery<'_>,
 ) -> Result<ViewDef, NoMemory>
-    ensures { IfOk result (λ made. schema.view (view_tree (record made { condition = query.now.condition; group = query.now.group })) ≡ meant.made_view (schema_of catalog.now) name.now (query_seen query.now) first.now) }
+    ensures { IfOk result (λ made. schema.view (view_tree made) ≡ meant.made_view (schema_of catalog.now) name.now (query_seen query.now) first.now) }
 {
     let items = query.items.as_slice();
     Ok(ViewDef {
@@ -127,9 +127,9 @@ fn made_view(
         names: names_of(alloc, items)?,
         first: first.number,
         second: kept_second(alloc, catalog, first, query)?,
-        condition: None,
-        group: ColumnAtList::new(alloc),
+        group: query.group.copied(alloc)?,
         sums: sums_of(alloc, items)?,
+        condition: copied_condition(alloc, &query.condition)?,
     })
 }
 
@@ -138,22 +138,14 @@ pub fn view(
     alloc: Global,
     catalog: &Catalog,
     name: &Bytes,
-    query: ResolvedQuery<'_>,
+    query: &ResolvedQuery<'_>,
 ) -> Result<Bound, NoMemory>
-    ensures { IfOk result (λ b. bound_tree b ≡ meant.bound_of (schema_of catalog.now) (resolved.view name.now (query_seen query.entry))) }
+    ensures { IfOk result (λ b. bound_tree b ≡ meant.bound_of (schema_of catalog.now) (resolved.view name.now (query_seen query.now))) }
 {
-    let Some(first) = as_table(query.first) else {
-        return Ok(Bound::Control);
-    };
-    let mut view = made_view(alloc, catalog, name, first, &query)?;
-    let ResolvedQuery {
-        condition,
-        group,
-        ..
-    } = query;
-    view.condition = condition;
-    view.group = group;
-    Ok(Bound::View(view))
+    match as_table(query.first) {
+        Some(first) => Ok(Bound::View(made_view(alloc, catalog, name, first, query)?)),
+        None => Ok(Bound::Control),
+    }
 }
 
 // The numbers of the objects of FROM.
@@ -201,8 +193,7 @@ fn order_of(
 fn on_of(join: Joined<'_>) -> Expr
     ensures { result ≡ join.entry.on }
 {
-    let Joined { object: _, on } = join;
-    on
+    join.on
 }
 
 // The conditions of ON, and then that of WHERE.
@@ -225,8 +216,7 @@ fn conditions(
 fn item_of(item: NamedItem<'_>) -> BoundItem
     ensures { result ≡ item.entry.item }
 {
-    let NamedItem { item, name: _ } = item;
-    item
+    item.item
 }
 
 // The items without their names.
