@@ -43,11 +43,9 @@ fn width_of(which: Width, kind: Kind) -> u16
     ensures most { result ≤ 402 }
 {
     match (which, kind) {
-        (Width::Key, Kind::Int) => 8,
-        (Width::Key, Kind::Huge) => 16,
+        (_, Kind::Int) => 8,
+        (_, Kind::Huge) => 16,
         (Width::Key, Kind::Text) => 402,
-        (Width::Row, Kind::Int) => 8,
-        (Width::Row, Kind::Huge) => 16,
         (Width::Row, Kind::Text) => 202,
     }
 }
@@ -63,21 +61,6 @@ fn bytes_of(which: Width, kinds: &[Kind]) -> u128
     sum
 }
 
-// The kinds of new columns.
-fn kinds_of_columns(alloc: Global, columns: &[ColumnDef]) -> Result<Vec<Kind>, NoMemory>
-    ensures { IfOk result (λ kinds. kinds.items ≡ map (λ c. c.kind) columns.now) }
-{
-    Ok(columns.iter().map(|c| c.kind).collect(alloc)?)
-}
-
-// Bytes of a row of new columns.
-fn new_row_width(alloc: Global, columns: &[ColumnDef]) -> Result<u128, NoMemory>
-    ensures { IfOk result (λ bytes. bytes ≡ width row_width (map (λ c. c.kind) columns.now)) }
-{
-    let kinds = kinds_of_columns(alloc, columns)?;
-    Ok(bytes_of(Width::Row, &kinds))
-}
-
 // Bytes of the columns of these places in a key.
 fn key_width(alloc: Global, kinds: &[Kind], places: &[u32]) -> Result<u128, NoMemory>
     ensures { IfOk result (λ bytes. bytes ≡ width key_width (items_at kinds.now places.now)) }
@@ -86,12 +69,21 @@ fn key_width(alloc: Global, kinds: &[Kind], places: &[u32]) -> Result<u128, NoMe
     Ok(bytes_of(Width::Key, found.as_slice()))
 }
 
-// Bytes of new columns of these places in a key.
-fn new_key_width(alloc: Global, columns: &[ColumnDef], primary: &[u32]) -> Result<u128, NoMemory>
-    ensures { IfOk result (λ bytes. bytes ≡ width key_width (items_at (map (λ c. c.kind) columns.now) primary.now)) }
+// The kinds of new columns.
+fn kinds_of_columns(alloc: Global, columns: &[ColumnDef]) -> Result<Vec<Kind>, NoMemory>
+    ensures { IfOk result (λ kinds. kinds.items ≡ map (λ c. c.kind) columns.now) }
+{
+    Ok(columns.iter().map(|c| c.kind).collect(alloc)?)
+}
+
+// Bytes of new columns of these places in a key, and of a row of the new columns.
+fn widths(alloc: Global, columns: &[ColumnDef], primary: &[u32]) -> Result<(u128, u128), NoMemory>
+    ensures key { IfOk result (λ bytes. bytes.0 ≡ width key_width (items_at (map (λ c. c.kind) columns.now) primary.now)) }
+    ensures row { IfOk result (λ bytes. bytes.1 ≡ width row_width (map (λ c. c.kind) columns.now)) }
 {
     let kinds = kinds_of_columns(alloc, columns)?;
-    key_width(alloc, &kinds, primary)
+    let key = key_width(alloc, &kinds, primary)?;
+    Ok((key, bytes_of(Width::Row, &kinds)))
 }
 
 // The kinds of columns of FROM.
@@ -155,13 +147,16 @@ pub fn check_table(
     ensures { IsMeant (λ u. u) result (passed (table_tests (schema_of catalog.now) (statement_size (statement_tree statement.now)) columns.now primary.now)) }
 {
     let tables = count_of(ObjectKind::Table, catalog) as u128;
+    let (key, row) = widths(alloc, columns, primary)?;
     rule(ShapeRule::ColumnTwice, repeats(primary))?;
     limit(Limit::Columns, columns.len() as u128)?;
     limit(Limit::Tables, tables + 1)?;
-    limit(Limit::KeyWidth, new_key_width(alloc, columns, primary)?)?;
-    limit(Limit::RowWidth, new_row_width(alloc, columns)?)?;
-    let bytes = statement_bytes(statement);
-    limit(Limit::DefinitionBytes, u128::from(bytes))
+    limit(Limit::KeyWidth, key)?;
+    limit(Limit::RowWidth, row)?;
+    limit(
+        Limit::DefinitionBytes,
+        u128::from(statement_bytes(statement)),
+    )
 }
 
 /// Those of a CREATE INDEX of columns of these places.
@@ -179,12 +174,12 @@ pub fn check_index(
     rule(ShapeRule::NoTable, !is_a(ObjectKind::Table, target))?;
     limit(Limit::Columns, columns.len() as u128)?;
     limit(Limit::Indexes, indexes + 1)?;
+    let width = index_width(alloc, catalog, target, columns)?;
+    limit(Limit::KeyWidth, width)?;
     limit(
-        Limit::KeyWidth,
-        index_width(alloc, catalog, target, columns)?,
-    )?;
-    let bytes = statement_bytes(statement);
-    limit(Limit::DefinitionBytes, u128::from(bytes))
+        Limit::DefinitionBytes,
+        u128::from(statement_bytes(statement)),
+    )
 }
 
 /// The limits of a CREATE INDEXED VIEW.
@@ -199,14 +194,14 @@ pub fn check_view_limits(
     let views = count_of(ObjectKind::View, catalog) as u128;
     limit(Limit::Columns, query.group.as_slice().len() as u128)?;
     limit(Limit::Views, views + 1)?;
-    refuse(
-        have_many_readers(catalog, query),
-        Refusal::Limit(Limit::Readers),
-    )?;
+    let many = have_many_readers(catalog, query);
+    refuse(many, Refusal::Limit(Limit::Readers))?;
     limit(Limit::KeyWidth, group_width(alloc, catalog, query)?)?;
     limit(Limit::Sums, sums_in(query) as u128)?;
-    let bytes = statement_bytes(statement);
-    limit(Limit::DefinitionBytes, u128::from(bytes))
+    limit(
+        Limit::DefinitionBytes,
+        u128::from(statement_bytes(statement)),
+    )
 }
 
 /// Whether the first table of a join view has the index that it needs.

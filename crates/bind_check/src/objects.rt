@@ -5,8 +5,7 @@ ghost use Rattle.std.specs.Option.{option_copied, option_map_or};
 ghost use Rattle.iv_meaning.specs.Schema.{object_columns, object_kinds, as_table, as_view, primary_of};
 ghost use Rattle.iv_meaning.specs.Objects.{object_of, schema_of};
 ghost use Rattle.iv_meaning.specs.Shape.{object_number, readers};
-ghost use Rattle.iv_meaning.specs.Types.{sources_of};
-ghost use Rattle.iv_meaning.specs.Types as meant;
+ghost use Rattle.iv_meaning.specs.Types.{sources_of, kinds_seen};
 ghost use Rattle.bind_resolve.specs.Seen.{query_seen};
 ghost use Rattle.bind_check.specs.Counting.{count_of, is_a, reads};
 
@@ -82,7 +81,7 @@ pub fn kinds_seen(
     catalog: &Catalog,
     query: &ResolvedQuery<'_>,
 ) -> Result<RelationKinds, NoMemory>
-    ensures { IfOk result (λ kinds. kinds ≡ meant.kinds_seen (schema_of catalog.now) (query_seen query.now)) }
+    ensures { IfOk result (λ kinds. kinds ≡ kinds_seen (schema_of catalog.now) (query_seen query.now)) }
 {
     let mut kinds = RelationKinds::new(alloc);
     kinds.push(kinds_of_object(alloc, catalog, query.first)?)?;

@@ -42,10 +42,7 @@ pub fn repeats<T: PartialEq>(items: &[T]) -> bool
 fn is_aggregate(item: &BoundItem) -> bool
     ensures { result ≡ is_aggregate (item_tree item.now) }
 {
-    match item {
-        BoundItem::Count | BoundItem::Sum(_) => true,
-        BoundItem::Plain(_) => false,
-    }
+    matches!(item, BoundItem::Count | BoundItem::Sum(_))
 }
 
 // Whether an item is a column by which the query groups.
@@ -62,10 +59,7 @@ fn is_grouped(group: &[ColumnAt], item: &BoundItem) -> bool
 fn is_grouping(query: &ResolvedQuery<'_>) -> bool
     ensures { result ≡ not (is_empty (query_seen query.now).group) }
 {
-    match query.group.as_slice() {
-        [] => false,
-        [_, ..] => true,
-    }
+    !query.group.as_slice().is_empty()
 }
 
 // Whether a query counts or sums.
@@ -112,10 +106,8 @@ pub fn check_query(alloc: Global, query: &ResolvedQuery<'_>) -> Result<(), Refus
     rule(ShapeRule::NoTable, names_a(ObjectKind::Index, query))?;
     rule(ShapeRule::NoGroup, !grouped & aggregates(query))?;
     rule(ShapeRule::OtherItem, grouped & !lists_groups(query))?;
-    rule(
-        ShapeRule::NotManyToOne,
-        groups_joined(alloc, grouped, query)?,
-    )
+    let joined = groups_joined(alloc, grouped, query)?;
+    rule(ShapeRule::NotManyToOne, joined)
 }
 
 // Whether an operator is arithmetic.
@@ -151,19 +143,13 @@ fn condition_has_arithmetic(condition: &Option<Expr>) -> bool
 fn is_named_sum(item: &NamedItem<'_>) -> bool
     ensures { result ≡ is_named_sum (item_seen item.now) }
 {
-    match &item.item {
-        BoundItem::Sum(_) => item.name.is_some(),
-        BoundItem::Count | BoundItem::Plain(_) => false,
-    }
+    matches!(item.item, BoundItem::Sum(_)) && item.name.is_some()
 }
 
 fn is_named_count(item: &NamedItem<'_>) -> bool
     ensures { result ≡ is_named_count (item_seen item.now) }
 {
-    match &item.item {
-        BoundItem::Count => item.name.is_some(),
-        BoundItem::Sum(_) | BoundItem::Plain(_) => false,
-    }
+    matches!(item.item, BoundItem::Count) && item.name.is_some()
 }
 
 // Whether all items are sums with names.
@@ -204,10 +190,8 @@ pub fn check_view_query(query: &ResolvedQuery<'_>) -> Result<(), Refusal>
 {
     let listed = is_view_list(query.group.as_slice(), query.items.as_slice());
     rule(ShapeRule::NoViewList, !is_grouping(query) | !listed)?;
-    rule(
-        ShapeRule::Arithmetic,
-        condition_has_arithmetic(&query.condition),
-    )?;
+    let computes = condition_has_arithmetic(&query.condition);
+    rule(ShapeRule::Arithmetic, computes)?;
     rule(ShapeRule::ViewOfView, names_a(ObjectKind::View, query))
 }
 

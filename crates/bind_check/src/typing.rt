@@ -1,5 +1,5 @@
 //! Whether resolved expressions have their types.
-ghost use Rattle.std.specs.Prelude.{◌≡◌, map, not};
+ghost use Rattle.std.specs.Prelude.{◌≡◌, ◌&&◌, map, not};
 ghost use Rattle.std.specs.List.{list_all};
 ghost use Rattle.std.specs.Option.{option_map};
 ghost use Rattle.iv_types.specs.Trees.{tree, trees, perhaps_tree};
@@ -67,20 +67,19 @@ fn typed(holds: bool, family: Family) -> Option<Family>
     if holds { Some(family) } else { None }
 }
 
+// A family, if both operands are of it.
+fn both(wanted: Family, left: Option<Family>, right: Option<Family>) -> Option<Family>
+    ensures { perhaps_family result ≡ typed (is_a wanted (perhaps_family left) && is_a wanted (perhaps_family right)) (family_of wanted) }
+{
+    typed(is_a(wanted, left) & is_a(wanted, right), wanted)
+}
+
 fn family_of_pair(op: Op, left: Option<Family>, right: Option<Family>) -> Option<Family>
     ensures { perhaps_family result ≡ family_of_pair op (perhaps_family left) (perhaps_family right) }
 {
     match op {
-        Op::Or | Op::And => typed(
-            is_a(Family::Truth, left) & is_a(Family::Truth, right),
-            Family::Truth,
-        ),
-        Op::Add | Op::Subtract | Op::Multiply => {
-            typed(
-                is_a(Family::Number, left) & is_a(Family::Number, right),
-                Family::Number,
-            )
-        }
+        Op::Or | Op::And => both(Family::Truth, left, right),
+        Op::Add | Op::Subtract | Op::Multiply => both(Family::Number, left, right),
         Op::Equal | Op::NotEqual | Op::Less | Op::AtMost | Op::Greater | Op::AtLeast => {
             typed(alike(left, right), Family::Truth)
         }

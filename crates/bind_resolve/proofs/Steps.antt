@@ -52,16 +52,3 @@ pub exits_gives : {A B : Type 0} (f : A → B) (result : Result A Refusal) (r : 
 exits_gives f result r meant h bad =
     let p = err_from_is_err_and result h in
     subst (λ x. IsMeant f x meant) (sym p.1) (subst (λ y. (y ≡ NoMemory) ⊎ (meant ≡ Err y)) (sym p.2) bad)
-
--- the last of five steps that do not ask for one another
-pub fifth_stops : {A B C D E F : Type 0} (m : Result A Refusal) (n : Result B Refusal) (o : Result C Refusal) (p : Result D Refusal) (q : Result E Refusal)
-    (more : A → B → C → D → E → Result F Refusal) (a : A) (b : B) (c : C) (d : D) (r : Refusal)
-    → m ≡ Ok a → n ≡ Ok b → o ≡ Ok c → p ≡ Ok d → (r ≡ NoMemory) ⊎ (q ≡ Err r)
-    → (r ≡ NoMemory) ⊎ (and_then m (λ a. and_then n (λ b. and_then o (λ c. and_then p (λ d. and_then q (λ e. more a b c d e))))) ≡ Err r)
-fifth_stops m n o p q more a b c d r is_a is_b is_c is_d (inl h) = inl h
-fifth_stops m n o p q more a b c d r is_a is_b is_c is_d (inr h) = inr (
-    ap (λ x. and_then x (λ a. and_then n (λ b. and_then o (λ c. and_then p (λ d. and_then q (λ e. more a b c d e)))))) is_a
-    ∙ (ap (λ x. and_then x (λ b. and_then o (λ c. and_then p (λ d. and_then q (λ e. more a b c d e))))) is_b
-    ∙ (ap (λ x. and_then x (λ c. and_then p (λ d. and_then q (λ e. more a b c d e)))) is_c
-    ∙ (ap (λ x. and_then x (λ d. and_then q (λ e. more a b c d e))) is_d
-    ∙ ap (λ x. and_then x (λ e. more a b c d e)) h))))

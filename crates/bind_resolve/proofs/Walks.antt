@@ -1,5 +1,5 @@
 -- Lemmas on items and relations one after another.
-use Rattle.std.proofs.Common.{◌≡◌, ◌⊎◌, ℕ, ◌+◌, ◌<◌, ◌≤◌, Bool, true, false, ◌||◌, IsTrue, List, [], ◌∷◌, ◌++◌, map, length, drop, get_or, Result, Ok, Err, append-nil, append_assoc, if◌then◌else◌}
+use Rattle.std.proofs.Common.{◌≡◌, ◌⊎◌, ℕ, ◌+◌, ◌<◌, ◌≤◌, Bool, true, false, ◌||◌, IsTrue, List, [], ◌∷◌, ◌++◌, map, length, drop, get_or, Option, Result, Ok, Err, append-nil, append_assoc, if◌then◌else◌}
 use mathlib.Core.Path.{refl, sym, ap, ◌∙◌}
 use mathlib.Core.Logic.{inl, inr}
 use Rattle.std.specs.Str.{bytes_eq}
@@ -7,12 +7,13 @@ use denote.Ref.{Bor}
 use Rattle.std.proofs.lemmas.List.{at_drop_more, at_drop_all}
 use Rattle.iv_types.specs.declared.refusal.Refusal.{Refusal}
 use Rattle.iv_types.specs.declared.refusal.Refusal.TheVariants.{NoMemory, NameTaken}
+use Rattle.iv_types.specs.declared.expression.ColumnAt.{ColumnAt}
 use Rattle.iv_types.specs.Syntax.{ItemTree, JoinTree, QueryTree, Tree}
 use Rattle.iv_types.specs.declared.statement.Relation.{Relation}
 use Rattle.iv_meaning.specs.Schema.{Schema, Object}
-use Rattle.iv_meaning.specs.Resolving.{is_among, NamedItem, Scope, Joined, and_then, called, expression, fresh, items_for, items_resolved, joins_resolved, known, names_in, query_resolved, scope_from, source}
+use Rattle.iv_meaning.specs.Resolving.{is_among, NamedItem, Scope, Joined, and_then, called, column_of, each, expression, fresh, items_for, items_resolved, joins_resolved, known, names_in, perhaps, query_resolved, scope_from, source}
 use Rattle.bind_resolve.specs.Seen.{Alike}
-use Rattle.bind_resolve.specs.Walking.{next_items, next_join, query_by, Joins}
+use Rattle.bind_resolve.specs.Walking.{choice, next_items, next_join, query_by, Joins}
 
 -- ---- steps
 
@@ -166,9 +167,21 @@ no_join objects scope others join joins r (inr e) =
 first_known : {A : Type 0} (objects : Schema) (first : Relation) (more : Object → Result A Refusal) → and_then (source objects [] first) more ≡ and_then (known objects first.name) more
 first_known objects first more = nested (known objects first.name) (λ object. Ok object) more
 
+chosen : {A : Type 0} (scope : Scope) (query : QueryTree) (more : Option Tree × List ColumnAt → Result A Refusal)
+    → and_then (choice scope query) more ≡ and_then (perhaps (expression scope) query.condition) (λ condition. and_then (each (column_of scope) query.group) (λ group. more (condition, group)))
+chosen scope query more =
+    nested (perhaps (expression scope) query.condition) (λ condition. and_then (each (column_of scope) query.group) (λ group. Ok (condition, group))) more
+    ∙ under (perhaps (expression scope) query.condition) _ _ (λ condition. nested (each (column_of scope) query.group) (λ group. Ok (condition, group)) more)
+
 -- a query by what it sees
 pub query_is : (view : Bool) (objects : Schema) (query : QueryTree) → query_by view objects (scope_from objects query) query ≡ query_resolved view objects query
-query_is view objects query = under (items_resolved view (scope_from objects query) [] query.items) _ _ (λ items. sym (first_known objects query.first _))
+query_is view objects query =
+    let scope : Scope = scope_from objects query in
+    under (items_resolved view scope [] query.items) _ _ (λ items.
+    under (known objects query.first.name) _ _ (λ first.
+    under (joins_resolved objects scope (called query.first ∷ []) query.joins) _ _ (λ joins.
+    chosen scope query (λ (c : Option Tree × List ColumnAt). Ok (record { items = items; first = first; joins = joins; condition = c.0; group = c.1 }))))
+    ∙ sym (first_known objects query.first _))
 
 -- ---- loops: G is what the rest gives
 

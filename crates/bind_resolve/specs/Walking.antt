@@ -4,7 +4,8 @@
 use Rattle.std.specs.Prelude.{ℕ, List, [], ◌∷◌, ◌++◌, Bool, ◌&&◌, IsTrue, Option, Some, None, Result, Ok, if◌then◌else◌}
 use Rattle.std.specs.Str.{bytes_eq}
 use Rattle.iv_types.specs.declared.refusal.Refusal.{Refusal}
-use Rattle.iv_types.specs.Syntax.{ItemTree, JoinTree, QueryTree}
+use Rattle.iv_types.specs.declared.expression.ColumnAt.{ColumnAt}
+use Rattle.iv_types.specs.Syntax.{ItemTree, JoinTree, QueryTree, Tree}
 use Rattle.iv_meaning.specs.Schema.{Schema}
 use Rattle.iv_meaning.specs.Resolving.{Column, NamedItem, Scope, Joined, ResolvedQuery, and_then, called, column_of, each, expression, fresh, items_for, items_resolved, joins_resolved, known, names_in, perhaps}
 use Rattle.bind_resolve.specs.Seen.{Alike}
@@ -28,12 +29,17 @@ next_join objects scope others join =
 abbrev pub Joins : Bool → List (List ℕ) → List (List ℕ) → List (List ℕ) → Type 0
 Joins view names others after = IsTrue view → Alike after (names ++ others)
 
+-- the condition of a query and the columns of its GROUP BY
+abbrev pub choice : Scope → QueryTree → Result (Option Tree × List ColumnAt) Refusal
+choice scope query =
+    and_then (perhaps (expression scope) query.condition) (λ condition.
+    and_then (each (column_of scope) query.group) (λ group. Ok (condition, group)))
+
 -- a query that sees these relations, of which the first has a name of its own
 abbrev pub query_by : Bool → Schema → Scope → QueryTree → Result ResolvedQuery Refusal
 query_by view objects scope query =
     and_then (items_resolved view scope [] query.items) (λ items.
     and_then (known objects query.first.name) (λ first.
     and_then (joins_resolved objects scope (called query.first ∷ []) query.joins) (λ joins.
-    and_then (perhaps (expression scope) query.condition) (λ condition.
-    and_then (each (column_of scope) query.group) (λ group.
-    Ok (record { items = items; first = first; joins = joins; condition = condition; group = group }))))))
+    and_then (choice scope query) (λ chosen.
+    Ok (record { items = items; first = first; joins = joins; condition = chosen.0; group = chosen.1 })))))

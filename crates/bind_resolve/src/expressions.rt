@@ -3,8 +3,7 @@
 
 ghost use Rattle.std.specs.Fn.{FnReturnsAt};
 ghost use Rattle.std.specs.Prelude.{◌≡◌, [], map};
-ghost use Rattle.iv_types.specs.Trees.{tree, trees, perhaps_tree};
-ghost use Rattle.iv_types.specs.Trees as trees_of;
+ghost use Rattle.iv_types.specs.Trees.{tree, trees, perhaps_tree, set_tree as written};
 ghost use Rattle.iv_meaning.specs.Bound.{set_tree};
 ghost use Rattle.iv_meaning.specs.Resolving as meant;
 ghost use Rattle.bind_resolve.specs.Each.{EachBy};
@@ -79,7 +78,7 @@ pub fn condition(
 }
 
 fn assignment(alloc: Global, scope: &Scope<'_>, set: &Set) -> Result<BoundSet, Refusal>
-    ensures { IsMeant set_tree result (meant.assignment (scope_seen scope.now) (trees_of.set_tree set.now)) }
+    ensures { IsMeant set_tree result (meant.assignment (scope_seen scope.now) (written set.now)) }
 {
     let column = place_of(alloc, scope, &set.name)?;
     let value = expression(alloc, scope, &set.value)?;
@@ -88,7 +87,7 @@ fn assignment(alloc: Global, scope: &Scope<'_>, set: &Set) -> Result<BoundSet, R
 
 /// The assignments of an UPDATE.
 pub fn assignments(alloc: Global, scope: &Scope<'_>, sets: &[Set]) -> Result<BoundSetList, Refusal>
-    ensures { IsMeant (map set_tree) result (meant.each (meant.assignment (scope_seen scope.now)) (map trees_of.set_tree sets.now)) }
+    ensures { IsMeant (map set_tree) result (meant.each (meant.assignment (scope_seen scope.now)) (map written sets.now)) }
 {
     each(alloc, sets, |set| assignment(alloc, scope, set))
 }
@@ -104,11 +103,7 @@ pub fn tuples(alloc: Global, tuples: &[ExprList]) -> Result<TupleList, Refusal>
     ensures { IsMeant (map trees) result (meant.each (meant.each (meant.expression (record { relations = []; columns = [] }))) (map trees tuples.now)) }
 {
     let scope = empty_scope(alloc);
-    each(
-        alloc,
-        tuples,
-        |values| tuple(alloc, &scope, values.as_slice()),
-    )
+    each(alloc, tuples, |row| tuple(alloc, &scope, row.as_slice()))
 }
 
 /// The places of some columns in their relation.

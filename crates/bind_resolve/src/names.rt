@@ -2,7 +2,6 @@
 ghost use Rattle.std.specs.Prelude.{◌≡◌, ◌∷◌, [], ◌++◌, OnOk};
 ghost use Rattle.std.specs.Str.{bytes_eq};
 ghost use Rattle.iv_meaning.specs.Objects.{schema_of, object_of};
-ghost use Rattle.iv_meaning.specs.Resolving.{is_among};
 ghost use Rattle.iv_meaning.specs.Resolving as meant;
 ghost use Rattle.bind_resolve.specs.Meant.{IsMeant};
 ghost use Rattle.bind_resolve.specs.Seen.{names_in, Alike};
@@ -49,7 +48,7 @@ pub fn new_object(alloc: Global, catalog: &Catalog, name: &Bytes) -> Result<(), 
 
 // Whether a name is one of some others.
 fn is_among(names: &Names<'_>, name: &Bytes) -> bool
-    ensures { result ≡ is_among (names_in names.now.keys) name.now }
+    ensures { result ≡ meant.is_among (names_in names.now.keys) name.now }
 {
     names.contains(name.as_slice())
 }

@@ -3,26 +3,27 @@
 
 ghost use Rattle.std.specs.Prelude.{◌≡◌, ◌∷◌, [], map, IfOk, OnOk};
 ghost use Rattle.std.specs.Option.{option_copied};
-ghost use Rattle.iv_types.specs.Trees.{tree, item_tree, join_tree, query_tree};
+ghost use Rattle.iv_types.specs.Trees.{tree, item_tree, join_tree, perhaps_tree, query_tree};
 ghost use Rattle.iv_meaning.specs.Objects.{schema_of};
-ghost use Rattle.iv_meaning.specs.Resolving.{item_name};
+ghost use Rattle.iv_meaning.specs.Bound.{item_tree as bound_item};
 ghost use Rattle.iv_meaning.specs.Resolving as meant;
 ghost use Rattle.bind_resolve.specs.Meant.{IsMeant};
 ghost use Rattle.bind_resolve.specs.Seen.{Alike, names_in, item_seen, joined_seen, query_seen, scope_seen};
-ghost use Rattle.bind_resolve.specs.Walking.{next_items, next_join, query_by, Joins};
+ghost use Rattle.bind_resolve.specs.Walking.{choice, next_items, next_join, query_by, Joins};
 
 use crate::expressions::{condition, expression, group};
 use crate::names::{Names, fresh, known, new_name};
 use crate::scope::{called, column_of, scope_from};
 use crate::{Joined, NamedItem, ResolvedQuery, Scope};
 use iv_types::{
-    BoundItem, Bytes, Catalog, Expr, Item, Join, NoMemory, Query, Refusal, Relation, Sequence,
+    BoundItem, Bytes, Catalog, ColumnAtList, Expr, Item, Join, NoMemory, Query, Refusal, Relation,
+    Sequence,
 };
 use std::alloc::Global;
 
 // All columns of FROM.
-fn all_columns<'a>(alloc: Global, scope: &Scope<'a>) -> Result<Sequence<NamedItem<'a>>, NoMemory>
-    ensures { IfOk result (λ items. map item_seen items ≡ map meant.item_at (scope_seen scope.now).columns) }
+fn all_columns<'a>(alloc: Global, scope: &Scope<'a>) -> Result<Sequence<NamedItem<'a>>, Refusal>
+    ensures { IsMeant (map item_seen) result (Ok (map meant.item_at (scope_seen scope.now).columns)) }
 {
     let mut items = Sequence::new(alloc);
     for column in scope.columns.as_slice() {
@@ -36,7 +37,7 @@ fn all_columns<'a>(alloc: Global, scope: &Scope<'a>) -> Result<Sequence<NamedIte
 
 // The name of an item that is an expression: that of AS, or else that of its column.
 fn item_name<'a>(expression: &'a Expr, name: &'a Option<Bytes>) -> Option<&'a Bytes>
-    ensures { option_copied result ≡ item_name (tree expression.now) name.now }
+    ensures { option_copied result ≡ meant.item_name (tree expression.now) name.now }
 {
     match (name, expression) {
         (Some(name), _) => Some(name),
@@ -49,8 +50,8 @@ fn one<'a>(
     alloc: Global,
     item: BoundItem,
     name: Option<&'a Bytes>,
-) -> Result<Sequence<NamedItem<'a>>, NoMemory>
-    ensures { IfOk result (λ items. items ≡ (record { item = item; name = name.entry }) ∷ []) }
+) -> Result<Sequence<NamedItem<'a>>, Refusal>
+    ensures { IsMeant (map item_seen) result (Ok ((record { item = bound_item item; name = option_copied name.entry }) ∷ [])) }
 {
     let mut items = Sequence::new(alloc);
     items.push(NamedItem { item, name })?;
@@ -66,15 +67,15 @@ fn items_for<'a>(
     ensures { IsMeant (map item_seen) result (meant.items_for (scope_seen scope.now) (item_tree item.now)) }
 {
     match item {
-        Item::All => Ok(all_columns(alloc, scope)?),
-        Item::Count(name) => Ok(one(alloc, BoundItem::Count, name.as_ref())?),
+        Item::All => all_columns(alloc, scope),
+        Item::Count(name) => one(alloc, BoundItem::Count, name.as_ref()),
         Item::Sum(column, name) => {
             let place = column_of(alloc, scope, column)?;
-            Ok(one(alloc, BoundItem::Sum(place), name.as_ref())?)
+            one(alloc, BoundItem::Sum(place), name.as_ref())
         }
         Item::Plain(e, name) => {
             let value = expression(alloc, scope, e)?;
-            Ok(one(alloc, BoundItem::Plain(value), item_name(e, name))?)
+            one(alloc, BoundItem::Plain(value), item_name(e, name))
         }
     }
 }
@@ -165,6 +166,19 @@ fn joins<'a>(
     Ok(found)
 }
 
+// The condition of a query and the columns of its GROUP BY.
+fn choice(
+    alloc: Global,
+    scope: &Scope<'_>,
+    query: &Query,
+) -> Result<(Option<Expr>, ColumnAtList), Refusal>
+    ensures { IsMeant (λ c. (perhaps_tree c.0, c.1)) result (choice (scope_seen scope.now) (query_tree query.now)) }
+{
+    let condition = condition(alloc, scope, &query.condition)?;
+    let group = group(alloc, scope, query.group.as_slice())?;
+    Ok((condition, group))
+}
+
 // A query that sees these relations.
 fn query_in<'a>(
     alloc: Global,
@@ -178,8 +192,7 @@ fn query_in<'a>(
     let items = items(alloc, view, scope, query.items.as_slice())?;
     let first = known(alloc, catalog, &query.first.name)?;
     let joins = joins(alloc, catalog, scope, &query.first, query.joins.as_slice())?;
-    let condition = condition(alloc, scope, &query.condition)?;
-    let group = group(alloc, scope, query.group.as_slice())?;
+    let (condition, group) = choice(alloc, scope, query)?;
     Ok(ResolvedQuery {
         items,
         first,

@@ -5,10 +5,8 @@ ghost use Rattle.std.specs.Prelude.{◌≡◌, ◌++◌, ◌∷◌, [], filter, 
 ghost use Rattle.std.specs.Option.{option_copied, option_map_or};
 ghost use Rattle.std.specs.Str.{bytes_eq};
 ghost use Rattle.iv_types.specs.Trees.{query_tree};
-ghost use Rattle.iv_meaning.specs.Schema.{object_columns};
-ghost use Rattle.iv_meaning.specs.Schema as schema;
+ghost use Rattle.iv_meaning.specs.Schema.{object_columns, named as object_named};
 ghost use Rattle.iv_meaning.specs.Objects.{schema_of, object_of};
-ghost use Rattle.iv_meaning.specs.Resolving.{how_many};
 ghost use Rattle.iv_meaning.specs.Resolving as meant;
 ghost use Rattle.bind_resolve.specs.Meant.{IsMeant};
 ghost use Rattle.bind_resolve.specs.Seen.{names_in, column_seen, scope_seen};
@@ -124,7 +122,7 @@ fn add_source<'a>(
     relation: &'a Relation,
 ) -> Result<(), NoMemory>
     ensures relations { OnOk result (names_in scope.new.relations ≡ names_in scope.old.relations ++ meant.called relation.now ∷ []) }
-    ensures columns { OnOk result (map column_seen scope.new.columns ≡ map column_seen scope.old.columns ++ meant.columns_from (meant.called relation.now) (length scope.old.relations) 0 (option_map_or object_columns (schema.named (schema_of catalog.now) relation.now.name) [])) }
+    ensures columns { OnOk result (map column_seen scope.new.columns ≡ map column_seen scope.old.columns ++ meant.columns_from (meant.called relation.now) (length scope.old.relations) 0 (option_map_or object_columns (object_named (schema_of catalog.now) relation.now.name) [])) }
 {
     match catalog.find(relation.name.as_slice()) {
         Some(definition) => {
@@ -154,7 +152,7 @@ pub fn scope_from<'a>(
 // How many relations are called so.
 #[tactic(auto, using(crate::proofs::Steps::count_seen))]
 fn how_many_called(qualifier: &Bytes, scope: &Scope<'_>) -> usize
-    ensures { result ≡ how_many (bytes_eq qualifier.now) (scope_seen scope.now).relations }
+    ensures { result ≡ meant.how_many (bytes_eq qualifier.now) (scope_seen scope.now).relations }
 {
     let relations = scope.relations.as_slice().iter();
     relations.filter(|r| same_name(qualifier, r)).count()

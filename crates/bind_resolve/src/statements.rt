@@ -2,9 +2,8 @@
 #![tactic(auto, using(crate::proofs::Steps::stops, crate::proofs::Steps::goes_on))]
 
 ghost use Rattle.std.specs.Prelude.{◌≡◌, [], map};
-ghost use Rattle.iv_types.specs.Trees.{perhaps_tree, statement_tree};
+ghost use Rattle.iv_types.specs.Trees.{perhaps_tree, set_tree, statement_tree};
 ghost use Rattle.iv_types.specs.Syntax as syntax;
-ghost use Rattle.iv_types.specs.Trees as trees_of;
 ghost use Rattle.iv_meaning.specs.Objects.{schema_of};
 ghost use Rattle.iv_meaning.specs.Resolving as meant;
 ghost use Rattle.bind_resolve.specs.Meant.{IsMeant};
@@ -67,7 +66,7 @@ fn update<'a>(
     sets: &[Set],
     where_: &Option<Expr>,
 ) -> Result<Resolved<'a>, Refusal>
-    ensures { IsMeant resolved_seen result (meant.resolved (schema_of catalog.now) (syntax.update table.now (map trees_of.set_tree sets.now) (perhaps_tree where_.now))) }
+    ensures { IsMeant resolved_seen result (meant.resolved (schema_of catalog.now) (syntax.update table.now (map set_tree sets.now) (perhaps_tree where_.now))) }
 {
     let target = known(alloc, catalog, table)?;
     let scope = scope_of_object(alloc, table, target)?;

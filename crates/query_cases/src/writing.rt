@@ -11,11 +11,11 @@ use std::mem::forget;
 /// # Errors
 ///
 /// Where one is no number.
-pub fn read_places(alloc: Global, text: &str) -> anyhow::Result<Vec<u32>> {
+pub fn read_places(alloc: Global, text: &str) -> anyhow::Result<Vec<usize>> {
     let mut places = Vec::new(alloc);
     if text != "-" {
         for token in text.split(' ') {
-            places.push(token.parse::<u32>()?)?;
+            places.push(token.parse::<usize>()?)?;
         }
     }
     Ok(places)

@@ -31,7 +31,7 @@ fn bound_of(alloc: Global, catalog: &Catalog, statement: Resolved<'_>) -> Result
             target,
             columns,
         } => index(alloc, catalog, name, target, columns),
-        Resolved::View { name, query } => view(alloc, catalog, name, query),
+        Resolved::View { name, query } => view(alloc, catalog, name, &query),
         Resolved::Insert { target, tuples } => {
             let table = number_of(target);
             Ok(Bound::Insert(BoundInsert { table, tuples }))

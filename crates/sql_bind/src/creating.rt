@@ -3,7 +3,6 @@ ghost use Rattle.std.specs.Prelude.{◌≡◌, map, IfOk, ◌++◌};
 ghost use Rattle.std.specs.List.{filter_map};
 ghost use Rattle.std.specs.Option.{option_map, option_to_list};
 ghost use Rattle.iv_types.specs.Trees.{perhaps_tree, trees};
-ghost use Rattle.iv_meaning.specs.Binding.{second_kept, summed, bound_query};
 ghost use Rattle.iv_meaning.specs.Bound.{bound_tree, item_tree, order_tree};
 ghost use Rattle.iv_meaning.specs.Objects.{object_of, schema_of, view_tree};
 ghost use Rattle.iv_meaning.specs.Shape.{object_number};
@@ -20,7 +19,7 @@ use bind_resolve::{Joined, NamedItem, ResolvedQuery, place};
 use iv_types::{
     Bound, BoundItem, BoundItemList, BoundOrder, BoundOrderList, BoundSelect, Bytes, Catalog,
     ColumnAtList, ColumnDef, Definition, Expr, ExprList, IndexDef, NameList, NoMemory, Order,
-    Places, Second, Sequence, TableDef, ViewDef, copied_columns,
+    Places, Second, Sequence, TableDef, ViewDef, copied_columns, copied_condition,
 };
 use std::alloc::Global;
 
@@ -80,7 +79,7 @@ fn names_of(alloc: Global, items: &[NamedItem<'_>]) -> Result<NameList, NoMemory
 
 // The columns that items sum.
 fn sums_of(alloc: Global, items: &[NamedItem<'_>]) -> Result<ColumnAtList, NoMemory>
-    ensures { IfOk result (λ sums. sums ≡ filter_map (λ i. summed i.item) (map item_seen items.now)) }
+    ensures { IfOk result (λ sums. sums ≡ filter_map (λ i. meant.summed i.item) (map item_seen items.now)) }
 {
     let mut sums = ColumnAtList::new(alloc);
     for item in items {
@@ -98,7 +97,7 @@ fn kept_second(
     first: &TableDef,
     query: &ResolvedQuery<'_>,
 ) -> Result<Option<Second>, NoMemory>
-    ensures { IfOk result (λ second. second ≡ option_map (second_kept (schema_of catalog.now) first.now) (tests.second_of (query_seen query.now))) }
+    ensures { IfOk result (λ second. second ≡ option_map (meant.second_kept (schema_of catalog.now) first.now) (tests.second_of (query_seen query.now))) }
 {
     let Some((second, joined)) = second_of(alloc, query)? else {
         return Ok(None);
@@ -111,7 +110,7 @@ fn kept_second(
     }))
 }
 
-// The view that a query of this first table makes, without the condition and the columns of GROUP BY.
+// The view that a query of this first table makes.
 fn made_view(
     alloc: Global,
     catalog: &Catalog,
@@ -119,7 +118,7 @@ fn made_view(
     first: &TableDef,
     query: &ResolvedQuery<'_>,
 ) -> Result<ViewDef, NoMemory>
-    ensures { IfOk result (λ made. schema.view (view_tree (record made { condition = query.now.condition; group = query.now.group })) ≡ meant.made_view (schema_of catalog.now) name.now (query_seen query.now) first.now) }
+    ensures { IfOk result (λ made. schema.view (view_tree made) ≡ meant.made_view (schema_of catalog.now) name.now (query_seen query.now) first.now) }
 {
     let items = query.items.as_slice();
     Ok(ViewDef {
@@ -128,9 +127,9 @@ fn made_view(
         names: names_of(alloc, items)?,
         first: first.number,
         second: kept_second(alloc, catalog, first, query)?,
-        condition: None,
-        group: ColumnAtList::new(alloc),
+        group: query.group.copied(alloc)?,
         sums: sums_of(alloc, items)?,
+        condition: copied_condition(alloc, &query.condition)?,
     })
 }
 
@@ -139,22 +138,14 @@ pub fn view(
     alloc: Global,
     catalog: &Catalog,
     name: &Bytes,
-    query: ResolvedQuery<'_>,
+    query: &ResolvedQuery<'_>,
 ) -> Result<Bound, NoMemory>
-    ensures { IfOk result (λ b. bound_tree b ≡ meant.bound_of (schema_of catalog.now) (resolved.view name.now (query_seen query.entry))) }
+    ensures { IfOk result (λ b. bound_tree b ≡ meant.bound_of (schema_of catalog.now) (resolved.view name.now (query_seen query.now))) }
 {
-    let Some(first) = as_table(query.first) else {
-        return Ok(Bound::Control);
-    };
-    let mut view = made_view(alloc, catalog, name, first, &query)?;
-    let ResolvedQuery {
-        condition,
-        group,
-        ..
-    } = query;
-    view.condition = condition;
-    view.group = group;
-    Ok(Bound::View(view))
+    match as_table(query.first) {
+        Some(first) => Ok(Bound::View(made_view(alloc, catalog, name, first, query)?)),
+        None => Ok(Bound::Control),
+    }
 }
 
 // The numbers of the objects of FROM.
@@ -202,8 +193,7 @@ fn order_of(
 fn on_of(join: Joined<'_>) -> Expr
     ensures { result ≡ join.entry.on }
 {
-    let Joined { object: _, on } = join;
-    on
+    join.on
 }
 
 // The conditions of ON, and then that of WHERE.
@@ -217,20 +207,16 @@ fn conditions(
 {
     let joins = joins.into_vec().into_iter();
     let mut found = ExprList::from_vec(joins.map(on_of).collect(alloc)?);
-    match condition {
-        Some(condition) => {
-            found.push(condition)?;
-            Ok(found)
-        }
-        None => Ok(found),
+    if let Some(condition) = condition {
+        found.push(condition)?;
     }
+    Ok(found)
 }
 
 fn item_of(item: NamedItem<'_>) -> BoundItem
     ensures { result ≡ item.entry.item }
 {
-    let NamedItem { item, name: _ } = item;
-    item
+    item.item
 }
 
 // The items without their names.
@@ -248,7 +234,7 @@ pub fn selection(
     query: ResolvedQuery<'_>,
     order: &[Order],
 ) -> Result<Bound, NoMemory>
-    ensures { IfOk result (λ b. bound_tree b ≡ bound.select (bound_query (query_seen query.entry) order.now)) }
+    ensures { IfOk result (λ b. bound_tree b ≡ bound.select (meant.bound_query (query_seen query.entry) order.now)) }
 {
     let relations = relations_of(alloc, &query)?;
     let order = order_of(alloc, query.items.as_slice(), order)?;
