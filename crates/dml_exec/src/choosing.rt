@@ -32,11 +32,7 @@ pub fn unless_refused<T: Drop>(outcome: Result<T, Refusal>) -> Result<Option<T>,
 /// # Errors
 ///
 /// `NumberRange` where the condition is refused for one of them; `NoMemory`.
-pub fn chosen(
-    alloc: Global,
-    condition: &Option<Expr>,
-    rows: RowList,
-) -> Result<RowList, Refusal>
+pub fn chosen(alloc: Global, condition: &Option<Expr>, rows: RowList) -> Result<RowList, Refusal>
     ensures { Gives (chosen_by (perhaps_tree condition.now) rows) result }
 {
     let mut rows = VecDeque::from_vec(rows.into_vec());

@@ -31,12 +31,7 @@ fn value_after(
 }
 
 // A row after the assignments, for columns of these kinds.
-fn values_after(
-    alloc: Global,
-    kinds: &[Kind],
-    sets: &[BoundSet],
-    row: &Row,
-) -> Result<Row, Refusal>
+fn values_after(alloc: Global, kinds: &[Kind], sets: &[BoundSet], row: &Row) -> Result<Row, Refusal>
     ensures { Gives (all_of (columns_after (map set_tree sets.now) row.now kinds.now 0 row.now)) result }
 {
     let values = row.as_slice();

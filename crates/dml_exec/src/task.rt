@@ -200,11 +200,7 @@ impl Task {
     /// # Errors
     ///
     /// Where there is no memory for the rows.
-    pub fn insert(
-        alloc: Global,
-        catalog: &Catalog,
-        insert: &BoundInsert,
-    ) -> Result<Task, NoMemory>
+    pub fn insert(alloc: Global, catalog: &Catalog, insert: &BoundInsert) -> Result<Task, NoMemory>
         ensures { (mode : AnyMode) → IfOk result (λ task. left task ≡ bound_work mode (schema_of catalog.now) (statement.insert insert.now.table (map trees insert.now.tuples))) }
     {
         match numbered(catalog, insert.table) {
