@@ -60,7 +60,13 @@ impl Queries {
     }
 
     fn select(&mut self, alloc: Global, mode: Mode, asked: &str) -> anyhow::Result<String> {
-        turn_of(alloc, &self.definitions.catalog, &mut self.running, mode, asked)
+        turn_of(
+            alloc,
+            &self.definitions.catalog,
+            &mut self.running,
+            mode,
+            asked,
+        )
     }
 
     /// Forgets them all.

@@ -21,12 +21,7 @@ pub enum Running {
     Change(dml_exec::Task),
 }
 
-fn write_read(
-    out: &mut String,
-    word: &str,
-    index: u32,
-    interval: &Interval,
-) -> anyhow::Result<()> {
+fn write_read(out: &mut String, word: &str, index: u32, interval: &Interval) -> anyhow::Result<()> {
     write!(out, "{word} {index} ")?;
     write_interval(out, interval)
 }

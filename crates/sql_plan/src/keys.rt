@@ -12,6 +12,7 @@ use std::alloc::Global;
 
 // How many numbers 8 bytes can tell apart, and half of them.
 const ALL_INT: u128 = 1 << 64;
+
 const HALF_INT: i128 = -LEAST_INT;
 
 // Half of what 16 bytes can count.

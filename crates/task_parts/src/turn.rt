@@ -22,7 +22,10 @@ pub enum Turn {
         mode: LockMode,
     },
     /// It wants the rows of an interval of an index as they are at its snapshot's number.
-    Peek { index: u32, interval: Interval },
+    Peek {
+        index: u32,
+        interval: Interval,
+    },
     /// It wants this row, or none, to stand under a key of a table.
     Change {
         table: u32,
