@@ -2,12 +2,12 @@
 //!
 //! A row is the kinds of the index's columns by their first letters, ` | `, what its columns are equal to, `|`, and the
 //! ranges of the column behind them with semicolons between them. Its interval is its ends in hexadecimal digits, `-` where
-//! one has no digits and `none` where there is none behind, or `misfit` where the values don't fit the columns. The row of
+//! one has no digits and `none` where there is none behind. The row of
 //! the earlier relation is the number 7 and the text 'a'.
 use anyhow::bail;
 use case_text::{operator, read_column, read_row, read_value, write_interval};
 use iv_types::{Interval, Kind, RowList};
-use sql_plan::{Equal, EqualList, PlanPart, RangeTerm, RangeTermList, fits_columns, interval};
+use sql_plan::{Equal, EqualList, PlanPart, RangeTerm, RangeTermList, interval};
 use std::alloc::Global;
 use std::mem::forget;
 
@@ -85,15 +85,11 @@ fn earlier_rows(alloc: Global) -> anyhow::Result<RowList> {
     Ok(rows)
 }
 
-// The interval of a part, if its values fit.
+// The interval of a part.
 fn ends(alloc: Global, kinds: &[Kind], part: &PlanPart) -> anyhow::Result<String> {
     let rows = earlier_rows(alloc)?;
     let mut out = String::new(alloc);
-    if fits_columns(alloc, kinds, part, &rows)? {
-        write_interval(&mut out, &interval(alloc, kinds, part, &rows)?)?;
-    } else {
-        out.push_str("misfit")?;
-    }
+    write_interval(&mut out, &interval(alloc, kinds, part, &rows)?)?;
     Ok(out)
 }
 

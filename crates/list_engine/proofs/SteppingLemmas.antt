@@ -1,5 +1,5 @@
 -- Lemmas on steps, and on a SELECT that is read by them.
-use Rattle.std.specs.Prelude.{◌≡◌, ◌≤◌, ◌<◌, ◌==◌, ◌+◌, ◌^◌, ℕ, zero, suc, Bool, true, false, List, [], ◌∷◌, ◌++◌, length, slice_get, Option, Some, None, IsSome, Ok, Err, if◌then◌else◌}
+use Rattle.std.specs.Prelude.{◌≡◌, ◌≤◌, ◌<◌, ◌==◌, ◌+◌, ◌^◌, ℕ, zero, suc, Bool, true, false, List, [], ◌∷◌, ◌++◌, length, slice_get, Option, Some, None, IsSome, Result, Ok, Err, IfOk, if◌then◌else◌}
 use Rattle.std.specs.List.{AllByRecursion}
 use Rattle.std.specs.Option.{option_map, unwrap_or}
 use Rattle.std.proofs.Common.{arith}
@@ -9,8 +9,10 @@ use mathlib.Core.Logic.{inl, inr}
 use borrow.Author.Tests.{eqb-true}
 use Rattle.iv_types.specs.declared.value.Interval.{Interval}
 use Rattle.iv_types.specs.declared.lock.LockMode.{LockMode}
-use Rattle.iv_types.specs.declared.lock.LockMode.TheVariants.{Share}
+use Rattle.iv_types.specs.declared.statement.Mode.{Mode}
+use Rattle.iv_types.specs.declared.fault.NoMemory.{NoMemory as OutOfMemory}
 use Rattle.iv_types.specs.declared.reply.Reply.{Reply}
+use Rattle.iv_types.specs.declared.reply.Reply.TheVariants as reply
 use Rattle.iv_types.specs.declared.refusal.EngineRefusal.TheVariants as refusal
 use Rattle.iv_meaning.specs.Schema.{numbered}
 use Rattle.iv_meaning.specs.Objects.{schema_of}
@@ -30,11 +32,11 @@ use Rattle.iv_types.specs.declared.bound.Bound.{Bound}
 use Rattle.iv_meaning.specs.Bound.{bound_tree}
 use Rattle.list_engine.specs.State.{State, counted}
 use Rattle.list_engine.specs.declared.parts.Opened.{Opened}
-use Rattle.list_engine.specs.Steps.{IsFree, IsBusy, MayAct, Does, May, Moves}
+use Rattle.list_engine.specs.Steps.{IsFree, IsBusy, MayLock, MayAct, Does, May, Moves}
 use Rattle.query_laws.specs.Laws.{Asks}
 use Rattle.query_exec.specs.Tasks.{after, IsTurn}
-use Rattle.query_exec.specs.declared.turn.Fetch.{Fetch}
-use Rattle.query_exec.specs.declared.turn.Turn.TheVariants.{Want}
+use Rattle.task_parts.specs.declared.turn.Told.TheVariants as told
+use Rattle.task_parts.specs.declared.turn.Turn.TheVariants as turns
 use Rattle.list_engine.specs.declared.parts.Part.{Part}
 use Rattle.iv_types.specs.declared.value.RowsOf.{RowsOf}
 use Rattle.iv_types.specs.declared.refusal.Refusal.{Refusal}
@@ -192,36 +194,35 @@ pub record IsUnderWay (InState : State → Type 0) (s : State) (whole left : Pro
   pub asks : Asks s.committed.schema left
   pub reads : replies_by (reader s.committed) left ≡ replies_by (reader s.committed) whole
 
-module _ (s : State) (session : ℕ) (reading : IsReading s session) (whole p : Program) (wanted : Fetch) where
+module _ (s : State) (session : ℕ) (reading : IsReading s session) (whole p : Program) (task_mode : Mode) (index : ℕ) (interval : Interval) (lock : LockMode) where
   abbrev step : Step
-  step = step_for session wanted
+  step = step_for session index interval lock
 
   -- the step that it wants may be asked for
-  pub may_read : (t : State) → t.committed ≡ s.committed → t.open_of ≡ s.open_of → Asks s.committed.schema p → IsTurn p (Want wanted) → May t step
+  pub may_read : (t : State) → t.committed ≡ s.committed → t.open_of ≡ s.open_of → Asks s.committed.schema p → IsTurn task_mode p (turns.Fetch index interval lock) → May t step
   may_read t same opened asks turn =
-      let w : IsWanted p wanted = turn_want p wanted turn in
-      let asked : IsSome (numbered s.committed.schema w.i) = (subst (Asks s.committed.schema) w.is asks).0 in
-      subst (λ x. May t (step_for session x)) (sym w.wanted_is) (inr (record {
+      let w : IsWanted p index interval lock = turn_want task_mode p index interval lock turn in
+      let asked : IsSome (numbered s.committed.schema index) = (subst (Asks s.committed.schema) w.is asks).0 in
+      inr (record {
         of_session = reading.1;
         number = reading.0;
         opened = ap (λ f. f session) opened ∙ reading.2;
-        index_is = subst (λ (db : Database). IsSome (numbered db.schema w.i)) (sym same) asked;
-      }))
+        index_is = subst (λ m. MayLock m (numbered t.committed.schema index)) (sym w.lock_is) (subst (λ (db : Database). IsSome (numbered db.schema index)) (sym same) asked);
+      })
 
   -- what is left of it after the step
-  pub goes_on : (old new : State → Type 0) (u : IsUnderWay old s whole p) → IsTurn p (Want wanted) → (rows : List Row) → Moves new u.after step (answer.Rows rows)
-      → IsUnderWay new s whole (after (Some rows) p)
+  pub goes_on : (old new : State → Type 0) (u : IsUnderWay old s whole p) → IsTurn task_mode p (turns.Fetch index interval lock) → (rows : List Row) → Moves new u.after step (answer.Rows rows)
+      → IsUnderWay new s whole (after (told.Rows rows) p)
   goes_on old new u turn rows m =
-      let w : IsWanted p wanted = turn_want p wanted turn in
-      let act_is : step.act ≡ act.Fetch w.i w.interval Share = ap (λ x. (step_for session x).act) w.wanted_is in
+      let w : IsWanted p index interval lock = turn_want task_mode p index interval lock turn in
       elim m.does [
         | inl stopped ↦ absurd (cc_rows stopped.1.says)
         | inr moved ↦
-            let d : Does u.after step.session (act.Fetch w.i w.interval Share) (answer.Rows rows) m.after = subst (λ a. Does u.after step.session a (answer.Rows rows) m.after) act_is moved.1 in
-            let same = fetched u.after step.session w.i w.interval Share (answer.Rows rows) m.after d in
-            let told_rows : reader s.committed w.i w.interval ≡ rows = ap (λ db. reader db w.i w.interval) (sym u.committed) ∙ d.0 in
+            let d : Does u.after step.session (act.Fetch index interval lock) (answer.Rows rows) m.after = moved.1 in
+            let same = fetched u.after step.session index interval lock (answer.Rows rows) m.after d in
+            let told_rows : reader s.committed index interval ≡ rows = ap (λ db. reader db index interval) (sym u.committed) ∙ d.0 in
             let more : Program = w.more rows in
-            let left_is : after (Some rows) p ≡ w.more rows = ap (after (Some rows)) w.is in
+            let left_is : after (told.Rows rows) p ≡ w.more rows = ap (after (told.Rows rows)) w.is in
             record {
               after = m.after;
               committed = same.0 ∙ u.committed;
@@ -238,15 +239,14 @@ module _ (s : State) (session : ℕ) (reading : IsReading s session) (whole p : 
       cc_rows e = absurd (cc)
 
   -- and where it is not told rows
-  pub ends : (old new : State → Type 0) (u : IsUnderWay old s whole p) → IsTurn p (Want wanted) → (a : Answer) → Moves new u.after step a
+  pub ends : (old new : State → Type 0) (u : IsUnderWay old s whole p) → IsTurn task_mode p (turns.Fetch index interval lock) → (a : Answer) → Moves new u.after step a
       → WasRead new s whole (Err (record {}))
   ends old new u turn a m =
-      let w : IsWanted p wanted = turn_want p wanted turn in
-      let act_is : step.act ≡ act.Fetch w.i w.interval Share = ap (λ x. (step_for session x).act) w.wanted_is in
+      let w : IsWanted p index interval lock = turn_want task_mode p index interval lock turn in
       elim m.does [
         | inl stopped ↦ record { after = m.after; committed = ap (λ t. t.committed) stopped.1.left ∙ u.committed; opened = ap (λ t. t.open_of) stopped.1.left ∙ u.opened; stands = m.stands; replies = tt }
         | inr moved ↦
-            let same = fetched u.after step.session w.i w.interval Share a m.after (subst (λ x. Does u.after step.session x a m.after) act_is moved.1) in
+            let same = fetched u.after step.session index interval lock a m.after moved.1 in
             record { after = m.after; committed = same.0 ∙ u.committed; opened = same.1 ∙ u.opened; stands = m.stands; replies = tt }
       ]
 
@@ -257,3 +257,8 @@ left_off InState s whole left u = record { after = u.after; committed = u.commit
 pub told_all : (InState : State → Type 0) (s : State) (whole left : Program) (replies : List Reply) → IsUnderWay InState s whole left → replies ≡ replies_by (reader s.committed) left
     → WasRead InState s whole (Ok replies)
 told_all InState s whole left replies u e = record { after = u.after; committed = u.committed; opened = u.opened; stands = u.stands; replies = e ∙ u.reads }
+
+pub told_refused : (InState : State → Type 0) (s : State) (whole left : Program) (why : Refusal) (result : Result (List Reply) OutOfMemory) → IsUnderWay InState s whole left
+    → reply.Error why ∷ [] ≡ replies_by (reader s.committed) left → IfOk result (λ replies. replies ≡ reply.Error why ∷ []) → WasRead InState s whole result
+told_refused InState s whole left why (Ok replies) u e h = told_all InState s whole left replies u (h ∙ e)
+told_refused InState s whole left why (Err none) u e h = left_off InState s whole left u

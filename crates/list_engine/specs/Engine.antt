@@ -18,8 +18,8 @@ use Rattle.iv_meaning.specs.Binding.{bind}
 use Rattle.iv_meaning.specs.Statement.{Meaning, Refused}
 use Rattle.iv_meaning.specs.Transaction.{means, ended_by}
 use Rattle.list_engine.specs.Whole.{IsTold, IsPassedOver}
-use Rattle.iv_types.specs.declared.lock.LockMode.TheVariants.{Share}
-use Rattle.query_exec.specs.declared.turn.Fetch.{Fetch}
+use Rattle.iv_types.specs.declared.lock.LockMode.{LockMode}
+use Rattle.iv_types.specs.declared.value.Interval.{Interval}
 use Rattle.list_engine.specs.declared.step.Step.{Step}
 use Rattle.list_engine.specs.declared.step.Act.{Act}
 use Rattle.list_engine.specs.declared.step.Act.TheVariants as act
@@ -73,8 +73,8 @@ IsWhy s statement why =
 -- ---- SELECTs
 
 -- the step of a session that reads what a task wants
-abbrev pub step_for : ℕ → Fetch → Step
-step_for session wanted = record { session = session; act = act.Fetch wanted.index wanted.interval Share }
+abbrev pub step_for : ℕ → ℕ → Interval → LockMode → Step
+step_for session index interval lock = record { session = session; act = act.Fetch index interval lock }
 
 -- the session has a transaction open that reads what is committed
 abbrev pub IsReading : State → ℕ → Type 0

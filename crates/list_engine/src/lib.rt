@@ -15,6 +15,5 @@ mod step;
 mod stepper;
 mod table_insert;
 mod table_lists;
-mod tuples;
 
 pub use engine::ListEngine;

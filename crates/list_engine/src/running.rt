@@ -110,7 +110,8 @@ impl ListEngine {
         if self.begin_read(session).is_err() {
             return refused(self.alloc, Refusal::NoMemory);
         }
-        match read_by(self, session, task) {
+        let alloc = self.alloc;
+        match read_by(alloc, self, session, task) {
             Ok(replies) => self.close_read(session, replies),
             Err(NoMemory) => self.leave_read(session),
         }
@@ -171,7 +172,7 @@ impl ListEngine {
         ) {
             return refused(self.alloc, refusal);
         }
-        let Ok(mut task) = Task::new(self.alloc, &self.catalog, select, plan) else {
+        let Ok(mut task) = Task::new(self.alloc, &self.catalog, select, plan, Mode::Serial) else {
             return refused(self.alloc, Refusal::NoMemory);
         };
         self.run_task(session, &mut task)

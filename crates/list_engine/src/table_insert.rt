@@ -18,10 +18,10 @@ ghost use Rattle.list_engine.specs.Inserting.{AreInserted, IsDuplicate};
 ghost use Rattle.list_engine.specs.Insertion.{place_in, PutsIn, Inserts};
 
 use crate::row_insert::insert_all;
-use crate::tuples::tuple_rows;
 use iv_types::{Catalog, Definition, ExprList, Refusal, Row, RowList, RowsOf, TableDef, TableRows};
 use list_store::{Key, primary_key};
 use row_codec::row_fits;
+use row_eval::tuple_rows;
 use sql_plan::numbered;
 use std::alloc::Global;
 

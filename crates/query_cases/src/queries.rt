@@ -1,13 +1,14 @@
 //! Tables of what queries and their parts give.
+use crate::changing;
 use crate::evaluating::{truth_of, value_of};
 use crate::grouping::groups_of;
 use crate::selecting::turn_of;
+use crate::turns::Running;
 use crate::views::{kept_of, view_of};
 use anyhow::bail;
 use case_text::{Cases, read_rows};
 use catalog_text::Definitions;
-use iv_types::RowList;
-use query_exec::Task;
+use iv_types::{Mode, RowList};
 use std::alloc::Global;
 use std::mem::{forget, replace};
 
@@ -20,6 +21,8 @@ enum Asking {
     View,
     Kept,
     Select,
+    Snapshot,
+    Change,
 }
 
 // What is asked for in a table of this name.
@@ -32,16 +35,18 @@ fn asked_for(name: &str) -> Option<Asking> {
         "views" => Some(Asking::View),
         "kept" => Some(Asking::Kept),
         "selects" => Some(Asking::Select),
+        "snapshots" => Some(Asking::Snapshot),
+        "changes" => Some(Asking::Change),
         _ => None,
     }
 }
 
-/// What tables are given, and the SELECT that is being read.
+/// What tables are given, and the statement that is under way.
 pub struct Queries {
     asking: Asking,
     rows: RowList,
     definitions: Definitions,
-    task: Option<Task>,
+    running: Option<Running>,
 }
 
 impl Queries {
@@ -50,8 +55,18 @@ impl Queries {
             asking: Asking::Value,
             rows: RowList::new(alloc),
             definitions: Definitions::new(alloc),
-            task: None,
+            running: None,
         }
+    }
+
+    fn select(&mut self, alloc: Global, mode: Mode, asked: &str) -> anyhow::Result<String> {
+        turn_of(
+            alloc,
+            &self.definitions.catalog,
+            &mut self.running,
+            mode,
+            asked,
+        )
     }
 
     /// Forgets them all.
@@ -60,11 +75,11 @@ impl Queries {
             asking: _,
             rows,
             definitions,
-            task,
+            running,
         } = self;
         forget(rows);
         definitions.forgotten();
-        forget(task);
+        forget(running);
     }
 }
 
@@ -96,7 +111,11 @@ impl Cases for Queries {
             Asking::Groups => groups_of(alloc, asked),
             Asking::View => view_of(alloc, &self.definitions.catalog, asked),
             Asking::Kept => kept_of(alloc, &self.definitions.catalog, asked),
-            Asking::Select => turn_of(alloc, &self.definitions.catalog, &mut self.task, asked),
+            Asking::Select => self.select(alloc, Mode::Serial, asked),
+            Asking::Snapshot => self.select(alloc, Mode::Snapshot, asked),
+            Asking::Change => {
+                changing::turn_of(alloc, &self.definitions.catalog, &mut self.running, asked)
+            }
         }
     }
 }

@@ -1,6 +1,6 @@
 //! Rows and refusals as texts, and places that are read.
 //!
-//! The refusal of a number outside the HUGE range is `range`.
+//! The refusal of a number outside its range is `range`, and that of a key that is there `duplicate`.
 use case_text::write_row;
 use iv_types::{Refusal, Row, RowList};
 use std::alloc::Global;
@@ -24,6 +24,7 @@ pub fn read_places(alloc: Global, text: &str) -> anyhow::Result<Vec<usize>> {
 pub fn write_refusal(out: &mut String, refusal: &Refusal) -> anyhow::Result<()> {
     out.push_str(match refusal {
         Refusal::NumberRange => "range",
+        Refusal::DuplicateKey => "duplicate",
         _ => "another refusal",
     })?;
     Ok(())

@@ -7,9 +7,6 @@ mod going;
 mod grouping;
 mod listing;
 mod ordering;
-mod source;
 mod task;
-mod turn;
 
 pub use task::Task;
-pub use turn::{Fetch, Turn};

@@ -7,3 +7,4 @@ pub mod Answering
 pub mod Keeping
 pub mod Reading
 pub mod Joins
+pub mod Collecting

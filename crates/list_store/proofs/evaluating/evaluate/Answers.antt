@@ -6,7 +6,7 @@ use Rattle.iv_meaning.specs.Schema.{numbered}
 use Rattle.iv_meaning.specs.Database.{Row}
 use Rattle.row_eval.proofs.Groups.{refused_alike}
 use Rattle.list_store.specs.Held.{AreEvaluated, whole_rows, sources}
-use Rattle.list_store.proofs.Collecting.{behind, goes_on, stops, ends}
+use Rattle.row_eval.proofs.Collecting.{behind, goes_on, stops, ends}
 use Rattle.list_store.proofs.evaluating.evaluate.Goals as goal
 
 pub returns-in_err-look_at : goal.returns-in_err-look_at

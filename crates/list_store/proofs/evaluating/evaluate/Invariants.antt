@@ -3,7 +3,7 @@ use Rattle.std.specs.List.{AllByRecursion}
 use Rattle.iv_meaning.specs.Schema.{numbered}
 use Rattle.iv_meaning.specs.Database.{Row, Database}
 use Rattle.list_store.specs.Held.{Holds, IsEvaluated, whole_rows, sources}
-use Rattle.list_store.proofs.Collecting.{behind}
+use Rattle.row_eval.proofs.Collecting.{behind}
 use Rattle.list_store.proofs.evaluating.evaluate.Given as goal
 
 abbrev pub invariant-loop-index : goal.invariant-loop-index

@@ -56,7 +56,7 @@ returns c = λ db s q i of_session b is.
     let planned : parts_of c.in-Ok.plan ≡ plan db.schema (select q) Serial =
     c.in-Ok.ensures ∙ (ap (λ (x : Schema). plan x (select (select_tree c.args.select)) Serial) i.has.holds.schema ∙ ap (λ (x : BoundQuery). plan db.schema (select x) Serial) is) in
     let p : Program = program q (sources_for db.schema q Serial) in
-    let left_is : left c.in-Ok-new.task ≡ p = c.in-Ok-new.ensures
+    let left_is : left c.in-Ok-new.task ≡ p = c.in-Ok-new.ensures.left
     ∙ (ap (λ x. program x (map (source_of (schema_of c.args.self.now.catalog)) (parts_of c.in-Ok.plan))) is
     ∙ (ap (λ (x : Schema). program q (map (source_of x) (parts_of c.in-Ok.plan))) i.has.holds.schema
     ∙ ap (λ (parts : List Part). program q (map (source_of db.schema) parts)) planned)) in

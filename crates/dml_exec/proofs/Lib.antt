@@ -1,0 +1,5 @@
+pub mod Chosen
+pub mod Columns
+pub mod Pairs
+pub mod Moving
+pub mod Works
