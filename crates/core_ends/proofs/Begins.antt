@@ -37,7 +37,7 @@ use Rattle.data_store.specs.Held.{IsHeld}
 use Rattle.core_state.specs.Stands.{Began, Told}
 use Rattle.core_state.specs.declared.state.CoreState.{CoreState}
 use Rattle.core_ends.specs.Ends.{number_in_log}
-use Rattle.core_ends.proofs.Sessions.{contents_as, kept_same, locks_same, snapshots_bare}
+use Rattle.core_state.proofs.Sessions.{contents_as, kept_same, locks_same, snapshots_bare}
 
 module _ {M : Type 0} (maps : M → ℕ → Map) (core : CoreState M) (s : State) (i : ℕ) (h : Began maps core s i) (is : IsSession i) (none : s.store.open_of i ≡ None) (good : IsBook core.book) where
   -- what the history counts

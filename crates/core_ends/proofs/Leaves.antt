@@ -46,7 +46,7 @@ use Rattle.core_state.specs.Seats.{machine_seat, machine_cleaner, seat_at}
 use Rattle.core_state.specs.Stands.{Began, Told, Holds, Counts, is_blocked}
 use Rattle.core_state.specs.declared.state.CoreState.{CoreState}
 use Rattle.core_ends.specs.Ends.{Left}
-use Rattle.core_ends.proofs.Sessions.{contents_as, kept_of, HasTxn, now_is}
+use Rattle.core_state.proofs.Sessions.{contents_as, kept_of, HasTxn, now_is}
 
 -- ---- the log
 

@@ -1,3 +1,2 @@
-pub mod Sessions
 pub mod Begins
 pub mod Leaves

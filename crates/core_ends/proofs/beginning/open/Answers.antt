@@ -2,7 +2,7 @@ use Rattle.std.proofs.Common.{ap, ◌∙◌, arith}
 use Rattle.txn_machine.specs.Log.{begun_after}
 use Rattle.txn_machine.specs.Store.{Opens}
 use Rattle.core_ends.specs.Ends.{number_in_log}
-use Rattle.core_ends.proofs.Sessions.{none_there}
+use Rattle.core_state.proofs.Sessions.{none_there}
 use Rattle.core_ends.proofs.Begins.{fits, begun_told, begins_as, begun_few}
 use Rattle.core_ends.proofs.beginning.open.Goals as goal
 

@@ -2,7 +2,7 @@ use Rattle.std.proofs.Common.{refl, arith}
 use Rattle.txn_machine.specs.Acts as act
 use Rattle.txn_machine.specs.Answers as answer
 use Rattle.txn_machine.specs.Store.{Ends, Commits, changes_by}
-use Rattle.core_ends.proofs.Sessions.{open_to_commit, serial_to_commit, some_changes, no_changes}
+use Rattle.core_state.proofs.Sessions.{open_to_commit, serial_to_commit, some_changes, no_changes}
 use Rattle.core_ends.proofs.Leaves.{left_told, commits_some, commits_none}
 use Rattle.core_ends.proofs.ending.commit.Goals as goal
 

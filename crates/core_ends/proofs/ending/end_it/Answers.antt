@@ -1,7 +1,7 @@
 use Rattle.std.proofs.Common.{◌≡◌, ◌+◌, cond, true, false, None, sym, ap, subst, ◌∙◌}
 use Rattle.txn_book.specs.Books.{Seats}
 use Rattle.core_state.specs.declared.state.CoreState.{CoreState}
-use Rattle.core_ends.proofs.Sessions.{wrote_is}
+use Rattle.core_state.proofs.Sessions.{wrote_is}
 use Rattle.core_ends.proofs.Leaves.{ended}
 use Rattle.core_ends.proofs.ending.end_it.Goals as goal
 

@@ -3,7 +3,7 @@ use Rattle.txn_machine.specs.May.{IsOpen}
 use Rattle.txn_book.specs.Books.{Committed}
 use Rattle.txn_book.specs.Txns.{txn_of}
 use Rattle.core_state.specs.declared.state.CoreState.{CoreState}
-use Rattle.core_ends.proofs.Sessions.{own_txn}
+use Rattle.core_state.proofs.Sessions.{own_txn}
 use Rattle.core_ends.proofs.Leaves.{entered}
 use Rattle.core_ends.proofs.ending.enter_it.Goals as goal
 
