@@ -93,6 +93,8 @@ module _ {M : Type 0} (maps : M → ℕ → Map) (core : CoreState M) (s : State
       locks = λ j js. subst (HasLocks (table.locks_of core.locks j)) (sym (locks_same s.store.open_of i (Some (machine.begun mode number)) (ap (λ o. (unwrap_or o idle).locks) (sym none)) j)) (h.holds.locks j js);
       begun = begun_is_more;
       next = h.holds.next;
+      row_mark = h.holds.row_mark;
+      delta_mark = h.holds.delta_mark;
     };
     own = λ sessions e. absurd (cc);
     none = λ _ js. h.own js;

@@ -66,7 +66,7 @@ next_few false n = omega arith
 module _ {M : Type 0} (maps : M → ℕ → Map) (core new : CoreState M) (s : State) (i : ℕ) (h : Began maps core s i) (is : IsSession i) (good : IsBook core.book)
     (released : IsReleased core.locks new.locks i)
     (stored : (c : Contents) → IsHeld core.store.catalog (maps core.store.tables) core.store.views c → IsHeld new.store.catalog (maps new.store.tables) new.store.views (keeping c i []))
-    (begun : new.begun ≡ core.begun) (steps : new.steps ≡ core.steps) (seats : new.seats ≡ core.seats) (cleaner : new.cleaner ≡ core.cleaner) (stop : new.stop ≡ core.stop) where
+    (row_versions : new.store.row_versions ≡ core.store.row_versions) (delta_versions : new.store.delta_versions ≡ core.store.delta_versions) (begun : new.begun ≡ core.begun) (steps : new.steps ≡ core.steps) (seats : new.seats ≡ core.seats) (cleaner : new.cleaner ≡ core.cleaner) (stop : new.stop ≡ core.stop) where
   left_locks : (u : Store) → ((j : ℕ) → u.open_of j ≡ with_one s.store.open_of i None j) → (j : ℕ) → IsSession j → HasLocks (table.locks_of new.locks j) (locks_of u j)
   left_locks u opens j js =
       subst (λ o. HasLocks (table.locks_of new.locks j) (unwrap_or o idle).locks) (sym (opens j))
@@ -108,6 +108,8 @@ module _ {M : Type 0} (maps : M → ℕ → Map) (core new : CoreState M) (s : S
       locks = left_locks (with_txn s.store i None) (λ j. refl);
       begun = begun ∙ h.holds.begun;
       next = next ∙ (ap (λ n. cond (s.log.logged i).wrote (n + 1) n) h.holds.next ∙ sym (appended_next (schema_of s.store) (Abort (s.log.logged i).transaction) (with_logged s.log i not_logged) (s.log.logged i).wrote));
+      row_mark = ap (λ x. x.pruned) row_versions ∙ h.holds.row_mark;
+      delta_mark = ap (λ x. x.pruned) delta_versions ∙ h.holds.delta_mark;
     };
     own = ap (λ (y : SessionLocks). y.waiting) released.changed;
     others = λ j n. ap (λ (y : SessionLocks). y.waiting) (released.others j n);
@@ -136,6 +138,8 @@ module _ {M : Type 0} (maps : M → ℕ → Map) (core new : CoreState M) (s : S
           locks = left_locks u (λ j. refl);
           begun = begun ∙ h.holds.begun;
           next = next ∙ ap (λ n. n + 1) h.holds.next;
+          row_mark = ap (λ x. x.pruned) row_versions ∙ h.holds.row_mark;
+          delta_mark = ap (λ x. x.pruned) delta_versions ∙ h.holds.delta_mark;
         };
         own = ap (λ (y : SessionLocks). y.waiting) released.changed;
         others = λ j n. ap (λ (y : SessionLocks). y.waiting) (released.others j n);

@@ -37,7 +37,7 @@ fn let_go<M: SortedMaps>(core: &mut CoreState<M>, session: u32)
     requires { IsSession session }
     ensures store { (c : Contents) → IsHeld core.old.store.catalog (M.maps core.old.store.tables) core.old.store.views c → IsHeld core.new.store.catalog (M.maps core.new.store.tables) core.new.store.views (keeping c session []) }
     ensures locks { IsReleased core.old.locks core.new.locks session }
-    ensures rest { core.new ≡ record core.old { store = core.new.store; locks = core.new.locks } }
+    ensures rest { core.new ≡ record core.old { store = record core.old.store { views = core.new.store.views }; locks = core.new.locks } }
 {
     core.locks.release_all(session);
     settle(&mut core.store, session);

@@ -121,6 +121,8 @@ module _ {M : Type 0} (maps : M → ℕ → Map) (core : CoreState M) (s : State
                 (λ n. subst (λ (x : SessionLocks). HasLocks x.locks (locks_of s.store k)) (sym (recorded.others k n)) (h.holds.locks k is));
             begun = h.holds.begun;
             next = h.holds.next;
+            row_mark = h.holds.row_mark;
+            delta_mark = h.holds.delta_mark;
           }));
       own = λ all e. ap (λ (x : SessionLocks). x.waiting) recorded.changed ∙ sym asks.1;
       none = λ b. absurd (cc);
@@ -164,6 +166,8 @@ module _ {M : Type 0} (maps : M → ℕ → Map) (core : CoreState M) (s : State
             locks = λ j js. subst (HasLocks (table.locks_of core.locks j)) (sym (locks_same s.store.open_of i (Some lost_one) refl j)) (h.holds.locks j js);
             begun = h.holds.begun;
             next = h.holds.next;
+            row_mark = h.holds.row_mark;
+            delta_mark = h.holds.delta_mark;
           }));
       own = λ sessions e. absurd (cc);
       none = λ _ is. h.own is;

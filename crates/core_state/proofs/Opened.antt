@@ -41,6 +41,8 @@ module _ {M : Type 0} (maps : M → ℕ → Map) (core : CoreState M) (t : Table
       locks = λ j js. subst (λ ls. HasLocks ls (locks_of s.store j)) (sym (locks_same cancelled j)) (h.holds.locks j js);
       begun = h.holds.begun;
       next = h.holds.next;
+      row_mark = h.holds.row_mark;
+      delta_mark = h.holds.delta_mark;
     };
     own = λ _. ap (λ (x : SessionLocks). x.waiting) cancelled.changed;
     waiting = λ j js n. ap (λ (x : SessionLocks). x.waiting) (cancelled.others j n) ∙ h.waiting j js;
@@ -70,9 +72,9 @@ module _ {M : Type 0} (maps : M → ℕ → Map) (core : CoreState M) (number : 
   nobody o e = subst (λ x. book.IsSame [] x None not_logged) (sym e) tt
 
   -- it stands where the machine begins
-  pub made : EmptyLaw → IsHeld core.store.catalog (maps core.store.tables) core.store.views no_contents → core.book.opened ≡ number → core.book.history ≡ [] → core.book.entry_bytes ≡ 0 → ((session : ℕ) → open_at core.book.opens session ≡ None)
+  pub made : EmptyLaw → IsHeld core.store.catalog (maps core.store.tables) core.store.views no_contents → (core.store.row_versions.pruned ≡ number) × (core.store.delta_versions.pruned ≡ number) → core.book.opened ≡ number → core.book.history ≡ [] → core.book.entry_bytes ≡ 0 → ((session : ℕ) → open_at core.book.opens session ≡ None)
       → IsNew core.locks → core.begun ≡ 0 → core.next ≡ 1 → core.steps ≡ 0 → ((session : ℕ) → seat_at core.seats session ≡ new_seat) → machine_cleaner core.cleaner ≡ the_state.cleaner → core.stop ≡ None → Stands maps core the_state
-  made law stored opened_at history bytes none new begun next steps seats cleaner stop = record {
+  made law stored marks opened_at history bytes none new begun next steps seats cleaner stop = record {
     reached = record { db = the_db; view = empty; opening = unlimited; was_opened = law number; steps = []; run = refl };
     opening = refl;
     holds = record {
@@ -87,6 +89,8 @@ module _ {M : Type 0} (maps : M → ℕ → Map) (core : CoreState M) (number : 
       locks = λ j js. subst (λ ls. HasLocks ls []) (sym (ap (λ (x : SessionLocks). x.locks) (new j))) (λ w. (λ h. h, λ h. h));
       begun = begun;
       next = next;
+      row_mark = marks.0;
+      delta_mark = marks.1;
     };
     waiting = λ j js. ap (λ (x : SessionLocks). x.waiting) (new j);
     counts = record {

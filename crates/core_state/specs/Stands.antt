@@ -36,6 +36,9 @@ module _ {M : Type 0} (maps : M → ℕ → Map) where
     pub locks : (session : ℕ) → IsSession session → HasLocks (table.locks_of core.locks session) (locks_of store session)
     pub begun : core.begun ≡ log.begun
     pub next : core.next ≡ log.next
+    -- versions are kept above the machine's mark
+    pub row_mark : core.store.row_versions.pruned ≡ store.mark
+    pub delta_mark : core.store.delta_versions.pruned ≡ store.mark
 
   -- the counts of steps, and what sessions were told
   pub record Counts (core : CoreState M) (s : State) : Type 0 where

@@ -1,10 +1,11 @@
 //! The state of the core.
-ghost use Rattle.std.specs.Prelude.{◌<◌, ◌^◌, [], IfOk};
+ghost use Rattle.std.specs.Prelude.{◌≡◌, ◌<◌, ◌^◌, [], IfOk};
 ghost use Rattle.std.specs.FinMap.{empty};
 ghost use Rattle.txn_machine.specs.Log.{unlimited};
 ghost use Rattle.txn_machine.specs.State.{opened_state};
 ghost use Rattle.txn_machine.specs.Store.{opened};
-ghost use Rattle.data_store.specs.Held.{AreEmpty};
+ghost use Rattle.data_store.specs.Contents.{no_contents};
+ghost use Rattle.data_store.specs.Held.{AreEmpty, IsHeld};
 ghost use Rattle.core_state.specs.Stands.{Stands};
 
 use crate::seat::{Cleaner, Seats};
@@ -38,6 +39,18 @@ pub struct CoreState<M: SortedMaps> {
     pub stop: Option<u64>,
 }
 
+// A store that has nothing, whose versions would be kept above this number.
+fn new_store<M: SortedMaps>(alloc: Global, maps: M, number: u64) -> Result<DataStore<M>, NoMemory>
+    requires { AreEmpty (M.maps maps) }
+    ensures held { IfOk result (λ store. IsHeld store.catalog (M.maps store.tables) store.views no_contents) }
+    ensures marks { IfOk result (λ store. (store.row_versions.pruned ≡ number) × (store.delta_versions.pruned ≡ number)) }
+{
+    let mut store = DataStore::new(alloc, maps)?;
+    store.row_versions.prune(alloc, number);
+    store.delta_versions.prune(alloc, number);
+    Ok(store)
+}
+
 impl<M: SortedMaps> CoreState<M> {
     /// A core on a database that defines nothing, whose greatest commit number is this one, over maps without an entry.
     ///
@@ -52,7 +65,7 @@ impl<M: SortedMaps> CoreState<M> {
         empty_law();
         Ok(CoreState {
             alloc,
-            store: DataStore::new(alloc, maps)?,
+            store: new_store(alloc, maps, number)?,
             book: Book::new(alloc, number)?,
             locks: LockTable::new(alloc)?,
             begun: 0,

@@ -56,6 +56,7 @@ impl<M: SortedMaps> DataStore<M> {
         requires { AreEmpty (M.maps maps) }
         ensures maps { IfOk result (λ store. store.tables ≡ maps) }
         ensures held { IfOk result (λ store. IsHeld store.catalog (M.maps store.tables) store.views no_contents) }
+        ensures pruned { IfOk result (λ store. (store.row_versions.pruned ≡ 0) × (store.delta_versions.pruned ≡ 0)) }
     {
         Ok(DataStore {
             alloc,

@@ -37,7 +37,7 @@ use Rattle.plain_machine.specs.Weights.{store_weight, most_weight}
 use Rattle.plain_machine.specs.Stands.{Stands, Told, version_deltas}
 use Rattle.plain_machine.specs.declared.machine.Machine.{Machine}
 use Rattle.plain_machine.specs.declared.machine.Version.{Version}
-use Rattle.plain_machine.proofs.Least.{least_above}
+use Rattle.txn_book.proofs.Least.{least_above}
 use Rattle.plain_machine.proofs.Payments.{kept_now, account_is}
 use Rattle.plain_machine.proofs.Standing.{stored_parts}
 use Rattle.plain_machine.proofs.Telling.{told_by, fits_log, told_still}

@@ -5,3 +5,4 @@ pub mod Holding
 pub mod Totals
 pub mod Entering
 pub mod Leading
+pub mod Least

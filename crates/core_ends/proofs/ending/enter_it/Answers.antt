@@ -20,6 +20,7 @@ returns-clause-left g c = λ s h r some.
     let o : IsOpen s.store c.args.session = record { of_session = r.goes_on.of_session; transaction = r.goes_on.transaction; is_open = r.goes_on.is_open } in
     let own = own_txn g.M.SortedMaps.maps c.args.core.now s c.args.session h o in
     entered g.M.SortedMaps.maps c.args.core.now (record c.let_go.new.core { next = c.let_go.new.core.next + 1 }) s c.args.session h o.of_session c.book_law.ensures c.let_go.ensures.locks c.let_go.ensures.store
+    (ap (λ (x : CoreState g.row.M.Denot). x.store.row_versions) rest) (ap (λ (x : CoreState g.row.M.Denot). x.store.delta_versions) rest)
     (ap (λ (x : CoreState g.row.M.Denot). x.begun) rest) (ap (λ (x : CoreState g.row.M.Denot). x.steps) rest) (ap (λ (x : CoreState g.row.M.Denot). x.seats) rest) (ap (λ (x : CoreState g.row.M.Denot). x.cleaner) rest)
     (ap (λ (x : CoreState g.row.M.Denot). x.stop) rest) r own
     (subst (λ b. Committed c.args.core.now.book b c.args.session (txn_of own.txn)) (sym (ap (λ (x : CoreState g.row.M.Denot). x.book) rest)) (c.commit-number.ensures.entry own.txn own.there))
