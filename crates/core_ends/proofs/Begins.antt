@@ -35,6 +35,7 @@ use Rattle.txn_book.proofs.Totals.{bytes_law}
 use Rattle.data_store.specs.Contents.{contents_of}
 use Rattle.data_store.specs.Held.{IsHeld}
 use Rattle.core_state.specs.Stands.{Began, Told}
+use Rattle.core_state.proofs.Unchanged.{unchanged_told}
 use Rattle.core_state.specs.declared.state.CoreState.{CoreState}
 use Rattle.core_ends.specs.Ends.{number_in_log}
 use Rattle.core_state.proofs.Sessions.{contents_as, kept_same, locks_same, snapshots_bare}
@@ -107,21 +108,9 @@ module _ {M : Type 0} (maps : M → ℕ → Map) (core : CoreState M) (s : State
 
   -- the history is full
   pub full_told : (kept need : ℕ) → kept ≡ total_bytes core.book → need ≡ entry_size → (kept + need ≤ most_of_history → ⊥) → Told maps s i (act.Begin Serial) (answer.Refused (refusal.HistoryFull kept need)) core
-  full_told kept need kept_is need_is full = record {
-    reached = h.reached;
-    opening = h.opening;
-    runs = h.runs;
-    effects = [];
-    says = (refl, need_is, record { kept_is = kept_is ∙ counted; full = omega (arith, full) }, refl, subst (λ o. Within o.log_limit (s.log.used + reserved s.store s.log + end_bytes)) (sym h.opening) tt);
-    holds = h.holds;
-    own = λ sessions e. absurd (cc);
-    none = λ _ js. h.own js;
-    waiting = h.waiting;
-    counts = h.counts;
-    no_fault = refl;
-    begins_one = omega arith;
-    appends_one = omega arith;
-  }
+  full_told kept need kept_is need_is full =
+      unchanged_told maps core s i (act.Begin Serial) (answer.Refused (refusal.HistoryFull kept need)) h
+      (refl, need_is, record { kept_is = kept_is ∙ counted; full = omega (arith, full) }, refl, subst (λ o. Within o.log_limit (s.log.used + reserved s.store s.log + end_bytes)) (sym h.opening) tt) refl refl refl refl
 
 -- what the log knows of it
 pub begins_as : (mode : Mode) (l : Log) (id : ℕ) → id ≡ number_in_log mode (begun_after (Opens mode) l.begun) → begins mode l ≡ record { transaction = id; kept = []; wrote = false; ghosted = false }

@@ -5,7 +5,6 @@ use mathlib.Core.Path.{sym, ap, subst, ◌∙◌}
 use Rattle.std.proofs.Common.{arith}
 use Rattle.table_laws.specs.Kept.{redo}
 use Rattle.table_laws.proofs.Stored.{by_session}
-use Rattle.iv_types.specs.declared.session.Sessions.{Sessions}
 use Rattle.iv_types.specs.Maps.{Map}
 use Rattle.iv_types.specs.declared.statement.Mode.TheVariants.{Serial}
 use Rattle.iv_meaning.specs.Schema.{Schema}
@@ -15,7 +14,6 @@ use Rattle.lock_manager.specs.Table as table
 use Rattle.lock_manager.specs.Table.{Table, SessionLocks, IsReleased}
 use Rattle.lock_desk.specs.Asking.{HasLocks}
 use Rattle.txn_machine.specs.Acts.{Act}
-use Rattle.txn_machine.specs.Answers as answer
 use Rattle.txn_machine.specs.Answers.{Answer}
 use Rattle.txn_machine.specs.Locks.{with_one}
 use Rattle.txn_machine.specs.Keeping.{Open, idle}
@@ -44,6 +42,7 @@ use Rattle.data_store.specs.Held.{IsHeld}
 use Rattle.data_changes.specs.Effects.{keeping}
 use Rattle.core_state.specs.Seats.{machine_seat, machine_cleaner, seat_at}
 use Rattle.core_state.specs.Stands.{Began, Told, Holds, Counts, is_blocked}
+use Rattle.core_state.proofs.Unchanged.{not_blocked}
 use Rattle.core_state.specs.declared.state.CoreState.{CoreState}
 use Rattle.core_ends.specs.Ends.{Left}
 use Rattle.core_state.proofs.Sessions.{contents_as, kept_of, HasTxn, now_is}
@@ -161,7 +160,7 @@ left_told maps core new s i a said e h is left says logs_same definitions not fi
   says = says;
   holds = subst (λ ds. Holds maps new (run the_views s.store i (e ∷ [])) (log_after s i a said (e ∷ [])) ds) (sym definitions)
       (subst (λ l. Holds maps new (run the_views s.store i (e ∷ [])) l s.definitions) (sym logs_same) (left.holds a));
-  own = λ sessions b. absurd (blocked_no said sessions b not);
+  own = λ sessions b. absurd (not_blocked said sessions b not);
   none = λ _ _. left.own;
   waiting = λ j js n. left.others j n ∙ h.waiting j js n;
   counts = left.counts;
@@ -169,9 +168,6 @@ left_told maps core new s i a said e h is left says logs_same definitions not fi
   begins_one = subst (λ (l : Log). l.begun ≤ s.log.begun + 1) (sym logs_same) few;
   appends_one = subst (λ (l : Log). l.next ≤ s.log.next + 1) (sym logs_same) (left.appends_one a);
 }
-  where
-    blocked_no : (m : Answer) (sessions : Sessions) → m ≡ answer.Blocked sessions → is_blocked m ≡ false → ⊥
-    blocked_no m sessions e none = let bad : true ≡ false = sym (ap is_blocked e) ∙ none in absurd (cc)
 
 -- a transaction that keeps changes commits them, and another ends
 pub commits_some : (s : Store) (i number : ℕ) (cs : List RowChange) → cs ≢ [] → number ≡ (committed s).number + 1 → CommitsAs s i cs number (Commits ∷ [])

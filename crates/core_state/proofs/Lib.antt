@@ -1,3 +1,4 @@
+pub mod Unchanged
 pub mod Sessions
 pub mod Opened
 pub mod Closed

@@ -1,0 +1,6 @@
+//! What acts read of the core: Defs.
+#![tactic(auto)]
+
+mod defining;
+
+pub use defining::defs;
