@@ -1,13 +1,10 @@
 -- What a change of one stored view row leaves.
-use Rattle.std.specs.Prelude.{◌≡◌, ◌≢◌, ℕ, suc, ◌<◌, ◌≤◌, ℤ, List, length, slice_get, Option, Some, None, IsSome, IfSome}
+use Rattle.std.specs.Prelude.{◌≡◌, ◌≢◌, ℕ, suc, ℤ, List, length, Option, Some, None, IsSome, IfSome}
 use Rattle.std.specs.Option.{option_map}
 use Rattle.std.specs.FinMap.{get, empty}
 use Rattle.std.specs.List.{AllByRecursion}
 use Rattle.std.specs.Cmp.Lexicographic.{nat_list_cmp_total}
 use mathlib.Core.Path.{refl, sym, ap, subst, ◌∙◌}
-use Rattle.std.proofs.Common.{arith}
-use Rattle.std.proofs.lemmas.List.{length-map}
-use Rattle.std.proofs.lemmas.Option.{slice_get_within}
 use Rattle.iv_types.specs.Maps.{Map}
 use Rattle.iv_types.specs.Definitions.{Definitions, AreNumbered}
 use Rattle.iv_types.specs.Definitions as definition
@@ -41,7 +38,6 @@ use Rattle.ghost_rows.specs.Kept.{StandsFor}
 use Rattle.ghost_rows.specs.State.{State, stored_at, AreKept, HasSeat, OnlyAt, StoresOnlyAt}
 use Rattle.ghost_rows.specs.Ghosts.{StayListed, IsGhostRow, IsCandidate}
 use Rattle.ghost_rows.proofs.TableLemmas.{by_place}
-use Rattle.ghost_rows.proofs.StateLemmas.{some_of}
 use Rattle.ghost_rows.proofs.RowLemmas.{huge_fit}
 use Rattle.ghost_rows.proofs.NumberSteps.{numbers_same}
 use Rattle.data_store.specs.Contents.{Contents, pays_on}
@@ -68,14 +64,10 @@ is_no_table ds n v t is of same = no_table (definition.numbered ds n) v t (sym (
 pub is_no_index : (ds : Definitions) (n : ℕ) (v : ViewTree) (t : TableDef) (i : IndexDef) → schema.numbered (schema_of ds) n ≡ Some (schema.view v) → IsIndexOf ds t i → i.number ≢ n
 is_no_index ds n v t i is of same = no_index (definition.numbered ds n) v i (sym (alike ds n) ∙ is) (subst (λ m. index_of ds m ≡ Some i) same of.is)
 
--- a number that has an object is none behind the last
-pub number_within : (objects : schema.Schema) (n : ℕ) (o : schema.Object) → schema.numbered objects n ≡ Some o → n ≤ length objects
-number_within objects ℕ.zero o e = omega arith
-number_within objects (suc n) o e = let lt : n < length objects = slice_get_within objects n o e in omega arith
-
-defined_within : (ds : Definitions) (n : ℕ) → IsSome (definition.numbered ds n) → n ≤ length ds
-defined_within ds ℕ.zero e = omega arith
-defined_within ds (suc n) e = let there = some_of (slice_get ds n) e in let lt : n < length ds = slice_get_within ds n there.0 there.1 in omega arith
+-- what is no object is not defined
+not_defined : (d : Option Definition) → option_map object_of d ≡ None → IsSome d → ⊥
+not_defined None e there = absurd (cc)
+not_defined (Some d) e there = absurd (cc)
 
 table_some : (d : Option Definition) (t : TableDef) → as_table d ≡ Some t → IsSome d
 table_some None t e = absurd (cc)
@@ -138,9 +130,8 @@ row_changed ds maps new state after c place v found kept h is only rows listed s
       (λ ne. as_before (n, group) (suc (length u.sums)) ne (h.pays n u at group));
   ghosts = λ n u at group. listed (n, group) (h.ghosts n u at group);
   unused = λ index past.
-      let within : place.0 ≤ length c.objects = number_within c.objects place.0 (schema.view v) is in
       same_table nat_list_cmp_total bytes_same (new index) empty
-      (λ key. only (index, key) (λ e. let one : index ≡ place.0 = ap (λ (q : Place). q.0) e in absurd (omega (arith, past, within, one))) ∙ ap (λ (m : Map). get m key) (h.unused index past));
+      (λ key. only (index, key) (λ e. let bad : None ≡ Some (schema.view v) = sym past ∙ (ap (λ (q : Place). schema.numbered c.objects q.0) e ∙ is) in absurd (cc)) ∙ ap (λ (m : Map). get m key) (h.unused index past));
 }
   where
     huge_here : (numbers : List ℤ) → found ≡ Some numbers → AllByRecursion IsHuge numbers
@@ -187,7 +178,7 @@ seats_stay place old new only here s q seat = by_place q place
 
 -- the rows of tables changed, and kept steps that are no pays
 pub rows_changed : (ds : Definitions) (maps new : ℕ → Map) (state : State) (c : Contents) (rows : Rows) (kept : ℕ → List KeptStep) → IsHeld ds maps state c → Holds ds rows new
-    → ((n : ℕ) (v : ViewTree) → schema.numbered c.objects n ≡ Some (schema.view v) → new n ≡ maps n) → ((n : ℕ) → length c.objects < n → new n ≡ maps n) → ((q : Place) (s : ℕ) → pays_on q (kept s) ≡ pays_on q (c.kept s)) → IsHeld ds new state (record c { rows = rows; kept = kept })
+    → ((n : ℕ) (v : ViewTree) → schema.numbered c.objects n ≡ Some (schema.view v) → new n ≡ maps n) → ((n : ℕ) → schema.numbered c.objects n ≡ None → new n ≡ maps n) → ((q : Place) (s : ℕ) → pays_on q (kept s) ≡ pays_on q (c.kept s)) → IsHeld ds new state (record c { rows = rows; kept = kept })
 rows_changed ds maps new state c rows kept h held same past others = record {
   objects = h.objects;
   tables = held;
@@ -209,14 +200,14 @@ views_stay ds maps new number key one other t are of sets objects same n v is =
     sets.rest n (λ e. is_no_table ds n v t here (subst (λ m. table_of ds m ≡ Some t) (sym (table_number ds number t are of)) of) (sym e))
     (λ i of_table e. is_no_index ds n v t i here of_table (sym e))
 
--- and those behind the last object
+-- and those of no object
 pub unused_stay : (ds : Definitions) (maps new : ℕ → Map) (number : ℕ) (key : List ℕ) (one other : Option (List Value)) (t : TableDef) → AreNumbered ds → table_of ds number ≡ Some t → Sets ds key one other maps new t
-    → (objects : schema.Schema) → schema_of ds ≡ objects → (n : ℕ) → length objects < n → new n ≡ maps n
-unused_stay ds maps new number key one other t are of sets objects same n past =
-    let many : length ds ≡ length objects = sym (length-map ds object_of) ∙ ap length same in
+    → (objects : schema.Schema) → schema_of ds ≡ objects → (n : ℕ) → schema.numbered objects n ≡ None → new n ≡ maps n
+unused_stay ds maps new number key one other t are of sets objects same n none =
     let here : table_of ds t.number ≡ Some t = subst (λ m. table_of ds m ≡ Some t) (sym (table_number ds number t are of)) of in
-    sets.rest n (λ e. let le : t.number ≤ length ds = defined_within ds t.number (table_some (definition.numbered ds t.number) t here) in absurd (omega (arith, le, e, many, past)))
-    (λ i of_table e. let le : i.number ≤ length ds = defined_within ds i.number (index_some (definition.numbered ds i.number) i of_table.is) in absurd (omega (arith, le, e, many, past)))
+    let undefined : schema.numbered (schema_of ds) n ≡ None = subst (λ os. schema.numbered os n ≡ None) (sym same) none in
+    sets.rest n (λ e. not_defined (definition.numbered ds n) (sym (alike ds n) ∙ undefined) (subst (λ m. IsSome (definition.numbered ds m)) (sym e) (table_some (definition.numbered ds t.number) t here)))
+    (λ i of_table e. not_defined (definition.numbered ds n) (sym (alike ds n) ∙ undefined) (subst (λ m. IsSome (definition.numbered ds m)) (sym e) (index_some (definition.numbered ds i.number) i of_table.is)))
 
 -- the pays of all sessions, where those of one stay
 pub pays_else : (q : Place) (kept : ℕ → List KeptStep) (session : ℕ) (ks : List KeptStep) → pays_on q ks ≡ pays_on q (kept session) → (s : ℕ) → pays_on q (with_one kept session ks s) ≡ pays_on q (kept s)
