@@ -1,7 +1,9 @@
 //! Ghosts made and removed, and sessions settled.
 ghost use Rattle.std.specs.Prelude.{◌≡◌, ◌≢◌, ◌+◌, ◌-◌, ◌^◌, ◌<◌, ◌≤◌, ℕ, suc, [], OnOk, OnErr};
 ghost use Rattle.iv_meaning.specs.Escrow.{IsSession};
+ghost use Rattle.ghost_rows.specs.Rows.{row_at, settled_at};
 ghost use Rattle.ghost_rows.specs.State.{CanStore, room_of};
+ghost use Rattle.table_laws.specs.Place.{Place};
 ghost use Rattle.data_store.specs.Contents.{Contents};
 ghost use Rattle.data_store.specs.Held.{IsHeld};
 ghost use Rattle.data_changes.specs.Effects.{keeping, with_ghost, without_ghost};
@@ -63,6 +65,8 @@ pub fn remove_ghost<M: SortedMaps>(store: &mut DataStore<M>, index: u32, group: 
 pub fn settle<M: SortedMaps>(store: &mut DataStore<M>, session: u32)
     requires { IsSession session }
     ensures settled { (c : Contents) → IsHeld store.old.catalog (M.maps store.old.tables) store.old.views c → IsHeld store.new.catalog (M.maps store.new.tables) store.new.views (keeping c session []) }
+    ensures rows { (q : Place) → row_at store.new.views.rows q ≡ settled_at session (row_at store.old.views.rows q) }
+    ensures gone { room_of store.new.views session ≡ 0 }
     ensures rooms { (s : ℕ) → s ≢ session → room_of store.new.views s ≡ room_of store.old.views s }
     ensures rest { store.new ≡ record store.old { views = store.new.views } }
 {
