@@ -1,5 +1,13 @@
+use Rattle.std.proofs.Common.{ap, ◌∙◌}
+use Rattle.version_chain.specs.Versions.{above}
 use Rattle.core_upkeep.proofs.Kept.{pruned_told}
 use Rattle.core_upkeep.proofs.pruning.prune.Goals as goal
 
-pub returns : goal.returns
-returns g c = λ s h. pruned_told g.M.SortedMaps.maps c.args.core.now s h c.prune.new.self c.prune-2.new.self c.least_snapshot-oldest.result c.least_snapshot-oldest.ensures c.prune.ensures.pruned c.prune-2.ensures.pruned
+pub returns-clause-told : goal.returns-clause-told
+returns-clause-told g c = λ s h. pruned_told g.M.SortedMaps.maps c.args.core.now s h c.prune.new.self c.prune-2.new.self c.least_snapshot-oldest.result c.least_snapshot-oldest.ensures c.prune.ensures.pruned c.prune-2.ensures.pruned
+
+pub returns-clause-rows : goal.returns-clause-rows
+returns-clause-rows g c = c.prune.ensures.versions ∙ ap (λ n. above n c.args.core.now.store.row_versions.versions) c.least_snapshot-oldest.ensures
+
+pub returns-clause-deltas : goal.returns-clause-deltas
+returns-clause-deltas g c = c.prune-2.ensures.versions ∙ ap (λ n. above n c.args.core.now.store.delta_versions.versions) c.least_snapshot-oldest.ensures
