@@ -8,7 +8,7 @@ use iv_types::{
     Bound, BoundItem, BoundOrder, BoundSet, Bytes, ColumnAt, ColumnDef, Expr, ExprList, IndexDef,
     Kind, Refusal, Second, TableDef, ViewDef,
 };
-use std::fmt::Write;
+use std::fmt::{Display, Write};
 
 fn write_name(out: &mut String, name: &Bytes) -> anyhow::Result<()> {
     match str::from_utf8(name.as_slice()) {
@@ -41,7 +41,7 @@ fn write_columns(out: &mut String, places: &[ColumnAt]) -> anyhow::Result<()> {
     Ok(())
 }
 
-fn write_places(out: &mut String, places: &[u32]) -> anyhow::Result<()> {
+fn write_places<T: Display>(out: &mut String, places: &[T]) -> anyhow::Result<()> {
     for place in places {
         write!(out, " {place}")?;
     }

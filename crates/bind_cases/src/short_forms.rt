@@ -1,6 +1,8 @@
 //! SELECTs that no text can be bound to, by their relations' numbers and their conditions in postfix form.
 use case_text::read_expression;
-use iv_types::{Bound, BoundItemList, BoundOrderList, BoundSelect, ColumnAtList, ExprList, Places};
+use iv_types::{
+    Bound, BoundItemList, BoundOrderList, BoundSelect, ColumnAtList, ExprList, ObjectNumbers,
+};
 use std::alloc::Global;
 use std::mem::forget;
 
@@ -12,7 +14,7 @@ fn push_conditions(alloc: Global, found: &mut ExprList, text: &str) -> anyhow::R
     Ok(())
 }
 
-fn push_places(found: &mut Places, text: &str) -> anyhow::Result<()> {
+fn push_numbers(found: &mut ObjectNumbers, text: &str) -> anyhow::Result<()> {
     for token in text.split(' ') {
         found.push(token.parse::<u32>()?)?;
     }
@@ -21,8 +23,8 @@ fn push_places(found: &mut Places, text: &str) -> anyhow::Result<()> {
 
 /// A SELECT of the relations of these numbers, with conditions between semicolons, and no items.
 pub fn selection(alloc: Global, relations: &str, conditions: &str) -> anyhow::Result<Bound> {
-    let mut numbers = Places::new(alloc);
-    push_places(&mut numbers, relations)?;
+    let mut numbers = ObjectNumbers::new(alloc);
+    push_numbers(&mut numbers, relations)?;
     let mut found = ExprList::new(alloc);
     if let Err(error) = push_conditions(alloc, &mut found, conditions) {
         forget(found);

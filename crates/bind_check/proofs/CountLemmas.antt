@@ -5,14 +5,21 @@ use Rattle.std.specs.List.{count_by, filter_map, cons_option}
 use Rattle.std.specs.Option.{option_map_or}
 use Rattle.std.proofs.lemmas.List.Recursion.{is_count_by}
 use Rattle.iv_types.specs.declared.catalog.Definition.{Definition}
+use Rattle.iv_types.specs.declared.catalog.Definition.TheVariants.{Table, Index, View}
+use Rattle.iv_types.specs.Definitions as definitions
 use Rattle.iv_meaning.specs.Schema.{Object, ViewTree, as_index, as_table, as_view}
 use Rattle.iv_meaning.specs.Resolving.{how_many}
 use Rattle.iv_meaning.specs.Objects.{object_of, schema_of}
-use Rattle.iv_meaning.specs.Shape.{readers}
+use Rattle.iv_meaning.specs.Shape.{object_number, readers}
 use Rattle.bind_check.specs.Counting.{count_of, is_a, reads}
 use Rattle.bind_check.specs.declared.objects.ObjectKind.{ObjectKind}
 use Rattle.bind_check.specs.declared.objects.ObjectKind.TheVariants as kind
 use Rattle.bind_resolve.proofs.Steps.{one_more}
+
+pub number_is : (d : Definition) → definitions.number_of d ≡ object_number (object_of d)
+number_is (Table t) = refl
+number_is (Index i) = refl
+number_is (View v) = refl
 
 -- ---- what passes a test
 

@@ -15,7 +15,7 @@ use Rattle.iv_meaning.specs.Shape.{repeats}
 use Rattle.iv_meaning.specs.Types.{family, is_truth, condition_typed, item_typed, kinds_seen, query_typed, sources_of}
 use Rattle.bind_resolve.specs.declared.resolved.ResolvedQuery.{ResolvedQuery}
 use Rattle.bind_resolve.specs.Seen.{item_seen, joined_seen, query_seen}
-use Rattle.bind_check.specs.Checked.{query_by}
+use Rattle.bind_check.specs.Families.{query_by}
 
 pub any_is : {X Y : Type 0} (p : Y → Bool) (f : X → Y) (xs : List X) → list_any (λ x. p (f x)) xs ≡ list_any p (map f xs)
 any_is p f [] = refl

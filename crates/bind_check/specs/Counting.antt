@@ -10,8 +10,8 @@ use Rattle.iv_meaning.specs.Shape.{key_width, row_width}
 use Rattle.iv_meaning.specs.Query.{count, sum, plain}
 use Rattle.bind_check.specs.declared.objects.ObjectKind.{ObjectKind}
 use Rattle.bind_check.specs.declared.objects.ObjectKind.TheVariants as kind
-use Rattle.bind_check.specs.declared.creating.Width.{Width}
-use Rattle.bind_check.specs.declared.creating.Width.TheVariants.{Key, Row}
+use Rattle.bind_check.specs.declared.column_widths.Width.{Width}
+use Rattle.bind_check.specs.declared.column_widths.Width.TheVariants.{Key, Row}
 
 -- an object is of this kind
 abbrev pub is_a : ObjectKind → Object → Bool

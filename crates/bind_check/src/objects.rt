@@ -23,14 +23,11 @@ pub enum ObjectKind {
 }
 
 /// Its number.
+#[tactic(auto, using(crate::proofs::CountLemmas::number_is))]
 pub fn number_of(definition: &Definition) -> u32
     ensures { result ≡ object_number (object_of definition.now) }
 {
-    match definition {
-        Definition::Table(table) => table.number,
-        Definition::Index(index) => index.number,
-        Definition::View(view) => view.number,
-    }
+    definition.number()
 }
 
 /// The table, if it is one.
@@ -66,7 +63,7 @@ pub fn width_of(definition: &Definition) -> usize
 }
 
 /// The columns of its primary key, of which what is no table has none.
-pub fn primary_of(definition: &Definition) -> &[u32]
+pub fn primary_of(definition: &Definition) -> &[usize]
     ensures { result.now ≡ primary_of (Some (object_of definition.now)) }
 {
     match definition {

@@ -1,23 +1,19 @@
-//! The shape of queries, and the items by which an ORDER BY sorts.
-ghost use Rattle.std.specs.Prelude.{◌≡◌, ◌&&◌, ◌||◌, map, not, false, IfOk, None, Some, if◌then◌else◌, int_le, is_some, pos};
+//! The shape of queries and of changes, and the items by which an ORDER BY sorts.
+ghost use Rattle.std.specs.Prelude.{◌≡◌, ◌==◌, ◌&&◌, ◌||◌, length, map, not, false, IfOk, is_some};
 ghost use Rattle.std.specs.List.{list_any, list_all};
 ghost use Rattle.std.specs.Option.{option_map_or};
-ghost use Rattle.iv_types.specs.Trees.{tree, perhaps_tree};
-ghost use Rattle.iv_meaning.specs.Bound.{item_tree};
-ghost use Rattle.iv_meaning.specs.Shape.{are_sums, has_arithmetic, is_aggregate, is_count_and_sums, is_empty, is_grouped, is_view_list, repeats, same_place, is_named};
-ghost use Rattle.iv_meaning.specs.Tests.{is_many_to_one, query_rules, view_rules, before_number, item_place, item_named};
-ghost use Rattle.iv_meaning.specs.Binding.{passed};
-ghost use Rattle.iv_meaning.specs.Resolving.{how_many};
-ghost use Rattle.bind_resolve.specs.Meant.{IsMeant};
+ghost use Rattle.iv_types.specs.Trees.{tree, trees, perhaps_tree};
+ghost use Rattle.iv_meaning.specs.Bound.{item_tree, set_tree};
+ghost use Rattle.iv_meaning.specs.Shape.{are_sums, has_arithmetic, is_aggregate, is_count_and_sums, is_empty, is_grouped, is_view_list, repeats, is_named};
+ghost use Rattle.iv_meaning.specs.Tests.{is_many_to_one, item_place, item_named};
 ghost use Rattle.bind_resolve.specs.Seen.{item_seen, query_seen};
 ghost use Rattle.bind_check.specs.Shapes.{is_arithmetic, is_named_count, is_named_sum};
 
-use crate::checking::rule;
 use crate::joining::joins_tables;
-use crate::objects::{ObjectKind, as_table, names_a};
+use crate::objects::as_table;
 use bind_resolve::{NamedItem, ResolvedQuery};
 use iv_types::{
-    BoundItem, Bytes, ColumnAt, Expr, NoMemory, Op, Order, OrderKey, Refusal, ShapeRule,
+    BoundItem, BoundSet, Bytes, ColumnAt, Expr, ExprList, NoMemory, Op, Order, OrderKey,
 };
 use std::alloc::Global;
 
@@ -55,22 +51,22 @@ fn is_grouped(group: &[ColumnAt], item: &BoundItem) -> bool
     }
 }
 
-// Whether a query has a GROUP BY.
-fn is_grouping(query: &ResolvedQuery<'_>) -> bool
+/// Whether a query has a GROUP BY.
+pub fn is_grouping(query: &ResolvedQuery<'_>) -> bool
     ensures { result ≡ not (is_empty (query_seen query.now).group) }
 {
     !query.group.as_slice().is_empty()
 }
 
-// Whether a query counts or sums.
-fn aggregates(query: &ResolvedQuery<'_>) -> bool
+/// Whether a query counts or sums.
+pub fn aggregates(query: &ResolvedQuery<'_>) -> bool
     ensures { result ≡ list_any (λ i. is_aggregate i.item) (query_seen query.now).items }
 {
     query.items.as_slice().iter().any(|i| is_aggregate(&i.item))
 }
 
-// Whether each item of a query may stand beside its GROUP BY.
-fn lists_groups(query: &ResolvedQuery<'_>) -> bool
+/// Whether each item of a query may stand beside its GROUP BY.
+pub fn lists_groups(query: &ResolvedQuery<'_>) -> bool
     ensures { result ≡ list_all (λ i. is_aggregate i.item || is_grouped (query_seen query.now).group i.item) (query_seen query.now).items }
 {
     let group = query.group.as_slice();
@@ -78,9 +74,13 @@ fn lists_groups(query: &ResolvedQuery<'_>) -> bool
     items.all(|i| is_aggregate(&i.item) | is_grouped(group, &i.item))
 }
 
-// Whether a GROUP BY stands behind a FROM that is neither one relation nor two tables of which the second is joined by its
-// whole primary key.
-fn groups_joined(alloc: Global, grouped: bool, query: &ResolvedQuery<'_>) -> Result<bool, NoMemory>
+/// Whether a GROUP BY, if there is one, stands behind a FROM that is neither one relation nor two tables of which the second
+/// is joined by its whole primary key.
+pub fn groups_joined(
+    alloc: Global,
+    grouped: bool,
+    query: &ResolvedQuery<'_>,
+) -> Result<bool, NoMemory>
     ensures { IfOk result (λ joined. joined ≡ (grouped && not (is_many_to_one (query_seen query.now).first (query_seen query.now).joins))) }
 {
     if !grouped {
@@ -94,20 +94,6 @@ fn groups_joined(alloc: Global, grouped: bool, query: &ResolvedQuery<'_>) -> Res
         }
         _ => Ok(true),
     }
-}
-
-/// The shape rules of every query.
-#[tactic(auto, using(bind_resolve::proofs::Steps::stops, bind_resolve::proofs::Steps::goes_on))]
-pub fn check_query(alloc: Global, query: &ResolvedQuery<'_>) -> Result<(), Refusal>
-    ensures { IsMeant (λ u. u) result (passed (query_rules (query_seen query.now))) }
-{
-    let grouped = is_grouping(query);
-    rule(ShapeRule::ColumnTwice, repeats(query.group.as_slice()))?;
-    rule(ShapeRule::NoTable, names_a(ObjectKind::Index, query))?;
-    rule(ShapeRule::NoGroup, !grouped & aggregates(query))?;
-    rule(ShapeRule::OtherItem, grouped & !lists_groups(query))?;
-    let joined = groups_joined(alloc, grouped, query)?;
-    rule(ShapeRule::NotManyToOne, joined)
 }
 
 // Whether an operator is arithmetic.
@@ -131,7 +117,8 @@ fn has_arithmetic(expression: &Expr) -> bool
     }
 }
 
-fn condition_has_arithmetic(condition: &Option<Expr>) -> bool
+/// Whether a condition, if there is one, has arithmetic.
+pub fn condition_has_arithmetic(condition: &Option<Expr>) -> bool
     ensures { result ≡ option_map_or has_arithmetic (perhaps_tree condition.now) false }
 {
     match condition {
@@ -170,8 +157,8 @@ fn is_count_and_sums(items: &[NamedItem<'_>]) -> bool
     }
 }
 
-// Whether the items are the group columns in their order, one count with a name, and sums with names.
-fn is_view_list(group: &[ColumnAt], items: &[NamedItem<'_>]) -> bool
+/// Whether the items are the group columns in their order, one count with a name, and sums with names.
+pub fn is_view_list(group: &[ColumnAt], items: &[NamedItem<'_>]) -> bool
     ensures { result ≡ is_view_list group.now (map item_seen items.now) }
 {
     let Some((place, group)) = group.split_first() else {
@@ -183,26 +170,11 @@ fn is_view_list(group: &[ColumnAt], items: &[NamedItem<'_>]) -> bool
     }
 }
 
-/// The shape rules of a view besides.
-#[tactic(auto, using(bind_resolve::proofs::Steps::stops, bind_resolve::proofs::Steps::goes_on))]
-pub fn check_view_query(query: &ResolvedQuery<'_>) -> Result<(), Refusal>
-    ensures { IsMeant (λ u. u) result (passed (view_rules (query_seen query.now))) }
-{
-    let listed = is_view_list(query.group.as_slice(), query.items.as_slice());
-    rule(ShapeRule::NoViewList, !is_grouping(query) | !listed)?;
-    let computes = condition_has_arithmetic(&query.condition);
-    rule(ShapeRule::Arithmetic, computes)?;
-    rule(ShapeRule::ViewOfView, names_a(ObjectKind::View, query))
-}
-
 // Whether an item has this name.
 fn is_named(name: &Bytes, item: &NamedItem<'_>) -> bool
     ensures { result ≡ is_named name.now (item_seen item.now) }
 {
-    match item.name {
-        Some(other) => name.as_slice() == other.as_slice(),
-        None => false,
-    }
+    matches!(item.name, Some(other) if name.as_slice() == other.as_slice())
 }
 
 // The place of the first item of this name.
@@ -246,4 +218,26 @@ pub fn are_named(items: &[NamedItem<'_>], order: &[Order]) -> bool
     ensures { result ≡ list_all (λ o. is_some (item_named (map item_seen items.now) o.by)) order.now }
 {
     order.iter().all(|o| item_named(items, &o.by).is_some())
+}
+
+/// Whether each tuple has so many values.
+pub fn have_length(count: usize, tuples: &[ExprList]) -> bool
+    ensures { result ≡ list_all (λ tuple. length tuple == count) (map trees tuples.now) }
+{
+    tuples.iter().all(|tuple| tuple.as_slice().len() == count)
+}
+
+/// Whether a column of the key is set.
+pub fn sets_key(keys: &[usize], sets: &[BoundSet]) -> bool
+    ensures { result ≡ list_any (λ a. list_any (λ key. key == a.column) keys.now) (map set_tree sets.now) }
+{
+    sets.iter().any(|set| keys.contains(&set.column))
+}
+
+/// Whether a column is set twice.
+pub fn sets_twice(alloc: Global, sets: &[BoundSet]) -> Result<bool, NoMemory>
+    ensures { IfOk result (λ twice. twice ≡ repeats (λ a b. a.column == b.column) (map set_tree sets.now)) }
+{
+    let columns: Vec<usize> = sets.iter().map(|set| set.column).collect(alloc)?;
+    Ok(repeats(columns.as_slice()))
 }

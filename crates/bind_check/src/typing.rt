@@ -1,5 +1,5 @@
 //! Whether resolved expressions have their types.
-ghost use Rattle.std.specs.Prelude.{◌≡◌, ◌&&◌, map, not};
+ghost use Rattle.std.specs.Prelude.{◌≡◌, ◌&&◌, map, IfOk};
 ghost use Rattle.std.specs.List.{list_all};
 ghost use Rattle.std.specs.Option.{option_map};
 ghost use Rattle.iv_types.specs.Trees.{tree, trees, perhaps_tree};
@@ -7,17 +7,13 @@ ghost use Rattle.iv_meaning.specs.Schema.{kind_at};
 ghost use Rattle.iv_meaning.specs.Bound.{item_tree, set_tree};
 ghost use Rattle.iv_meaning.specs.Types.{family_of_kind, is_of, is_value, alike, typed, family_of_pair, family, condition_typed, item_typed, query_typed, set_typed, tuple_typed};
 ghost use Rattle.iv_meaning.specs.Objects.{schema_of};
-ghost use Rattle.iv_meaning.specs.Binding.{refuse_if};
-ghost use Rattle.iv_types.specs.declared.refusal.Refusal.TheVariants as refusal;
-ghost use Rattle.bind_resolve.specs.Meant.{IsMeant};
 ghost use Rattle.bind_resolve.specs.Seen.{query_seen};
 ghost use Rattle.bind_check.specs.Families.{family_of, is_a, perhaps_family};
 
-use crate::checking::refuse;
 use crate::objects::kinds_seen;
 use bind_resolve::ResolvedQuery;
 use iv_types::{
-    BoundItem, BoundSet, Catalog, ColumnAt, Expr, ExprList, Kind, KindList, Op, Refusal,
+    BoundItem, BoundSet, Catalog, ColumnAt, Expr, ExprList, Kind, KindList, NoMemory, Op,
 };
 use object_kinds::kind_at;
 use std::alloc::Global;
@@ -161,13 +157,13 @@ fn item_typed(kinds: &[KindList], item: &BoundItem) -> bool
     }
 }
 
-/// The types of a query.
-pub fn check_types(
+/// Whether the expressions of a query have their types.
+pub fn query_typed(
     alloc: Global,
     catalog: &Catalog,
     query: &ResolvedQuery<'_>,
-) -> Result<(), Refusal>
-    ensures { IsMeant (λ u. u) result (refuse_if (not (query_typed (schema_of catalog.now) (query_seen query.now)), refusal.WrongType)) }
+) -> Result<bool, NoMemory>
+    ensures { IfOk result (λ typed. typed ≡ query_typed (schema_of catalog.now) (query_seen query.now)) }
 {
     let seen = kinds_seen(alloc, catalog, query)?;
     let kinds = seen.as_slice();
@@ -175,8 +171,7 @@ pub fn check_types(
     let items = items.all(|i| item_typed(kinds, &i.item));
     let mut joins = query.joins.as_slice().iter();
     let joins = joins.all(|j| is_a(Family::Truth, family_in(kinds, &j.on)));
-    let typed = items & joins & condition_typed(kinds, &query.condition);
-    refuse(!typed, Refusal::WrongType)
+    Ok(items & joins & condition_typed(kinds, &query.condition))
 }
 
 // Whether the values of a tuple have the families of the columns.

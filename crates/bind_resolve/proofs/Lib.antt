@@ -4,3 +4,4 @@ pub mod EachLemmas
 pub mod Walks
 pub mod SortedLemmas
 pub mod ScopeLemmas
+pub mod QueryWalks

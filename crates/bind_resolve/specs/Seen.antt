@@ -1,8 +1,9 @@
 -- No clause of `run` rests on this module: it serves contracts between crates.
 --
 -- What resolved statements are, without where they lie in memory.
-use Rattle.std.specs.Prelude.{◌≡◌, ℕ, List, map}
+use Rattle.std.specs.Prelude.{◌≡◌, ◌&&◌, ℕ, Bool, List, map, Option, Some, None}
 use Rattle.std.specs.Option.{option_copied}
+use Rattle.std.specs.Str.{bytes_eq}
 use denote.Ref.{Bor}
 use Rattle.iv_types.specs.Trees.{tree, trees, perhaps_tree}
 use Rattle.iv_meaning.specs.Objects.{object_of}
@@ -29,6 +30,11 @@ column_seen c = record { relation = c.relation.now; name = c.name.now; place = c
 
 abbrev pub scope_seen : Scope → meant.Scope
 scope_seen scope = record { relations = names_in scope.relations; columns = map column_seen scope.columns }
+
+-- a column has this name, in a relation that is called so
+abbrev pub is_called : Option (List ℕ) → List ℕ → meant.Column → Bool
+is_called None name c = bytes_eq name c.name
+is_called (Some qualifier) name c = bytes_eq qualifier c.relation && bytes_eq name c.name
 
 abbrev pub item_seen : NamedItem → meant.NamedItem
 item_seen i = record { item = item_tree i.item; name = option_copied i.name }

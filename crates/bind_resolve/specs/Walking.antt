@@ -1,19 +1,13 @@
 -- No clause of `run` rests on this module: it serves contracts between crates.
 --
--- Columns by a name, and items and relations one after another, each behind the names of those before it.
-use Rattle.std.specs.Prelude.{ℕ, List, [], ◌∷◌, ◌++◌, Bool, ◌&&◌, IsTrue, Option, Some, None, Result, Ok, if◌then◌else◌}
-use Rattle.std.specs.Str.{bytes_eq}
+-- Items and relations one after another, each behind the names of those before it.
+use Rattle.std.specs.Prelude.{ℕ, List, [], ◌∷◌, ◌++◌, Bool, IsTrue, Option, Result, Ok, if◌then◌else◌}
 use Rattle.iv_types.specs.declared.refusal.Refusal.{Refusal}
 use Rattle.iv_types.specs.declared.expression.ColumnAt.{ColumnAt}
 use Rattle.iv_types.specs.Syntax.{ItemTree, JoinTree, QueryTree, Tree}
 use Rattle.iv_meaning.specs.Schema.{Schema}
-use Rattle.iv_meaning.specs.Resolving.{Column, NamedItem, Scope, Joined, ResolvedQuery, and_then, called, column_of, each, expression, fresh, items_for, items_resolved, joins_resolved, known, names_in, perhaps}
+use Rattle.iv_meaning.specs.Resolving.{NamedItem, Scope, Joined, ResolvedQuery, and_then, called, column_of, each, expression, fresh, items_for, items_resolved, joins_resolved, known, names_in, perhaps}
 use Rattle.bind_resolve.specs.Seen.{Alike}
-
--- a column has this name, in a relation that is called so
-abbrev pub is_called : Option (List ℕ) → List ℕ → Column → Bool
-is_called None name c = bytes_eq name c.name
-is_called (Some qualifier) name c = bytes_eq qualifier c.relation && bytes_eq name c.name
 
 -- what an item stands for, if its names are new in a view
 abbrev pub next_items : Bool → Scope → List (List ℕ) → ItemTree → Result (List NamedItem) Refusal

@@ -1,5 +1,5 @@
-//! Names of a statement resolved: objects and places for names, or the refusal of the first name that stands for nothing or
-//! is taken. Each name is looked up once, and all that is known of a statement behind this crate is what it gives.
+//! Names resolved: what a statement sees, the objects and columns that its names stand for, expressions and queries with places
+//! for names, and the types of resolved statements. Each name is looked up once.
 #![tactic(auto)]
 
 mod expressions;
@@ -7,10 +7,9 @@ mod names;
 mod queries;
 mod resolved;
 mod scope;
-mod statements;
 
-pub use expressions::each;
-pub use resolved::{Joined, NamedItem, Resolved, ResolvedQuery};
-use resolved::{Column, Scope};
-pub use scope::place;
-pub use statements::resolve;
+pub use expressions::{assignments, condition, places, tuples};
+pub use names::{all_new, known, new_object};
+pub use queries::query;
+pub use resolved::{Column, Joined, NamedItem, Resolved, ResolvedQuery, Scope};
+pub use scope::{names_of, scope_of_object, scope_of_one};

@@ -75,3 +75,10 @@ pub fn fresh<'a>(alloc: Global, others: &mut Names<'a>, names: &[&'a Bytes]) -> 
     }
     Ok(())
 }
+
+/// The refusal of the first of some names that stands among those before it.
+pub fn all_new(alloc: Global, names: &[&Bytes]) -> Result<(), Refusal>
+    ensures { IsMeant (λ free. free) result (meant.fresh [] (names_in names.now)) }
+{
+    fresh(alloc, &mut Names::new(alloc), names)
+}

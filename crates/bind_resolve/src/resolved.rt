@@ -84,3 +84,10 @@ pub enum Resolved<'a> {
     /// BEGIN, COMMIT, ROLLBACK, SAVEPOINT.
     Control,
 }
+
+impl Resolved<'_> {
+    /// Lets it go, here alone, since that is costly to prove.
+    pub fn let_go(self) {
+        let _ = self;
+    }
+}

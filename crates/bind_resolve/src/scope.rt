@@ -9,8 +9,7 @@ ghost use Rattle.iv_meaning.specs.Schema.{object_columns, named as object_named}
 ghost use Rattle.iv_meaning.specs.Objects.{schema_of, object_of};
 ghost use Rattle.iv_meaning.specs.Resolving as meant;
 ghost use Rattle.bind_resolve.specs.Meant.{IsMeant};
-ghost use Rattle.bind_resolve.specs.Seen.{names_in, column_seen, scope_seen};
-ghost use Rattle.bind_resolve.specs.Walking.{is_called};
+ghost use Rattle.bind_resolve.specs.Seen.{names_in, column_seen, is_called, scope_seen};
 
 use crate::names::same_name;
 use crate::{Column, Scope};
@@ -45,16 +44,6 @@ fn columns_of(alloc: Global, definition: &Definition) -> Result<Sequence<&Bytes>
     }
 }
 
-/// The number of a place.
-pub fn place(index: usize) -> Result<u32, NoMemory>
-    ensures { IfOk result (λ place. place ≡ index) }
-{
-    match u32::try_from(index) {
-        Ok(place) => Ok(place),
-        Err(_) => Err(NoMemory),
-    }
-}
-
 /// What a statement sees that names no relations.
 pub fn empty_scope<'a>(alloc: Global) -> Scope<'a>
     ensures { scope_seen result ≡ record { relations = []; columns = [] } }
@@ -65,8 +54,8 @@ pub fn empty_scope<'a>(alloc: Global) -> Scope<'a>
     }
 }
 
-/// Adds a relation and its columns.
-pub fn add_relation<'a>(
+// Adds a relation and its columns.
+fn add_relation<'a>(
     scope: &mut Scope<'a>,
     relation: &'a Bytes,
     names: &[&'a Bytes],
@@ -74,19 +63,28 @@ pub fn add_relation<'a>(
     ensures relations { OnOk result (names_in scope.new.relations ≡ names_in scope.old.relations ++ relation.now ∷ []) }
     ensures columns { OnOk result (map column_seen scope.new.columns ≡ map column_seen scope.old.columns ++ meant.columns_from relation.now (length scope.old.relations) 0 (names_in names.now)) }
 {
-    let source = place(scope.relations.as_slice().len())?;
-    for index in 0..names.len() {
-        let place = ColumnAt {
-            source,
-            column: place(index)?,
-        };
+    let source = scope.relations.as_slice().len();
+    for column in 0..names.len() {
         scope.columns.push(Column {
             relation,
-            name: names[index],
-            place,
+            name: names[column],
+            place: ColumnAt { source, column },
         })?;
     }
     scope.relations.push(relation)
+}
+
+/// What a statement sees of one relation.
+pub fn scope_of_one<'a>(
+    alloc: Global,
+    relation: &'a Bytes,
+    names: &[&'a Bytes],
+) -> Result<Scope<'a>, NoMemory>
+    ensures { IfOk result (λ scope. scope_seen scope ≡ meant.scope_of_one relation.now (names_in names.now)) }
+{
+    let mut scope = empty_scope(alloc);
+    add_relation(&mut scope, relation, names)?;
+    Ok(scope)
 }
 
 /// What a statement sees that changes an object.
@@ -98,9 +96,7 @@ pub fn scope_of_object<'a>(
     ensures { IfOk result (λ scope. scope_seen scope ≡ meant.scope_of_one name.now (object_columns (object_of definition.now))) }
 {
     let names = columns_of(alloc, definition)?;
-    let mut scope = empty_scope(alloc);
-    add_relation(&mut scope, name, names.as_slice())?;
-    Ok(scope)
+    scope_of_one(alloc, name, names.as_slice())
 }
 
 /// What a statement calls a relation.
@@ -221,7 +217,7 @@ pub fn column_of(alloc: Global, scope: &Scope<'_>, column: &Ref) -> Result<Colum
 }
 
 /// The place of a column in its relation, or the refusal of a name that stands for none or for several.
-pub fn place_of(alloc: Global, scope: &Scope<'_>, name: &Bytes) -> Result<u32, Refusal>
+pub fn place_of(alloc: Global, scope: &Scope<'_>, name: &Bytes) -> Result<usize, Refusal>
     ensures { IsMeant (λ place. place) result (meant.place_of (scope_seen scope.now) name.now) }
 {
     Ok(column_by(alloc, scope, None, name)?.column)

@@ -13,8 +13,8 @@ use std::mem::forget;
 pub fn read_column(token: &str) -> Option<ColumnAt> {
     let (source, column) = token.split_once('.')?;
     Some(ColumnAt {
-        source: source.parse::<u32>().ok()?,
-        column: column.parse::<u32>().ok()?,
+        source: source.parse::<usize>().ok()?,
+        column: column.parse::<usize>().ok()?,
     })
 }
 

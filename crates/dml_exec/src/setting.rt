@@ -23,7 +23,7 @@ fn value_after(
     ensures { Gives (column_after (map set_tree sets.now) row.now kind column old.now) result }
 {
     for set in sets {
-        if set.column as usize == column {
+        if set.column == column {
             return stored(alloc, kind, &set.value, Combination::One(row));
         }
     }

@@ -1,14 +1,14 @@
 //! Statements whose names are numbers: objects by their object numbers, columns by their relation's place in FROM and their
 //! own place in it, each counted from 0.
 use crate::{
-    ColumnAt, ColumnAtList, Expr, ExprList, IndexDef, Places, Sequence, TableDef, TupleList,
+    ColumnAt, ColumnAtList, Expr, ExprList, IndexDef, ObjectNumbers, Sequence, TableDef, TupleList,
     ViewDef,
 };
 
 /// An assignment of an UPDATE, to the column of this place.
 #[derive(Drop)]
 pub struct BoundSet {
-    pub column: u32,
+    pub column: usize,
     pub value: Expr,
 }
 
@@ -29,7 +29,7 @@ pub type BoundItemList = Sequence<BoundItem>;
 /// One term of an ORDER BY: the item's place, counted from 0.
 #[derive(Clone, Copy, Debug)]
 pub struct BoundOrder {
-    pub item: u32,
+    pub item: usize,
     pub descending: bool,
 }
 
@@ -61,8 +61,8 @@ pub struct BoundDelete {
 /// A SELECT.
 #[derive(Drop)]
 pub struct BoundSelect {
-    /// Object numbers, in FROM order.
-    pub relations: Places,
+    /// In FROM order.
+    pub relations: ObjectNumbers,
     /// The ON conditions in order, and then the WHERE if there is one.
     pub conditions: ExprList,
     pub items: BoundItemList,

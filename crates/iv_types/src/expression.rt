@@ -61,8 +61,8 @@ pub type RefList = Sequence<Ref>;
 /// A column of a relation: the relation's place in FROM and the column's place in it, each counted from 0.
 #[derive(Clone, Copy, PartialEq, Eq)]
 pub struct ColumnAt {
-    pub source: u32,
-    pub column: u32,
+    pub source: usize,
+    pub column: usize,
 }
 
 /// A list of columns of relations.

@@ -99,6 +99,7 @@ pub use sequence::Bytes;
 pub use sequence::CallList;
 pub use sequence::NameList;
 pub use sequence::NumberList;
+pub use sequence::ObjectNumbers;
 pub use sequence::Places;
 pub use sequence::Sequence;
 pub use session::Cycle;

@@ -20,7 +20,10 @@ pub type Bytes = Sequence<u8>;
 pub type NumberList = Sequence<i128>;
 
 /// Places in a list, counted from 0.
-pub type Places = Sequence<u32>;
+pub type Places = Sequence<usize>;
+
+/// Numbers of objects.
+pub type ObjectNumbers = Sequence<u32>;
 
 /// A list of names.
 pub type NameList = Sequence<Bytes>;

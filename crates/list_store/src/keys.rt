@@ -14,7 +14,7 @@ use std::alloc::Global;
 #[derive(Drop)]
 pub struct Key<'a> {
     pub kinds: KindList,
-    pub places: &'a [u32],
+    pub places: &'a [usize],
 }
 
 /// The primary key of a table.

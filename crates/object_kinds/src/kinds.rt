@@ -40,8 +40,8 @@ pub fn kinds_of(alloc: Global, table: &TableDef) -> Result<KindList, NoMemory>
 pub fn kind_at(kinds: &[KindList], place: ColumnAt) -> Option<Kind>
     ensures { result ≡ kind_at kinds.now place }
 {
-    match kinds.get(place.source as usize) {
-        Some(kinds) => kinds.as_slice().get(place.column as usize).copied(),
+    match kinds.get(place.source) {
+        Some(kinds) => kinds.as_slice().get(place.column).copied(),
         None => None,
     }
 }
@@ -134,10 +134,10 @@ fn push_kind(kinds: &mut KindList, kind: Option<Kind>) -> Result<(), NoMemory>
 }
 
 // The kind at a place.
-fn kind_here(kinds: &[Kind], place: u32) -> Option<Kind>
+fn kind_here(kinds: &[Kind], place: usize) -> Option<Kind>
     ensures { result ≡ slice_get kinds.now place }
 {
-    kinds.get(place as usize).copied()
+    kinds.get(place).copied()
 }
 
 /// The kinds at some places.
@@ -145,7 +145,7 @@ fn kind_here(kinds: &[Kind], place: u32) -> Option<Kind>
 /// # Errors
 ///
 /// Where there is no memory for them.
-pub fn kinds_at(alloc: Global, kinds: &[Kind], places: &[u32]) -> Result<KindList, NoMemory>
+pub fn kinds_at(alloc: Global, kinds: &[Kind], places: &[usize]) -> Result<KindList, NoMemory>
     ensures { IfOk result (λ found. found ≡ items_at kinds.now places.now) }
 {
     let mut found = KindList::new(alloc);

@@ -29,7 +29,7 @@ fn compared(a: Option<&Value>, b: Option<&Value>) -> Ordering
 fn by_term(term: BoundOrder, a: &Row, b: &Row) -> Ordering
     ensures { result ≡ if term.descending then ordering_reverse (option_cmp value_cmp (slice_get a.now term.item) (slice_get b.now term.item)) else option_cmp value_cmp (slice_get a.now term.item) (slice_get b.now term.item) }
 {
-    let item = term.item as usize;
+    let item = term.item;
     let ascending = compared(a.as_slice().get(item), b.as_slice().get(item));
     if term.descending {
         return ascending.reverse();

@@ -19,11 +19,11 @@ use row_codec::encode_key;
 use std::alloc::Global;
 
 /// The kind of a table's column.
-pub fn kind_in(catalog: &Catalog, table: u32, column: u32) -> Option<Kind>
+pub fn kind_in(catalog: &Catalog, table: u32, column: usize) -> Option<Kind>
     ensures { result ≡ slice_get (kinds_of_table (numbered (schema_of catalog.now) table)) column }
 {
     match catalog.get(table) {
-        Some(Definition::Table(table)) => match table.columns.as_slice().get(column as usize) {
+        Some(Definition::Table(table)) => match table.columns.as_slice().get(column) {
             Some(column) => Some(column.kind),
             None => None,
         },

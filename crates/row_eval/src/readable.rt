@@ -42,7 +42,7 @@ fn table_fits(catalog: &Catalog, tables: &TableRows, table: u32) -> bool
 }
 
 // Whether two columns are there and of one kind.
-fn has_one_kind(catalog: &Catalog, one: u32, column: u32, other: u32, place: u32) -> bool
+fn has_one_kind(catalog: &Catalog, one: u32, column: usize, other: u32, place: usize) -> bool
     ensures { IsTrue result ↔ HasOneKind (slice_get (kinds_of_table (numbered (schema_of catalog.now) one)) column) (slice_get (kinds_of_table (numbered (schema_of catalog.now) other)) place) }
 {
     match kind_in(catalog, one, column) {
@@ -53,7 +53,13 @@ fn has_one_kind(catalog: &Catalog, one: u32, column: u32, other: u32, place: u32
 
 /// Whether the columns of two tables are one by one of one kind: those of `one` at the places `columns`, and those of
 /// `other` at `places`.
-pub fn are_alike(catalog: &Catalog, one: u32, columns: &[u32], other: u32, places: &[u32]) -> bool
+pub fn are_alike(
+    catalog: &Catalog,
+    one: u32,
+    columns: &[usize],
+    other: u32,
+    places: &[usize],
+) -> bool
     ensures { IsTrue result ↔ AreAlike (kinds_of_table (numbered (schema_of catalog.now) one)) (kinds_of_table (numbered (schema_of catalog.now) other)) columns.now places.now }
 {
     if columns.len() != places.len() {

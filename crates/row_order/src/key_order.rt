@@ -16,7 +16,7 @@ struct Keyed {
 }
 
 // Rows with their keys.
-fn with_keys(alloc: Global, key: &[u32], rows: RowList) -> Result<Vec<Keyed>, NoMemory>
+fn with_keys(alloc: Global, key: &[usize], rows: RowList) -> Result<Vec<Keyed>, NoMemory>
     ensures { IfOk result (λ found. found.items ≡ map (keyed key.now) rows) }
 {
     let mut found = Vec::with_capacity(alloc, rows.as_slice().len())?;
@@ -45,7 +45,7 @@ fn without_keys(alloc: Global, rows: Vec<Keyed>) -> Result<RowList, NoMemory>
 /// # Errors
 ///
 /// Where there is no memory to sort them.
-pub fn sorted_by(alloc: Global, key: &[u32], rows: RowList) -> Result<RowList, NoMemory>
+pub fn sorted_by(alloc: Global, key: &[usize], rows: RowList) -> Result<RowList, NoMemory>
     ensures { IfOk result (λ sorted. sorted ≡ query.sorted_by (meant.by_columns key.now) rows) }
 {
     let mut rows = with_keys(alloc, key, rows)?;

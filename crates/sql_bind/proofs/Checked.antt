@@ -11,7 +11,7 @@ use Rattle.iv_meaning.specs.Statement.{BoundTree}
 use Rattle.iv_meaning.specs.Resolving.{Resolved, and_then, resolved}
 use Rattle.iv_meaning.specs.Tests.{Test}
 use Rattle.iv_meaning.specs.Binding.{bind, bound_of, checked, passed, passing, refuse_if}
-use Rattle.bind_check.specs.Checked.{every_test}
+use Rattle.bind_statements.specs.Checked.{every_test}
 use Rattle.bind_resolve.proofs.Walks.{nested, under}
 
 -- what all tests guard stands behind them

@@ -9,8 +9,9 @@ ghost use Rattle.bind_resolve.specs.Meant.{IsMeant};
 ghost use Rattle.bind_resolve.specs.Seen.{resolved_seen};
 
 use crate::creating::{index, selection, table, view};
-use bind_check::{check, number_of};
-use bind_resolve::{Resolved, resolve};
+use bind_check::number_of;
+use bind_resolve::Resolved;
+use bind_statements::{check, resolve};
 use iv_types::{
     Bound, BoundDelete, BoundInsert, BoundUpdate, Catalog, NoMemory, Refusal, Statement,
 };
@@ -57,11 +58,6 @@ fn bound_of(alloc: Global, catalog: &Catalog, statement: Resolved<'_>) -> Result
     }
 }
 
-// A resolved statement is let go here alone, which is costly to prove.
-fn let_go(statement: Resolved<'_>) {
-    let _ = statement;
-}
-
 /// A statement with numbers for the names of objects and places for the names of columns.
 ///
 /// # Errors
@@ -76,7 +72,7 @@ pub fn bind(alloc: Global, catalog: &Catalog, statement: &Statement) -> Result<B
     match check(alloc, catalog, statement, &resolved) {
         Ok(()) => Ok(bound_of(alloc, catalog, resolved)?),
         Err(refusal) => {
-            let_go(resolved);
+            resolved.let_go();
             Err(refusal)
         }
     }

@@ -15,11 +15,12 @@ ghost use Rattle.iv_meaning.specs.Statement as bound;
 ghost use Rattle.bind_resolve.specs.Seen.{item_seen, query_seen, joined_seen};
 
 use bind_check::{as_table, item_named, join_index, number_of, second_of};
-use bind_resolve::{Joined, NamedItem, ResolvedQuery, place};
+use bind_resolve::{Joined, NamedItem, ResolvedQuery};
 use iv_types::{
     Bound, BoundItem, BoundItemList, BoundOrder, BoundOrderList, BoundSelect, Bytes, Catalog,
-    ColumnAtList, ColumnDef, Definition, Expr, ExprList, IndexDef, NameList, NoMemory, Order,
-    Places, Second, Sequence, TableDef, ViewDef, copied_columns, copied_condition,
+    ColumnAtList, ColumnDef, Definition, Expr, ExprList, IndexDef, NameList, NoMemory,
+    ObjectNumbers, Order, Places, Second, Sequence, TableDef, ViewDef, copied_columns,
+    copied_condition,
 };
 use std::alloc::Global;
 
@@ -149,10 +150,10 @@ pub fn view(
 }
 
 // The numbers of the objects of FROM.
-fn relations_of(alloc: Global, query: &ResolvedQuery<'_>) -> Result<Places, NoMemory>
+fn relations_of(alloc: Global, query: &ResolvedQuery<'_>) -> Result<ObjectNumbers, NoMemory>
     ensures { IfOk result (λ numbers. numbers ≡ map object_number (sources_of (query_seen query.now))) }
 {
-    let mut numbers = Places::new(alloc);
+    let mut numbers = ObjectNumbers::new(alloc);
     numbers.push(number_of(query.first))?;
     for join in query.joins.as_slice() {
         numbers.push(number_of(join.object))?;
@@ -161,16 +162,13 @@ fn relations_of(alloc: Global, query: &ResolvedQuery<'_>) -> Result<Places, NoMe
 }
 
 // The item by which a term of an ORDER BY sorts, and its direction.
-fn ordered(items: &[NamedItem<'_>], order: &Order) -> Result<Option<BoundOrder>, NoMemory>
-    ensures { IfOk result (λ by. option_map order_tree by ≡ tests.ordered (map item_seen items.now) order.now) }
+fn ordered(items: &[NamedItem<'_>], order: &Order) -> Option<BoundOrder>
+    ensures { option_map order_tree result ≡ tests.ordered (map item_seen items.now) order.now }
 {
-    match item_named(items, &order.by) {
-        Some(item) => Ok(Some(BoundOrder {
-            item: place(item)?,
-            descending: order.descending,
-        })),
-        None => Ok(None),
-    }
+    Some(BoundOrder {
+        item: item_named(items, &order.by)?,
+        descending: order.descending,
+    })
 }
 
 // Those of an ORDER BY.
@@ -183,7 +181,7 @@ fn order_of(
 {
     let mut found = BoundOrderList::new(alloc);
     for term in order {
-        if let Some(by) = ordered(items, term)? {
+        if let Some(by) = ordered(items, term) {
             found.push(by)?;
         }
     }

@@ -3,7 +3,8 @@ use Rattle.std.proofs.lemmas.List.{map-append}
 use Rattle.iv_types.specs.Trees.{item_tree}
 use Rattle.iv_meaning.specs.Resolving.{items_resolved}
 use Rattle.bind_resolve.specs.Seen.{item_seen, names_in, scope_seen}
-use Rattle.bind_resolve.proofs.Walks.{before, grows, one_item, rest_at}
+use Rattle.bind_resolve.proofs.Walks.{before, grows, rest_at}
+use Rattle.bind_resolve.proofs.QueryWalks.{one_item}
 use Rattle.bind_resolve.proofs.queries.items.Goals as goal
 
 pub loop-item-preserved : goal.loop-item-preserved

@@ -4,7 +4,8 @@ use Rattle.iv_types.specs.Trees.{join_tree}
 use Rattle.iv_meaning.specs.Objects.{schema_of}
 use Rattle.iv_meaning.specs.Resolving.{joins_resolved}
 use Rattle.bind_resolve.specs.Seen.{joined_seen, names_in, scope_seen}
-use Rattle.bind_resolve.proofs.Walks.{before, grows, one_join, rest_at}
+use Rattle.bind_resolve.proofs.Walks.{before, grows, rest_at}
+use Rattle.bind_resolve.proofs.QueryWalks.{one_join}
 use Rattle.bind_resolve.proofs.queries.joins.Goals as goal
 
 pub loop-join-preserved : goal.loop-join-preserved

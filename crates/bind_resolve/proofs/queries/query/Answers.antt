@@ -4,7 +4,7 @@ use Rattle.iv_meaning.specs.Objects.{schema_of}
 use Rattle.bind_resolve.specs.Meant.{IsMeant}
 use Rattle.bind_resolve.specs.Seen.{query_seen}
 use Rattle.bind_resolve.specs.Walking.{query_by}
-use Rattle.bind_resolve.proofs.Walks.{query_is}
+use Rattle.bind_resolve.proofs.QueryWalks.{query_is}
 use Rattle.bind_resolve.proofs.queries.query.Goals as goal
 
 pub returns : goal.returns

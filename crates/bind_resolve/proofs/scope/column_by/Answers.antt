@@ -2,8 +2,7 @@ use Rattle.std.proofs.Common.{None, Some, sym, subst, ◌∙◌}
 use Rattle.std.specs.Option.{option_copied}
 use Rattle.iv_meaning.specs.Resolving as defined
 use Rattle.bind_resolve.specs.Meant.{IsMeant}
-use Rattle.bind_resolve.specs.Seen.{scope_seen}
-use Rattle.bind_resolve.specs.Walking.{is_called}
+use Rattle.bind_resolve.specs.Seen.{is_called, scope_seen}
 use Rattle.bind_resolve.proofs.Steps.{places_seen, when_one}
 use Rattle.bind_resolve.proofs.scope.column_by.Goals as goal
 
