@@ -1,0 +1,9 @@
+pub mod Standings
+pub mod Answers
+pub mod Fits
+pub mod Starts
+pub mod Left
+pub mod Sessions
+pub mod Numbered
+pub mod Kept
+pub mod Within
