@@ -38,15 +38,17 @@ use Rattle.core_state.specs.Stands.{Began, Told}
 use Rattle.core_state.proofs.Unchanged.{unchanged_told}
 use Rattle.core_state.specs.declared.state.CoreState.{CoreState}
 use Rattle.core_ends.specs.Ends.{number_in_log}
+use Rattle.lock_desk.specs.PayWants.{wants_at}
+use Rattle.core_state.proofs.Rooms.{rooms_changed, elsewhere_same, covered_begun}
 use Rattle.core_state.proofs.Sessions.{contents_as, kept_same, locks_same, snapshots_bare}
 
-module _ {M : Type 0} (maps : M → ℕ → Map) (core : CoreState M) (s : State) (i : ℕ) (h : Began maps core s i) (is : IsSession i) (none : s.store.open_of i ≡ None) (good : IsBook core.book) where
+module _ {M : Type 0} (maps : M → ℕ → Map) (spare : M → ℕ → ℕ) (limit : M → Option ℕ) (core : CoreState M) (s : State) (i : ℕ) (h : Began maps spare limit core s i) (is : IsSession i) (none : s.store.open_of i ≡ None) (good : IsBook core.book) where
   -- what the history counts
   pub counted : total_bytes core.book ≡ history_bytes s
   counted = bytes_law core.book (schema_of s.store) s.store.open_of s.log.logged s.store.history (committed s.store).number (definition_sizes s.definitions) good h.holds.book each
     where
       each : (j : ℕ) (t : Open) → s.store.open_of j ≡ Some t → t.mode ≡ Snapshot → t.kept ≡ []
-      each j t e mode = elim (session_or j) [ inl js ↦ snapshots_bare maps core s i h j t js e mode | inr n ↦ absurd (none-some t (sym (nobody_open s h.reached j n) ∙ e)) ]
+      each j t e mode = elim (session_or j) [ inl js ↦ snapshots_bare maps spare limit core s i h j t js e mode | inr n ↦ absurd (none-some t (sym (nobody_open s h.reached j n) ∙ e)) ]
 
   -- there is room for it
   pub fits : (mode : Mode) → MayBegin s mode → total_bytes core.book + txn.entry_size mode < 2 ^ 64
@@ -74,7 +76,7 @@ module _ {M : Type 0} (maps : M → ℕ → Map) (core : CoreState M) (s : State
   pub begun_told : (mode : Mode) (id more told defs : ℕ) (after : Books) → MayBegin s mode → Changes core.book after i (begun mode (number_of core.book) id)
       → begins mode s.log ≡ record { transaction = id; kept = []; wrote = false; ghosted = false } → more ≡ begun_after (Opens mode) s.log.begun → more ≤ s.log.begun + 1
       → told ≡ number_of core.book → defs ≡ length core.store.catalog
-      → Told maps s i (act.Begin mode) (answer.Begun told defs) (record core { book = after; begun = more })
+      → Told maps spare limit s i (act.Begin mode) (answer.Begun told defs) (record core { book = after; begun = more })
   begun_told mode id more told defs after room changes logged begun_is_more few number_told defs_told = record {
     reached = h.reached;
     opening = h.opening;
@@ -96,6 +98,8 @@ module _ {M : Type 0} (maps : M → ℕ → Map) (core : CoreState M) (s : State
       next = h.holds.next;
       row_mark = h.holds.row_mark;
       delta_mark = h.holds.delta_mark;
+      rooms = rooms_changed (spare core.store.tables) (spare core.store.tables) (limit core.store.tables) (limit core.store.tables) core.store.catalog core.store.views core.store.views core.book after core.locks core.locks core.wants core.wants i
+          (begun mode (number_of core.book) id) good is h.holds.rooms refl changes (λ index. omega arith) (elsewhere_same i core.store.views core.locks core.wants) (covered_begun core.store.catalog core.store.views core.locks (wants_at core.wants i) i mode (number_of core.book) id);
     };
     own = λ sessions e. absurd (cc);
     none = λ _ js. h.own js;
@@ -107,9 +111,9 @@ module _ {M : Type 0} (maps : M → ℕ → Map) (core : CoreState M) (s : State
   }
 
   -- the history is full
-  pub full_told : (kept need : ℕ) → kept ≡ total_bytes core.book → need ≡ entry_size → (kept + need ≤ most_of_history → ⊥) → Told maps s i (act.Begin Serial) (answer.Refused (refusal.HistoryFull kept need)) core
+  pub full_told : (kept need : ℕ) → kept ≡ total_bytes core.book → need ≡ entry_size → (kept + need ≤ most_of_history → ⊥) → Told maps spare limit s i (act.Begin Serial) (answer.Refused (refusal.HistoryFull kept need)) core
   full_told kept need kept_is need_is full =
-      unchanged_told maps core s i (act.Begin Serial) (answer.Refused (refusal.HistoryFull kept need)) h
+      unchanged_told maps spare limit core s i (act.Begin Serial) (answer.Refused (refusal.HistoryFull kept need)) h
       (refl, need_is, record { kept_is = kept_is ∙ counted; full = omega (arith, full) }, refl, subst (λ o. Within o.log_limit (s.log.used + reserved s.store s.log + end_bytes)) (sym h.opening) tt) refl refl refl refl
 
 -- what the log knows of it

@@ -1,5 +1,5 @@
 -- A transaction ends.
-use Rattle.std.specs.Prelude.{◌≡◌, ◌≢◌, ℕ, ◌+◌, ◌≤◌, cond, Bool, true, false, List, [], ◌∷◌, ◌++◌, Option, None, Some, refl}
+use Rattle.std.specs.Prelude.{◌≡◌, ◌≢◌, ℕ, ◌+◌, ◌≤◌, cond, Bool, true, false, List, [], ◌∷◌, ◌++◌, Option, None, Some, slice_set, refl}
 use Rattle.std.specs.Option.{unwrap_or}
 use mathlib.Core.Path.{sym, ap, subst, ◌∙◌}
 use Rattle.std.proofs.Common.{arith}
@@ -45,6 +45,12 @@ use Rattle.core_state.specs.Stands.{Began, Told, Holds, Counts, is_blocked}
 use Rattle.core_state.proofs.Unchanged.{not_blocked}
 use Rattle.core_state.specs.declared.state.CoreState.{CoreState}
 use Rattle.core_ends.specs.Ends.{Left}
+use Rattle.table_laws.specs.Place.{Place}
+use Rattle.ghost_rows.specs.Rows.{row_at, settled_at}
+use Rattle.ghost_rows.specs.State.{room_of}
+use Rattle.lock_desk.specs.PayWants.{wants_at}
+use Rattle.core_state.specs.Rooms.{HasRooms}
+use Rattle.core_state.proofs.Rooms.{rooms_closed, seats_left}
 use Rattle.core_state.proofs.Sessions.{contents_as, kept_of, HasTxn, now_is}
 
 -- ---- the log
@@ -62,9 +68,11 @@ next_few false n = omega arith
 
 -- ---- what is left
 
-module _ {M : Type 0} (maps : M → ℕ → Map) (core new : CoreState M) (s : State) (i : ℕ) (h : Began maps core s i) (is : IsSession i) (good : IsBook core.book)
+module _ {M : Type 0} (maps : M → ℕ → Map) (spare : M → ℕ → ℕ) (limit : M → Option ℕ) (core new : CoreState M) (s : State) (i : ℕ) (h : Began maps spare limit core s i) (is : IsSession i) (good : IsBook core.book)
     (released : IsReleased core.locks new.locks i)
     (stored : (c : Contents) → IsHeld core.store.catalog (maps core.store.tables) core.store.views c → IsHeld new.store.catalog (maps new.store.tables) new.store.views (keeping c i []))
+    (rows : (q : Place) → row_at new.store.views.rows q ≡ settled_at i (row_at core.store.views.rows q)) (rooms : (j : ℕ) → j ≢ i → room_of new.store.views j ≡ room_of core.store.views j)
+    (tables : new.store.tables ≡ core.store.tables) (catalog : new.store.catalog ≡ core.store.catalog) (wants : new.wants ≡ core.wants)
     (row_versions : new.store.row_versions ≡ core.store.row_versions) (delta_versions : new.store.delta_versions ≡ core.store.delta_versions) (begun : new.begun ≡ core.begun) (steps : new.steps ≡ core.steps) (seats : new.seats ≡ core.seats) (cleaner : new.cleaner ≡ core.cleaner) (stop : new.stop ≡ core.stop) where
   left_locks : (u : Store) → ((j : ℕ) → u.open_of j ≡ with_one s.store.open_of i None j) → (j : ℕ) → IsSession j → HasLocks (table.locks_of new.locks j) (locks_of u j)
   left_locks u opens j js =
@@ -75,7 +83,20 @@ module _ {M : Type 0} (maps : M → ℕ → Map) (core new : CoreState M) (s : S
       (λ ne. subst (λ (y : SessionLocks). HasLocks y.locks (unwrap_or (with_one s.store.open_of i None j) idle).locks) (sym (released.others j ne))
       (subst (λ oo. HasLocks (table.locks_of core.locks j) (unwrap_or oo idle).locks) (sym (one_other s.store.open_of i None j ne)) (h.holds.locks j js))))
 
-  left_counts : Counts maps new s
+  left_rooms : new.book.opens ≡ slice_set core.book.opens i None → HasRooms (spare new.store.tables) (limit new.store.tables) new.store.catalog new.store.views new.book.opens new.locks new.wants
+  left_rooms opens =
+      subst (λ t. HasRooms (spare t) (limit t) new.store.catalog new.store.views new.book.opens new.locks new.wants) (sym tables)
+      (subst (λ c. HasRooms (spare core.store.tables) (limit core.store.tables) c new.store.views new.book.opens new.locks new.wants) (sym catalog)
+      (rooms_closed (spare core.store.tables) (spare core.store.tables) (limit core.store.tables) (limit core.store.tables) core.store.catalog core.store.views new.store.views core.book new.book.opens core.locks new.locks core.wants new.wants i good is h.holds.rooms refl opens
+      (λ index. omega arith)
+      (record {
+        of_locks = released.others;
+        of_wants = λ j n. ap (λ ws. wants_at ws j) wants;
+        of_buffers = λ j n. let same : room_of new.store.views j ≡ room_of core.store.views j = rooms j n in omega (arith, same);
+        of_seats = λ j place n has. seats_left core.store.views new.store.views i j place n (rows place) has;
+      })))
+
+  left_counts : Counts maps spare limit new s
   left_counts = record {
     steps = steps ∙ h.counts.steps;
     seats = λ j le. ap (λ ss. machine_seat (seat_at ss j)) seats ∙ h.counts.seats j le;
@@ -96,7 +117,7 @@ module _ {M : Type 0} (maps : M → ℕ → Map) (core new : CoreState M) (s : S
       (stored (contents_of s.store) h.holds.stored)
 
   -- without an entry
-  pub ended : (o : IsOpen s.store i) → Seats core.book new.book i None → new.next ≡ cond (s.log.logged i).wrote (core.next + 1) core.next → Left maps s i Ends core new
+  pub ended : (o : IsOpen s.store i) → Seats core.book new.book i None → new.next ≡ cond (s.log.logged i).wrote (core.next + 1) core.next → Left maps spare limit s i Ends core new
   ended o seated next = record {
     holds = λ a. record {
       stored = left_stored (with_txn s.store i None) refl refl refl (λ j. refl);
@@ -109,6 +130,7 @@ module _ {M : Type 0} (maps : M → ℕ → Map) (core new : CoreState M) (s : S
       next = next ∙ (ap (λ n. cond (s.log.logged i).wrote (n + 1) n) h.holds.next ∙ sym (appended_next (schema_of s.store) (Abort (s.log.logged i).transaction) (with_logged s.log i not_logged) (s.log.logged i).wrote));
       row_mark = ap (λ x. x.pruned) row_versions ∙ h.holds.row_mark;
       delta_mark = ap (λ x. x.pruned) delta_versions ∙ h.holds.delta_mark;
+      rooms = left_rooms seated.opens;
     };
     own = ap (λ (y : SessionLocks). y.waiting) released.changed;
     others = λ j n. ap (λ (y : SessionLocks). y.waiting) (released.others j n);
@@ -118,7 +140,7 @@ module _ {M : Type 0} (maps : M → ℕ → Map) (core new : CoreState M) (s : S
 
   -- with one
   pub entered : (r : IsReady s.store i Serial) (own : HasTxn (schema_of s.store) (open_at core.book.opens i) r.goes_on.transaction (s.log.logged i)) → Committed core.book new.book i (txn_of own.txn) → new.next ≡ core.next + 1
-      → Left maps s i Commits core new
+      → Left maps spare limit s i Commits core new
   entered r own did next =
       let o : IsOpen s.store i = record { of_session = is; transaction = r.goes_on.transaction; is_open = r.goes_on.is_open } in
       let u : Store = with_txn (with_entry s.store i (entry_changes (now s.store i).kept)) i None in
@@ -131,7 +153,7 @@ module _ {M : Type 0} (maps : M → ℕ → Map) (core new : CoreState M) (s : S
           book = subst (λ l. book.Holds new.book (schema_of u) u.open_of l u.history (committed u).number (definition_sizes s.definitions)) (sym (logs_logged s.store i a Commits s.log))
               (subst (λ n. book.Holds new.book (schema_of u) u.open_of (with_one s.log.logged i not_logged) u.history n (definition_sizes s.definitions)) (sym greatest)
               (subst (λ os. book.Holds new.book os u.open_of (with_one s.log.logged i not_logged) u.history ((committed s.store).number + 1) (definition_sizes s.definitions)) (sym objects)
-              (subst (λ (t : Open). book.Holds new.book (schema_of s.store) (with_one s.store.open_of i None) (with_one s.log.logged i not_logged) (s.store.history ++ record { number = (committed s.store).number + 1; session = i; kept = entry_changes t.kept } ∷ []) ((committed s.store).number + 1) (definition_sizes s.definitions)) (sym (now_is maps core s i h o))
+              (subst (λ (t : Open). book.Holds new.book (schema_of s.store) (with_one s.store.open_of i None) (with_one s.log.logged i not_logged) (s.store.history ++ record { number = (committed s.store).number + 1; session = i; kept = entry_changes t.kept } ∷ []) ((committed s.store).number + 1) (definition_sizes s.definitions)) (sym (now_is maps spare limit core s i h o))
               (committed_holds core.book (schema_of s.store) s.store.open_of s.log.logged s.store.history (committed s.store).number (definition_sizes s.definitions) h.holds.book i new.book good is (with_one s.store.open_of i None) (with_one s.log.logged i not_logged)
               (λ j n. (one_other s.store.open_of i None j n, one_other s.log.logged i not_logged j n)) (txn_of own.txn) o.transaction (s.log.logged i) own.is r.goes_on.mode_is (one_same s.store.open_of i None i refl) did))));
           locks = left_locks u (λ j. refl);
@@ -139,6 +161,7 @@ module _ {M : Type 0} (maps : M → ℕ → Map) (core new : CoreState M) (s : S
           next = next ∙ ap (λ n. n + 1) h.holds.next;
           row_mark = ap (λ x. x.pruned) row_versions ∙ h.holds.row_mark;
           delta_mark = ap (λ x. x.pruned) delta_versions ∙ h.holds.delta_mark;
+          rooms = left_rooms did.opens;
         };
         own = ap (λ (y : SessionLocks). y.waiting) released.changed;
         others = λ j n. ap (λ (y : SessionLocks). y.waiting) (released.others j n);
@@ -149,17 +172,17 @@ module _ {M : Type 0} (maps : M → ℕ → Map) (core new : CoreState M) (s : S
 -- ---- the answer
 
 -- of an act whose one effect ends the transaction
-pub left_told : {M : Type 0} (maps : M → ℕ → Map) (core new : CoreState M) (s : State) (i : ℕ) (a : Act) (said : Answer) (e : Effect) → Began maps core s i → IsSession i → Left maps s i e core new → Says s i a said (e ∷ [])
+pub left_told : {M : Type 0} (maps : M → ℕ → Map) (spare : M → ℕ → ℕ) (limit : M → Option ℕ) (core new : CoreState M) (s : State) (i : ℕ) (a : Act) (said : Answer) (e : Effect) → Began maps spare limit core s i → IsSession i → Left maps spare limit s i e core new → Says s i a said (e ∷ [])
     → log_after s i a said (e ∷ []) ≡ log_all s.store i a (e ∷ []) s.log → definitions_after s.definitions a said ≡ s.definitions → is_blocked said ≡ false → is_fault said ≡ false → (log_all s.store i a (e ∷ []) s.log).begun ≤ s.log.begun + 1
-    → Told maps s i a said new
-left_told maps core new s i a said e h is left says logs_same definitions not fine few = record {
+    → Told maps spare limit s i a said new
+left_told maps spare limit core new s i a said e h is left says logs_same definitions not fine few = record {
   reached = h.reached;
   opening = h.opening;
   runs = h.runs;
   effects = e ∷ [];
   says = says;
-  holds = subst (λ ds. Holds maps new (run the_views s.store i (e ∷ [])) (log_after s i a said (e ∷ [])) ds) (sym definitions)
-      (subst (λ l. Holds maps new (run the_views s.store i (e ∷ [])) l s.definitions) (sym logs_same) (left.holds a));
+  holds = subst (λ ds. Holds maps spare limit new (run the_views s.store i (e ∷ [])) (log_after s i a said (e ∷ [])) ds) (sym definitions)
+      (subst (λ l. Holds maps spare limit new (run the_views s.store i (e ∷ [])) l s.definitions) (sym logs_same) (left.holds a));
   own = λ sessions b. absurd (not_blocked said sessions b not);
   none = λ _ _. left.own;
   waiting = λ j js n. left.others j n ∙ h.waiting j js n;

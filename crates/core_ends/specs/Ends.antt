@@ -1,7 +1,7 @@
 -- No clause of `run` rests on this module: it serves contracts between crates.
 --
 -- How transactions begin, and what one leaves that ends.
-use Rattle.std.specs.Prelude.{◌≡◌, ◌≢◌, ℕ, ◌+◌, ◌≤◌, [], ◌∷◌}
+use Rattle.std.specs.Prelude.{◌≡◌, ◌≢◌, ℕ, ◌+◌, ◌≤◌, [], ◌∷◌, Option}
 use Rattle.iv_types.specs.Maps.{Map}
 use Rattle.iv_types.specs.declared.statement.Mode.{Mode}
 use Rattle.iv_types.specs.declared.statement.Mode.TheVariants.{Serial, Snapshot}
@@ -21,9 +21,9 @@ number_in_log Snapshot begun = 0
 
 -- The core holds what one effect of a session leaves that ends its transaction, whatever the act; the session waits for nothing, and
 -- the others for what they waited for.
-pub record Left {M : Type 0} (maps : M → ℕ → Map) (s : State) (session : ℕ) (e : Effect) (old new : CoreState M) : Type 0 where
-  pub holds : (a : Act) → Holds maps new (run the_views s.store session (e ∷ [])) (log_all s.store session a (e ∷ []) s.log) s.definitions
+pub record Left {M : Type 0} (maps : M → ℕ → Map) (spare : M → ℕ → ℕ) (limit : M → Option ℕ) (s : State) (session : ℕ) (e : Effect) (old new : CoreState M) : Type 0 where
+  pub holds : (a : Act) → Holds maps spare limit new (run the_views s.store session (e ∷ [])) (log_all s.store session a (e ∷ []) s.log) s.definitions
   pub own : table.waiting_of new.locks session ≡ []
   pub others : (other : ℕ) → other ≢ session → table.waiting_of new.locks other ≡ table.waiting_of old.locks other
-  pub counts : Counts maps new s
+  pub counts : Counts maps spare limit new s
   pub appends_one : (a : Act) → (log_all s.store session a (e ∷ []) s.log).next ≤ s.log.next + 1

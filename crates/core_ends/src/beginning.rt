@@ -1,6 +1,7 @@
 //! Begin.
 ghost use Rattle.std.specs.Prelude.{◌≡◌, ◌+◌, ◌<◌, ◌≤◌, ◌^◌, ◌↔◌, IsTrue, IfOk, OnErr};
 ghost use Rattle.iv_types.specs.declared.statement.Mode.TheVariants.{Serial};
+ghost use Rattle.core_state.specs.declared.limits.TheConstants.{MOST_OF_HISTORY};
 ghost use Rattle.txn_book.specs.declared.book.TheConstants.{ENTRY_BYTES};
 ghost use Rattle.txn_machine.specs.Acts as act;
 ghost use Rattle.txn_machine.specs.May.{MayAct};
@@ -12,12 +13,9 @@ ghost use Rattle.core_ends.specs.Ends.{number_in_log};
 ghost use Rattle.txn_book.specs.Acts.{answer_of};
 ghost use Rattle.core_state.specs.Stands.{Began, Told};
 
-use core_state::CoreState;
+use core_state::{CoreState, MOST_OF_HISTORY};
 use iv_types::{EngineRefusal, Mode, NoMemory, SortedMaps};
 use txn_book::{Answer, ENTRY_BYTES};
-
-/// The most bytes of the history, with the open transactions.
-const MOST_OF_HISTORY: u64 = 268_435_456;
 
 // Whether there is room in the history for what a serial transaction counts.
 fn has_room(kept: u64) -> bool
@@ -53,9 +51,10 @@ fn open<M: SortedMaps>(
     session: u32,
     mode: Mode,
 ) -> Result<Answer, NoMemory>
-    requires { (s : State) × Began M.maps core.old s session × MayAct s.store session (act.Begin mode) × MayBegin s mode }
-    ensures told { IfOk result (λ said. (s : State) → Began M.maps core.old s session → MayAct s.store session (act.Begin mode) → MayBegin s mode → Told M.maps s session (act.Begin mode) (answer_of said) core.new) }
-    ensures err { OnErr result ((s : State) → Began M.maps core.old s session → Began M.maps core.new s session) }
+    requires { (s : State) × Began M.maps M.spare M.limit core.old s session × MayAct s.store session (act.Begin mode) × MayBegin s mode }
+    ensures told { IfOk result (λ said. (s : State) → Began M.maps M.spare M.limit core.old s session → MayAct s.store session (act.Begin mode) → MayBegin s mode → Told M.maps M.spare M.limit s session (act.Begin mode) (answer_of said) core.new) }
+    ensures err { OnErr result ((s : State) → Began M.maps M.spare M.limit core.old s session → Began M.maps M.spare M.limit core.new s session) }
+    ensures store { core.new.store ≡ core.old.store }
 {
     core.book.book_law();
     core.store.catalog.few_law();
@@ -70,9 +69,10 @@ fn open<M: SortedMaps>(
 
 // Opens a serial transaction, where there is room in the history.
 fn begin_serial<M: SortedMaps>(core: &mut CoreState<M>, session: u32) -> Result<Answer, NoMemory>
-    requires { (s : State) × Began M.maps core.old s session × MayAct s.store session (act.Begin Serial) }
-    ensures told { IfOk result (λ said. (s : State) → Began M.maps core.old s session → MayAct s.store session (act.Begin Serial) → Told M.maps s session (act.Begin Serial) (answer_of said) core.new) }
-    ensures err { OnErr result ((s : State) → Began M.maps core.old s session → Began M.maps core.new s session) }
+    requires { (s : State) × Began M.maps M.spare M.limit core.old s session × MayAct s.store session (act.Begin Serial) }
+    ensures told { IfOk result (λ said. (s : State) → Began M.maps M.spare M.limit core.old s session → MayAct s.store session (act.Begin Serial) → Told M.maps M.spare M.limit s session (act.Begin Serial) (answer_of said) core.new) }
+    ensures err { OnErr result ((s : State) → Began M.maps M.spare M.limit core.old s session → Began M.maps M.spare M.limit core.new s session) }
+    ensures store { core.new.store ≡ core.old.store }
 {
     core.book.book_law();
     let kept = core.book.history_bytes();
@@ -95,9 +95,10 @@ pub fn begin<M: SortedMaps>(
     session: u32,
     mode: Mode,
 ) -> Result<Answer, NoMemory>
-    requires { (s : State) × Began M.maps core.old s session × MayAct s.store session (act.Begin mode) }
-    ensures told { IfOk result (λ said. (s : State) → Began M.maps core.old s session → MayAct s.store session (act.Begin mode) → Told M.maps s session (act.Begin mode) (answer_of said) core.new) }
-    ensures err { OnErr result ((s : State) → Began M.maps core.old s session → Began M.maps core.new s session) }
+    requires { (s : State) × Began M.maps M.spare M.limit core.old s session × MayAct s.store session (act.Begin mode) }
+    ensures told { IfOk result (λ said. (s : State) → Began M.maps M.spare M.limit core.old s session → MayAct s.store session (act.Begin mode) → Told M.maps M.spare M.limit s session (act.Begin mode) (answer_of said) core.new) }
+    ensures err { OnErr result ((s : State) → Began M.maps M.spare M.limit core.old s session → Began M.maps M.spare M.limit core.new s session) }
+    ensures store { core.new.store ≡ core.old.store }
 {
     match mode {
         Mode::Serial => begin_serial(core, session),

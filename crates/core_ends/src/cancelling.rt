@@ -10,7 +10,7 @@ use txn_book::Answer;
 
 /// Forgets what a session waits for, which a step that begins has done already.
 pub fn cancel<M: SortedMaps>(core: &CoreState<M>, session: u32) -> Answer
-    ensures { (s : State) → Began M.maps core.now s session → Told M.maps s session act.Cancel (answer_of result) core.now }
+    ensures { (s : State) → Began M.maps M.spare M.limit core.now s session → Told M.maps M.spare M.limit s session act.Cancel (answer_of result) core.now }
 {
     let _core = core;
     let _session = session;

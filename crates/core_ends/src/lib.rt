@@ -6,7 +6,9 @@
 mod beginning;
 mod cancelling;
 mod ending;
+mod entering;
 
 pub use beginning::begin;
 pub use cancelling::cancel;
 pub use ending::{commit, end};
+pub use entering::commit_changes;

@@ -1,5 +1,5 @@
 -- What is told of an act that asks for locks and is not free.
-use Rattle.std.specs.Prelude.{◌≡◌, ℕ, ◌+◌, ◌≤◌, ◌==◌, cond, true, false, List, [], ◌∷◌, Some, refl}
+use Rattle.std.specs.Prelude.{◌≡◌, ℕ, ◌+◌, ◌≤◌, ◌==◌, cond, true, false, List, [], ◌∷◌, Some, refl, Option}
 use mathlib.Core.Path.{sym, ap, subst, ◌∙◌}
 use Rattle.std.proofs.Common.{arith}
 use Rattle.table_laws.proofs.Stored.{by_session}
@@ -37,6 +37,9 @@ use Rattle.data_store.specs.Contents.{contents_of}
 use Rattle.data_store.specs.Held.{IsHeld}
 use Rattle.core_state.specs.Stands.{Began, Told, Holds}
 use Rattle.core_state.specs.declared.state.CoreState.{CoreState}
+use Rattle.lock_desk.specs.PayWants.{wants_at}
+use Rattle.core_state.specs.Rooms.{HasRooms, gone_if}
+use Rattle.core_state.proofs.Rooms.{rooms_changed, elsewhere_same, covered_alike}
 use Rattle.core_state.proofs.Sessions.{contents_as, kept_same, locks_same, HasTxn, now_is}
 use Rattle.core_locks.specs.Asks.{Asks, others_wait}
 
@@ -86,19 +89,20 @@ all_again waiting i wants = λ j k. again waiting i wants k j
 
 -- ---- what is told
 
-pub agrees : {M : Type 0} (maps : M → ℕ → Map) (core : CoreState M) (s : State) (i : ℕ) → Began maps core s i → IsSession i → Agrees core.locks (locks_of s.store) (others_wait s.waiting i)
-agrees maps core s i h is = record {
+pub agrees : {M : Type 0} (maps : M → ℕ → Map) (spare : M → ℕ → ℕ) (limit : M → Option ℕ) (core : CoreState M) (s : State) (i : ℕ) → Began maps spare limit core s i → IsSession i → Agrees core.locks (locks_of s.store) (others_wait s.waiting i)
+agrees maps spare limit core s i h is = record {
   locks = h.holds.locks;
   waiting = λ k js. by_session k i
       (λ e. subst (λ n. table.waiting_of core.locks n ≡ others_wait s.waiting i n) (sym e) (h.own is ∙ sym (one_same s.waiting i [] i refl)))
       (λ n. h.waiting k js n ∙ sym (one_other s.waiting i [] k n));
 }
 
-module _ {M : Type 0} (maps : M → ℕ → Map) (core : CoreState M) (s : State) (i : ℕ) (h : Began maps core s i) (o : IsOpen s.store i) where
+module _ {M : Type 0} (maps : M → ℕ → Map) (spare : M → ℕ → ℕ) (limit : M → Option ℕ) (core : CoreState M) (s : State) (i : ℕ) (h : Began maps spare limit core s i) (o : IsOpen s.store i) where
   module _ (a : Act) (wants : List Want) (asks : Asks s i a wants) where
     -- it waits
-    pub waits_told : (after : Table) (sessions : Sessions) → IsRecorded core.locks after i wants → HasToWait (locks_of s.store) (others_wait s.waiting i) i wants sessions → Told maps s i a (answer.Blocked sessions) (record core { locks = after })
-    waits_told after sessions recorded waits = record {
+    pub waits_told : (after : Table) (back : List (List (List Want))) (sessions : Sessions) → IsRecorded core.locks after i wants
+        → HasRooms (spare core.store.tables) (limit core.store.tables) core.store.catalog core.store.views core.book.opens after back → HasToWait (locks_of s.store) (others_wait s.waiting i) i wants sessions → Told maps spare limit s i a (answer.Blocked sessions) (record core { locks = after; wants = back })
+    waits_told after back sessions recorded rooms waits = record {
       reached = h.reached;
       opening = h.opening;
       runs = h.runs;
@@ -112,8 +116,8 @@ module _ {M : Type 0} (maps : M → ℕ → Map) (core : CoreState M) (s : State
         }),
         refl,
       );
-      holds = subst (λ ds. Holds maps (record core { locks = after }) s.store (log_after s i a (answer.Blocked sessions) []) ds) (sym (plain_definitions s.definitions a (answer.Blocked sessions) asks.0))
-          (subst (λ l. Holds maps (record core { locks = after }) s.store l s.definitions) (sym same_log) (record {
+      holds = subst (λ ds. Holds maps spare limit (record core { locks = after; wants = back }) s.store (log_after s i a (answer.Blocked sessions) []) ds) (sym (plain_definitions s.definitions a (answer.Blocked sessions) asks.0))
+          (subst (λ l. Holds maps spare limit (record core { locks = after; wants = back }) s.store l s.definitions) (sym same_log) (record {
             stored = h.holds.stored;
             book = h.holds.book;
             locks = λ k is. by_session k i
@@ -123,6 +127,7 @@ module _ {M : Type 0} (maps : M → ℕ → Map) (core : CoreState M) (s : State
             next = h.holds.next;
             row_mark = h.holds.row_mark;
             delta_mark = h.holds.delta_mark;
+            rooms = rooms;
           }));
       own = λ all e. ap (λ (x : SessionLocks). x.waiting) recorded.changed ∙ sym asks.1;
       none = λ b. absurd (cc);
@@ -138,7 +143,7 @@ module _ {M : Type 0} (maps : M → ℕ → Map) (core : CoreState M) (s : State
 
     -- a deadlock met it
     pub lost_told : (after : Books) (cycle : Cycle) (own : HasTxn (schema_of s.store) (open_at core.book.opens i) o.transaction (s.log.logged i)) → IsBook core.book → Changes core.book after i (lost (txn_of own.txn))
-        → IsDeadlock (locks_of s.store) (others_wait s.waiting i) i wants (sessions_of cycle) → Told maps s i a (answer.Refused (refusal.Deadlock cycle)) (record core { book = after })
+        → IsDeadlock (locks_of s.store) (others_wait s.waiting i) i wants (sessions_of cycle) → Told maps spare limit s i a (answer.Refused (refusal.Deadlock cycle)) (record core { book = after })
     lost_told after cycle own good changes deadlock = record {
       reached = h.reached;
       opening = h.opening;
@@ -153,8 +158,8 @@ module _ {M : Type 0} (maps : M → ℕ → Map) (core : CoreState M) (s : State
         }),
         refl,
       );
-      holds = subst (λ ds. Holds maps (record core { book = after }) (with_txn s.store i (Some lost_one)) (log_after s i a (answer.Refused (refusal.Deadlock cycle)) (Loses ∷ [])) ds) (sym (plain_definitions s.definitions a (answer.Refused (refusal.Deadlock cycle)) asks.0))
-          (subst (λ l. Holds maps (record core { book = after }) (with_txn s.store i (Some lost_one)) l s.definitions) (sym same_log) (record {
+      holds = subst (λ ds. Holds maps spare limit (record core { book = after }) (with_txn s.store i (Some lost_one)) (log_after s i a (answer.Refused (refusal.Deadlock cycle)) (Loses ∷ [])) ds) (sym (plain_definitions s.definitions a (answer.Refused (refusal.Deadlock cycle)) asks.0))
+          (subst (λ l. Holds maps spare limit (record core { book = after }) (with_txn s.store i (Some lost_one)) l s.definitions) (sym same_log) (record {
             stored = subst (IsHeld core.store.catalog (maps core.store.tables) core.store.views)
                 (contents_as (contents_of s.store) (contents_of (with_txn s.store i (Some lost_one))) refl refl refl (λ j. sym (kept_same s.store.open_of i (Some lost_one) refl j)))
                 h.holds.stored;
@@ -162,12 +167,15 @@ module _ {M : Type 0} (maps : M → ℕ → Map) (core : CoreState M) (s : State
                 (changed_holds core.book (schema_of s.store) s.store.open_of s.log.logged s.store.history (committed s.store).number (definition_sizes s.definitions) h.holds.book good i o.of_session after (with_one s.store.open_of i (Some lost_one)) (with_one s.log.logged i (s.log.logged i))
                 (λ j n. (one_other s.store.open_of i (Some lost_one) j n, one_other s.log.logged i (s.log.logged i) j n))
                 (lost (txn_of own.txn)) lost_one changes (one_same s.store.open_of i (Some lost_one) i refl)
-                (subst (book.IsTxn (schema_of s.store) (lost (txn_of own.txn)) lost_one) (sym (one_same s.log.logged i (s.log.logged i) i refl)) (lost_is (schema_of s.store) (txn_of own.txn) (now s.store i) (s.log.logged i) (subst (λ t. book.IsTxn (schema_of s.store) (txn_of own.txn) t (s.log.logged i)) (sym (now_is maps core s i h o)) own.is))));
+                (subst (book.IsTxn (schema_of s.store) (lost (txn_of own.txn)) lost_one) (sym (one_same s.log.logged i (s.log.logged i) i refl)) (lost_is (schema_of s.store) (txn_of own.txn) (now s.store i) (s.log.logged i) (subst (λ t. book.IsTxn (schema_of s.store) (txn_of own.txn) t (s.log.logged i)) (sym (now_is maps spare limit core s i h o)) own.is))));
             locks = λ j js. subst (HasLocks (table.locks_of core.locks j)) (sym (locks_same s.store.open_of i (Some lost_one) refl j)) (h.holds.locks j js);
             begun = h.holds.begun;
             next = h.holds.next;
             row_mark = h.holds.row_mark;
             delta_mark = h.holds.delta_mark;
+            rooms = rooms_changed (spare core.store.tables) (spare core.store.tables) (limit core.store.tables) (limit core.store.tables) core.store.catalog core.store.views core.store.views core.book after core.locks core.locks core.wants core.wants i
+                (lost (txn_of own.txn)) good o.of_session h.holds.rooms refl changes (λ index. let same : gone_if index (open_at core.book.opens i) ≡ gone_if index (Some own.txn) = ap (gone_if index) own.there in omega (arith, same)) (elsewhere_same i core.store.views core.locks core.wants)
+                (covered_alike core.store.catalog core.store.views core.locks (wants_at core.wants i) i (txn_of own.txn) (lost (txn_of own.txn)) refl refl refl (h.holds.rooms.each i o.of_session own.txn own.there).small (h.holds.rooms.each i o.of_session own.txn own.there));
           }));
       own = λ sessions e. absurd (cc);
       none = λ _ is. h.own is;

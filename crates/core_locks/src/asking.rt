@@ -5,7 +5,8 @@ ghost use Rattle.iv_meaning.specs.Waits.{sessions_of};
 ghost use Rattle.lock_desk.specs.Asking.{HasToWait};
 ghost use Rattle.txn_machine.specs.Acts.{Act};
 ghost use Rattle.txn_machine.specs.Locks.{IsDeadlock};
-ghost use Rattle.txn_machine.specs.May.{IsOpen};
+ghost use Rattle.iv_types.specs.declared.statement.Mode.TheVariants.{Serial};
+ghost use Rattle.txn_machine.specs.May.{IsOpen, IsReady};
 ghost use Rattle.txn_machine.specs.State.{State};
 ghost use Rattle.txn_machine.specs.Steps.{IsFree};
 ghost use Rattle.txn_machine.specs.Store.{locks_of};
@@ -25,37 +26,37 @@ fn wait_for<M: SortedMaps>(
     wants: WantList,
     sessions: Sessions,
 ) -> Answer
-    requires { (s : State) × Began M.maps core.old s session × IsOpen s.store session }
-    ensures { (s : State) (a : Act) → Began M.maps core.old s session → IsOpen s.store session → Asks s session a wants → HasToWait (locks_of s.store) (others_wait s.waiting session) session wants sessions
-        → Told M.maps s session a (answer_of result) core.new }
+    requires { (s : State) × Began M.maps M.spare M.limit core.old s session × IsReady s.store session Serial }
+    ensures { (s : State) (a : Act) → Began M.maps M.spare M.limit core.old s session → IsReady s.store session Serial → Asks s session a wants → HasToWait (locks_of s.store) (others_wait s.waiting session) session wants sessions
+        → Told M.maps M.spare M.limit s session a (answer_of result) core.new }
 {
     core.locks.wait(session, wants);
     Answer::Blocked(sessions)
 }
 
-// A deadlock meets the session's transaction.
-fn lose<M: SortedMaps>(core: &mut CoreState<M>, session: u32, cycle: Cycle) -> Answer
-    requires { (s : State) × Began M.maps core.old s session × IsOpen s.store session }
-    ensures { (s : State) (a : Act) (wants : List Want) → Began M.maps core.old s session → IsOpen s.store session → Asks s session a wants → IsDeadlock (locks_of s.store) (others_wait s.waiting session) session wants (sessions_of cycle)
-        → Told M.maps s session a (answer_of result) core.new }
+/// A deadlock meets a session's transaction, which was asking for these locks.
+pub fn lose<M: SortedMaps>(core: &mut CoreState<M>, session: u32, cycle: Cycle) -> Answer
+    requires { (s : State) × Began M.maps M.spare M.limit core.old s session × IsOpen s.store session }
+    ensures { (s : State) (a : Act) (wants : List Want) → Began M.maps M.spare M.limit core.old s session → IsOpen s.store session → Asks s session a wants → IsDeadlock (locks_of s.store) (others_wait s.waiting session) session wants (sessions_of cycle)
+        → Told M.maps M.spare M.limit s session a (answer_of result) core.new }
 {
     core.book.book_law();
     core.book.lose(session);
     Answer::Refused(EngineRefusal::Deadlock(cycle))
 }
 
-/// Asks for locks of a session whose transaction is open. Where nobody is in the way the wants are given back, and nothing is
+/// Asks for locks of a session whose serial transaction is open and owes nothing. Where nobody is in the way the wants are given back, and nothing is
 /// changed. Else `Err` is the answer of the act that asks for them: it has to wait, or a deadlock meets its transaction.
 pub fn ask_for<M: SortedMaps>(
     core: &mut CoreState<M>,
     session: u32,
     wants: WantList,
 ) -> Result<WantList, Answer>
-    requires { (s : State) × Began M.maps core.old s session × IsOpen s.store session }
+    requires { (s : State) × Began M.maps M.spare M.limit core.old s session × IsReady s.store session Serial }
     ensures wants { IfOk result (λ free. free ≡ wants) }
-    ensures free { OnOk result ((s : State) → Began M.maps core.old s session → IsFree s.store session wants) }
+    ensures free { OnOk result ((s : State) → Began M.maps M.spare M.limit core.old s session → IsFree s.store session wants) }
     ensures same { OnOk result (core.new ≡ core.old) }
-    ensures told { IfErr result (λ said. (s : State) (a : Act) → Began M.maps core.old s session → IsOpen s.store session → Asks s session a wants → Told M.maps s session a (answer_of said) core.new) }
+    ensures told { IfErr result (λ said. (s : State) (a : Act) → Began M.maps M.spare M.limit core.old s session → IsReady s.store session Serial → Asks s session a wants → Told M.maps M.spare M.limit s session a (answer_of said) core.new) }
 {
     match ask(&core.locks, session, &wants) {
         Asked::Free => Ok(wants),

@@ -3,4 +3,4 @@
 
 mod asking;
 
-pub use asking::ask_for;
+pub use asking::{ask_for, lose};

@@ -26,7 +26,7 @@ fn copied(alloc: Global, catalog: &Catalog) -> Result<Catalog, NoMemory>
 ///
 /// Where there is no memory for it.
 pub fn defs<M: SortedMaps>(core: &CoreState<M>, session: u32) -> Result<Answer, NoMemory>
-    ensures { IfOk result (λ said. (s : State) → Began M.maps core.now s session → Told M.maps s session act.Defs (answer_of said) core.now) }
+    ensures { IfOk result (λ said. (s : State) → Began M.maps M.spare M.limit core.now s session → Told M.maps M.spare M.limit s session act.Defs (answer_of said) core.now) }
 {
     let _session = session;
     Ok(Answer::Defs(copied(core.alloc, &core.store.catalog)?))

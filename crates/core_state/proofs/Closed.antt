@@ -189,7 +189,7 @@ zip_length R (x ∷ xs) (y ∷ ys) h = ap suc (zip_length R xs ys h.1)
 
 -- ---- the step
 
-module _ {M : Type 0} (maps : M → ℕ → Map) (core : CoreState M) (s : State) (i : ℕ) (a : Act) (x : Said) (may : May s i a) (within : i ≤ 64) (t : Told maps s i a (answer_of x) core) where
+module _ {M : Type 0} (maps : M → ℕ → Map) (spare : M → ℕ → ℕ) (limit : M → Option ℕ) (core : CoreState M) (s : State) (i : ℕ) (a : Act) (x : Said) (may : May s i a) (within : i ≤ 64) (t : Told maps spare limit s i a (answer_of x) core) where
   abbrev after_store : Store
   after_store = run the_views s.store i t.effects
 
@@ -201,19 +201,19 @@ module _ {M : Type 0} (maps : M → ℕ → Map) (core : CoreState M) (s : State
 
   pub closed : (steps : ℕ) (seats : List Seat) (cleaner : Cleaner) (stop : Option ℕ) → steps ≡ core.steps + 1 → seat_at seats i ≡ told (seat_at core.seats i) steps (refusal_in x) → ((j : ℕ) → j ≢ i → seat_at seats j ≡ seat_at core.seats j)
       → cleaner ≡ cleaned core.cleaner steps (length core.book.history) x → stop ≡ option_map (λ (y : Stop). y.step) (stop_if (steps == most_steps) (record { step = steps; act = a })) → s.steps < most_steps
-      → Moved maps s i a (answer_of x) (record core { steps = steps; seats = seats; cleaner = cleaner; stop = stop })
+      → Moved maps spare limit s i a (answer_of x) (record core { steps = steps; seats = seats; cleaner = cleaner; stop = stop })
   closed steps seats cleaner stop more own others clean stops lt =
       let number : steps ≡ s.steps + 1 = more ∙ ap (λ n. n + 1) t.counts.steps in
       let does : Step s i a (answer_of x) the_after = record { may = may; does = inl (record { runs = t.runs; effects = t.effects; says = t.says; left = refl }) } in
       let stopped : the_after.stop ≡ stop_if (s.steps + 1 == most_steps) (record { step = s.steps + 1; act = a }) = stop_is s.stop (s.steps + 1) a (answer_of x) t.no_fault t.runs in
-      let h : Holds maps core after_store (log_after s i a (answer_of x) t.effects) (definitions_after s.definitions a (answer_of x)) = t.holds in
+      let h : Holds maps spare limit core after_store (log_after s i a (answer_of x) t.effects) (definitions_after s.definitions a (answer_of x)) = t.holds in
       record {
         after = the_after;
         does = does;
         stands = record {
           reached = leads_on s i a (answer_of x) the_after t.reached does;
           opening = t.opening;
-          holds = record { stored = h.stored; book = h.book; locks = h.locks; begun = h.begun; next = h.next; row_mark = h.row_mark; delta_mark = h.delta_mark };
+          holds = record { stored = h.stored; book = h.book; locks = h.locks; begun = h.begun; next = h.next; row_mark = h.row_mark; delta_mark = h.delta_mark; rooms = h.rooms };
           waiting = λ j js. by_session j i
               (λ e. subst (λ k. table.waiting_of core.locks k ≡ with_one s.waiting i the_waits k) (sym e)
               (waits_are s.store i a (answer_of x) (table.waiting_of core.locks i) t.own (λ not. t.none not (subst IsSession e js)) ∙ sym (one_same s.waiting i the_waits i refl)))
@@ -256,10 +256,10 @@ module _ {M : Type 0} (maps : M → ℕ → Map) (core : CoreState M) (s : State
 -- ---- a stopped core
 
 -- what it stores and waits for is as before, and so are its counts
-pub stop_told : {M : Type 0} (maps : M → ℕ → Map) (core : CoreState M) (s : State) (i : ℕ) (a : Act) (stop : Stop) (seats : List Seat) → May s i a → i ≤ 64 → Stands maps core s → s.stop ≡ Some stop
+pub stop_told : {M : Type 0} (maps : M → ℕ → Map) (spare : M → ℕ → ℕ) (limit : M → Option ℕ) (core : CoreState M) (s : State) (i : ℕ) (a : Act) (stop : Stop) (seats : List Seat) → May s i a → i ≤ 64 → Stands maps spare limit core s → s.stop ≡ Some stop
     → seat_at seats i ≡ record (seat_at core.seats i) { told_of_stop = true } → ((j : ℕ) → j ≢ i → seat_at seats j ≡ seat_at core.seats j)
-    → Moved maps s i a (answer.Refused (refused.Stopped stop.step)) (record core { seats = seats })
-stop_told maps core s i a stop seats may within h stopped own others =
+    → Moved maps spare limit s i a (answer.Refused (refused.Stopped stop.step)) (record core { seats = seats })
+stop_told maps spare limit core s i a stop seats may within h stopped own others =
     let does : Step s i a (answer.Refused (refused.Stopped stop.step)) (machine.told_of_stop s i) = record { may = may; does = inr (record { stop = stop; stopped = stopped; says = refl; left = refl }) } in
     record {
       after = machine.told_of_stop s i;
@@ -267,7 +267,7 @@ stop_told maps core s i a stop seats may within h stopped own others =
       stands = record {
         reached = leads_on s i a (answer.Refused (refused.Stopped stop.step)) (machine.told_of_stop s i) h.reached does;
         opening = h.opening;
-        holds = record { stored = h.holds.stored; book = h.holds.book; locks = h.holds.locks; begun = h.holds.begun; next = h.holds.next; row_mark = h.holds.row_mark; delta_mark = h.holds.delta_mark };
+        holds = record { stored = h.holds.stored; book = h.holds.book; locks = h.holds.locks; begun = h.holds.begun; next = h.holds.next; row_mark = h.holds.row_mark; delta_mark = h.holds.delta_mark; rooms = h.holds.rooms };
         waiting = h.waiting;
         counts = record {
           steps = h.counts.steps;

@@ -1,4 +1,6 @@
+pub mod Rooms
 pub mod Unchanged
 pub mod Sessions
 pub mod Opened
 pub mod Closed
+pub mod Counted

@@ -1,5 +1,5 @@
 -- A core as it is made, and as a step begins.
-use Rattle.std.specs.Prelude.{◌≡◌, ℕ, [], length, Option, None, refl}
+use Rattle.std.specs.Prelude.{◌≡◌, ◌≢◌, ℕ, List, [], ◌∷◌, length, Option, None, refl}
 use Rattle.std.specs.List.{AllZip}
 use Rattle.std.specs.FinMap.{empty}
 use mathlib.Core.Path.{sym, ap, subst, ◌∙◌}
@@ -9,6 +9,11 @@ use Rattle.iv_types.specs.Maps.{Map}
 use Rattle.lock_manager.specs.Table as table
 use Rattle.lock_manager.specs.Table.{Table, SessionLocks, IsCancelled, IsNew}
 use Rattle.lock_desk.specs.Asking.{HasLocks}
+use Rattle.lock_desk.specs.PayWants.{wants_at}
+use Rattle.iv_types.specs.declared.lock.Want.{Want}
+use Rattle.query_laws.specs.Limited.{IsLimited}
+use Rattle.query_laws.proofs.LimitedLemmas.{numbers_law}
+use Rattle.core_state.proofs.Rooms.{rooms_back, no_rooms}
 use Rattle.iv_meaning.specs.Database.{Database}
 use Rattle.txn_machine.specs.Laws.{EmptyLaw}
 use Rattle.txn_machine.specs.Log.{unlimited, not_logged}
@@ -23,15 +28,17 @@ use Rattle.core_state.specs.Seats.{new_seat, seat_at, machine_seat, machine_clea
 use Rattle.core_state.specs.Stands.{Stands, Began}
 use Rattle.core_state.specs.declared.state.CoreState.{CoreState}
 
-module _ {M : Type 0} (maps : M → ℕ → Map) (core : CoreState M) (t : Table) (s : State) (i : ℕ) where
+module _ {M : Type 0} (maps : M → ℕ → Map) (spare : M → ℕ → ℕ) (limit : M → Option ℕ) (core : CoreState M) (t : Table) (back : List (List (List Want))) (s : State) (i : ℕ) where
   locks_same : IsCancelled core.locks t i → (j : ℕ) → table.locks_of t j ≡ table.locks_of core.locks j
   locks_same cancelled j = by_session j i
       (λ e. subst (λ k. table.locks_of t k ≡ table.locks_of core.locks k) (sym e) (ap (λ (x : SessionLocks). x.locks) cancelled.changed))
       (λ n. ap (λ (x : SessionLocks). x.locks) (cancelled.others j n))
 
   -- the session waits for nothing
-  pub begins : IsCancelled core.locks t i → Stands maps core s → s.stop ≡ None → Began maps (record core { locks = t }) s i
-  begins cancelled h runs = record {
+  pub begins : IsCancelled core.locks t i → ((more : List (List Want)) → wants_at core.wants i ≡ [] ∷ more → wants_at back i ≡ table.waiting_of core.locks i ∷ more)
+      → ((want : Want) (others : List Want) (more : List (List Want)) → wants_at core.wants i ≡ (want ∷ others) ∷ more → wants_at back i ≡ wants_at core.wants i) → ((j : ℕ) → j ≢ i → wants_at back j ≡ wants_at core.wants j)
+      → Stands maps spare limit core s → s.stop ≡ None → Began maps spare limit (record core { locks = t; wants = back }) s i
+  begins cancelled put there others h runs = record {
     reached = h.reached;
     opening = h.opening;
     runs = runs;
@@ -43,6 +50,7 @@ module _ {M : Type 0} (maps : M → ℕ → Map) (core : CoreState M) (t : Table
       next = h.holds.next;
       row_mark = h.holds.row_mark;
       delta_mark = h.holds.delta_mark;
+      rooms = rooms_back (spare core.store.tables) (limit core.store.tables) core.store.catalog core.store.views core.book.opens core.locks t core.wants back i h.holds.rooms cancelled put there others;
     };
     own = λ _. ap (λ (x : SessionLocks). x.waiting) cancelled.changed;
     waiting = λ j js n. ap (λ (x : SessionLocks). x.waiting) (cancelled.others j n) ∙ h.waiting j js;
@@ -61,7 +69,7 @@ module _ {M : Type 0} (maps : M → ℕ → Map) (core : CoreState M) (t : Table
 
 -- ---- a new core
 
-module _ {M : Type 0} (maps : M → ℕ → Map) (core : CoreState M) (number : ℕ) where
+module _ {M : Type 0} (maps : M → ℕ → Map) (spare : M → ℕ → ℕ) (limit : M → Option ℕ) (core : CoreState M) (number : ℕ) where
   abbrev the_db : Database
   the_db = record { number = number; schema = []; rows = empty }
 
@@ -73,8 +81,8 @@ module _ {M : Type 0} (maps : M → ℕ → Map) (core : CoreState M) (number : 
 
   -- it stands where the machine begins
   pub made : EmptyLaw → IsHeld core.store.catalog (maps core.store.tables) core.store.views no_contents → (core.store.row_versions.pruned ≡ number) × (core.store.delta_versions.pruned ≡ number) → core.book.opened ≡ number → core.book.history ≡ [] → core.book.entry_bytes ≡ 0 → ((session : ℕ) → open_at core.book.opens session ≡ None)
-      → IsNew core.locks → core.begun ≡ 0 → core.next ≡ 1 → core.steps ≡ 0 → ((session : ℕ) → seat_at core.seats session ≡ new_seat) → machine_cleaner core.cleaner ≡ the_state.cleaner → core.stop ≡ None → Stands maps core the_state
-  made law stored marks opened_at history bytes none new begun next steps seats cleaner stop = record {
+      → IsNew core.locks → limit core.store.tables ≡ None → core.begun ≡ 0 → core.next ≡ 1 → core.steps ≡ 0 → ((session : ℕ) → seat_at core.seats session ≡ new_seat) → machine_cleaner core.cleaner ≡ the_state.cleaner → core.stop ≡ None → Stands maps spare limit core the_state
+  made law stored marks opened_at history bytes none new unlimited_maps begun next steps seats cleaner stop = record {
     reached = record { db = the_db; view = empty; opening = unlimited; was_opened = law number; steps = []; run = refl };
     opening = refl;
     holds = record {
@@ -91,6 +99,7 @@ module _ {M : Type 0} (maps : M → ℕ → Map) (core : CoreState M) (number : 
       next = next;
       row_mark = marks.0;
       delta_mark = marks.1;
+      rooms = no_rooms (spare core.store.tables) (limit core.store.tables) core.store.catalog core.store.views core.book.opens core.locks core.wants unlimited_maps (subst IsLimited (sym stored.objects) numbers_law.0) none;
     };
     waiting = λ j js. ap (λ (x : SessionLocks). x.waiting) (new j);
     counts = record {

@@ -1,5 +1,5 @@
 -- What a core has of a session's transaction, and what it has where one transaction changed.
-use Rattle.std.specs.Prelude.{◌≡◌, ◌≢◌, ◌⊎◌, ℕ, ◌<◌, ◌≤◌, ◌==◌, cond, true, false, List, [], ◌∷◌, length, ◌+◌, Option, None, Some, IsSome, refl}
+use Rattle.std.specs.Prelude.{◌≡◌, ◌≢◌, ◌⊎◌, ℕ, ◌<◌, ◌≤◌, ◌==◌, cond, true, false, List, [], ◌∷◌, length, drop, ◌+◌, Option, None, Some, IsSome, refl}
 use Rattle.std.specs.Option.{unwrap_or}
 use mathlib.Core.Path.{sym, ap, subst, ◌∙◌}
 use mathlib.Core.Logic.{inl, inr}
@@ -26,7 +26,9 @@ use Rattle.txn_book.specs.Txns.{txn_of, changes_in}
 use Rattle.txn_book.specs.Holding.{IsTxn, IsSame, AreKept}
 use Rattle.txn_book.specs.declared.open_table.Open.{Open as BookOpen}
 use Rattle.data_store.specs.Contents.{Contents}
+use Rattle.core_state.specs.Rooms.{still_owed}
 use Rattle.core_state.specs.Stands.{Began}
+use Rattle.iv_types.specs.declared.statement.Mode.{Mode}
 use Rattle.core_state.specs.declared.state.CoreState.{CoreState}
 
 -- ---- one session's transaction is another
@@ -77,7 +79,11 @@ as_many (step.Pay d before n ∷ bs) (Put c owed ∷ ks) ns h = absurd h
 as_many (step.Put k a b n ∷ bs) [] ns h = absurd h
 as_many (step.Pay d before n ∷ bs) [] ns h = absurd h
 
-module _ {M : Type 0} (maps : M → ℕ → Map) (core : CoreState M) (s : State) (i : ℕ) (h : Began maps core s i) where
+drop_none : {X : Type 0} (n : ℕ) → drop {A = X} n [] ≡ []
+drop_none ℕ.zero = refl
+drop_none (ℕ.suc n) = refl
+
+module _ {M : Type 0} (maps : M → ℕ → Map) (spare : M → ℕ → ℕ) (limit : M → Option ℕ) (core : CoreState M) (s : State) (i : ℕ) (h : Began maps spare limit core s i) where
   pub own_txn : (o : IsOpen s.store i) → HasTxn (schema_of s.store) (open_at core.book.opens i) o.transaction (s.log.logged i)
   own_txn o = has_txn (schema_of s.store) (open_at core.book.opens i) (s.store.open_of i) o.transaction (s.log.logged i) o.is_open (h.holds.book.txns i o.of_session)
 
@@ -134,6 +140,19 @@ module _ {M : Type 0} (maps : M → ℕ → Map) (core : CoreState M) (s : State
       nothing : {X : Type 0} (xs : List X) → length xs ≡ 0 → xs ≡ []
       nothing [] e = refl
       nothing (x ∷ xs) e = absurd (omega (arith, e))
+
+  -- who may go on has a transaction
+  abbrev pub of_ready : {mode : Mode} → IsReady s.store i mode → IsOpen s.store i
+  of_ready r = record { of_session = r.goes_on.of_session; transaction = r.goes_on.transaction; is_open = r.goes_on.is_open }
+
+  -- and owes nothing, in the book too
+  pub owes_none : {mode : Mode} (r : IsReady s.store i mode) (t : BookOpen) → open_at core.book.opens i ≡ Some t → still_owed (txn_of t) ≡ []
+  owes_none r t there =
+      let own = own_txn (of_ready r) in
+      let one : Some t ≡ Some own.txn = sym there ∙ own.there in
+      let same : t ≡ own.txn = cc in
+      let owed : (txn_of t).owed ≡ [] = ap (λ (x : BookOpen). (txn_of x).owed) same ∙ (own.is.owed ∙ r.owes_nothing) in
+      ap (drop t.back) owed ∙ drop_none t.back
 
   -- who may commit has a transaction, and who keeps changes a serial one
   pub open_to_commit : IsReady s.store i Serial ⊎ IsReady s.store i Snapshot → IsOpen s.store i

@@ -1,5 +1,5 @@
 -- What is told of an act that changes nothing.
-use Rattle.std.specs.Prelude.{◌≡◌, ℕ, ◌+◌, ◌≤◌, false, true, []}
+use Rattle.std.specs.Prelude.{◌≡◌, ℕ, ◌+◌, ◌≤◌, false, true, [], Option}
 use mathlib.Core.Path.{sym, ap, subst, ◌∙◌}
 use Rattle.std.proofs.Common.{arith}
 use Rattle.iv_types.specs.Maps.{Map}
@@ -17,15 +17,15 @@ use Rattle.core_state.specs.declared.state.CoreState.{CoreState}
 pub not_blocked : (m : Answer) (sessions : Sessions) → m ≡ answer.Blocked sessions → is_blocked m ≡ false → ⊥
 not_blocked m sessions e none = let bad : true ≡ false = sym (ap is_blocked e) ∙ none in absurd (cc)
 
-pub unchanged_told : {M : Type 0} (maps : M → ℕ → Map) (core : CoreState M) (s : State) (i : ℕ) (a : Act) (said : Answer) → Began maps core s i → Says s i a said [] → log_after s i a said [] ≡ s.log → definitions_after s.definitions a said ≡ s.definitions
-    → is_blocked said ≡ false → is_fault said ≡ false → Told maps s i a said core
-unchanged_told maps core s i a said h says log_same definitions not fine = record {
+pub unchanged_told : {M : Type 0} (maps : M → ℕ → Map) (spare : M → ℕ → ℕ) (limit : M → Option ℕ) (core : CoreState M) (s : State) (i : ℕ) (a : Act) (said : Answer) → Began maps spare limit core s i → Says s i a said [] → log_after s i a said [] ≡ s.log → definitions_after s.definitions a said ≡ s.definitions
+    → is_blocked said ≡ false → is_fault said ≡ false → Told maps spare limit s i a said core
+unchanged_told maps spare limit core s i a said h says log_same definitions not fine = record {
   reached = h.reached;
   opening = h.opening;
   runs = h.runs;
   effects = [];
   says = says;
-  holds = subst (λ ds. Holds maps core s.store (log_after s i a said []) ds) (sym definitions) (subst (λ l. Holds maps core s.store l s.definitions) (sym log_same) h.holds);
+  holds = subst (λ ds. Holds maps spare limit core s.store (log_after s i a said []) ds) (sym definitions) (subst (λ l. Holds maps spare limit core s.store l s.definitions) (sym log_same) h.holds);
   own = λ sessions b. absurd (not_blocked said sessions b not);
   none = λ _ is. h.own is;
   waiting = h.waiting;

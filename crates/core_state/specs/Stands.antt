@@ -1,7 +1,7 @@
 -- No clause of `run` rests on this module: it serves contracts between crates.
 --
 -- In which state of the machine a core is. It has no limits of log and data, and no disk.
-use Rattle.std.specs.Prelude.{◌≡◌, ◌≢◌, ℕ, ◌+◌, ◌<◌, ◌≤◌, List, [], None, false, true, Bool}
+use Rattle.std.specs.Prelude.{◌≡◌, ◌≢◌, ℕ, ◌+◌, ◌<◌, ◌≤◌, List, [], None, false, true, Bool, Option}
 use Rattle.std.specs.Option.{option_map}
 use Rattle.iv_types.specs.Maps.{Map}
 use Rattle.iv_types.specs.declared.session.Sessions.{Sessions}
@@ -20,6 +20,7 @@ use Rattle.txn_machine.specs.Laws.{IsReached}
 use Rattle.txn_book.specs.Holding as book
 use Rattle.data_store.specs.Contents.{contents_of}
 use Rattle.data_store.specs.Held.{IsHeld}
+use Rattle.core_state.specs.Rooms.{HasRooms}
 use Rattle.core_state.specs.Seats.{machine_seat, machine_cleaner, seat_at}
 use Rattle.core_state.specs.declared.state.CoreState.{CoreState}
 
@@ -28,7 +29,7 @@ abbrev pub is_blocked : Answer → Bool
 is_blocked (Blocked sessions) = true
 is_blocked _ = false
 
-module _ {M : Type 0} (maps : M → ℕ → Map) where
+module _ {M : Type 0} (maps : M → ℕ → Map) (spare : M → ℕ → ℕ) (limit : M → Option ℕ) where
   -- what is stored, the open transactions with their locks, and the history
   pub record Holds (core : CoreState M) (store : Store) (log : Log) (definitions : List (List ℕ)) : Type 0 where
     pub stored : IsHeld core.store.catalog (maps core.store.tables) core.store.views (contents_of store)
@@ -39,6 +40,8 @@ module _ {M : Type 0} (maps : M → ℕ → Map) where
     -- versions are kept above the machine's mark
     pub row_mark : core.store.row_versions.pruned ≡ store.mark
     pub delta_mark : core.store.delta_versions.pruned ≡ store.mark
+    -- what open transactions need stands ready
+    pub rooms : HasRooms (spare core.store.tables) (limit core.store.tables) core.store.catalog core.store.views core.book.opens core.locks core.wants
 
   -- the counts of steps, and what sessions were told
   pub record Counts (core : CoreState M) (s : State) : Type 0 where

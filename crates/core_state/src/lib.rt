@@ -4,9 +4,11 @@
 //! the crates above.
 #![tactic(auto)]
 
+mod limits;
 mod seat;
 mod state;
 mod stepping;
 
+pub use limits::{MOST_OF_HISTORY, MOST_OF_TRANSACTION, fits};
 pub use seat::{Cleaner, Seat, Seats};
 pub use state::CoreState;

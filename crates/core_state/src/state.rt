@@ -1,19 +1,21 @@
 //! The state of the core.
-ghost use Rattle.std.specs.Prelude.{◌≡◌, ◌<◌, ◌^◌, [], IfOk};
+ghost use Rattle.std.specs.Prelude.{◌≡◌, ◌<◌, ◌^◌, [], Some, IsSome, IfOk};
 ghost use Rattle.std.specs.FinMap.{empty};
 ghost use Rattle.txn_machine.specs.Log.{unlimited};
 ghost use Rattle.txn_machine.specs.State.{opened_state};
 ghost use Rattle.txn_machine.specs.Store.{opened};
 ghost use Rattle.data_store.specs.Contents.{no_contents};
 ghost use Rattle.data_store.specs.Held.{AreEmpty, IsHeld};
+ghost use Rattle.txn_book.specs.Opens.{open_at};
 ghost use Rattle.core_state.specs.Stands.{Stands};
 
 use crate::seat::{Cleaner, Seats};
 use data_store::DataStore;
 use iv_types::{NoMemory, SortedMaps};
+use lock_desk::PayWants;
 use lock_manager::LockTable;
 use std::alloc::Global;
-use txn_book::Book;
+use txn_book::{Book, Open};
 use txn_machine::steps::empty_law;
 
 /// The state of the core.
@@ -26,6 +28,8 @@ pub struct CoreState<M: SortedMaps> {
     pub book: Book,
     /// What sessions have locked, and what they wait for.
     pub locks: LockTable,
+    /// The locks that the pays of open transactions will ask for.
+    pub wants: PayWants,
     /// How many serial transactions began, which numbers them in the log.
     pub begun: u64,
     /// The number of the log's next record.
@@ -42,6 +46,7 @@ pub struct CoreState<M: SortedMaps> {
 // A store that has nothing, whose versions would be kept above this number.
 fn new_store<M: SortedMaps>(alloc: Global, maps: M, number: u64) -> Result<DataStore<M>, NoMemory>
     requires { AreEmpty (M.maps maps) }
+    ensures maps { IfOk result (λ store. store.tables ≡ maps) }
     ensures held { IfOk result (λ store. IsHeld store.catalog (M.maps store.tables) store.views no_contents) }
     ensures marks { IfOk result (λ store. (store.row_versions.pruned ≡ number) × (store.delta_versions.pruned ≡ number)) }
 {
@@ -52,15 +57,17 @@ fn new_store<M: SortedMaps>(alloc: Global, maps: M, number: u64) -> Result<DataS
 }
 
 impl<M: SortedMaps> CoreState<M> {
-    /// A core on a database that defines nothing, whose greatest commit number is this one, over maps without an entry.
+    /// A core on a database that defines nothing, whose greatest commit number is this one, over maps without an entry
+    /// and without a limit.
     ///
     /// # Errors
     ///
     /// Where there is no memory for it.
     pub fn new(alloc: Global, maps: M, number: u64) -> Result<Self, NoMemory>
         requires empty { AreEmpty (M.maps maps) }
+        requires unlimited { M.limit maps ≡ None }
         requires number { number < 2 ^ 63 }
-        ensures { IfOk result (λ core. Stands M.maps core (opened_state unlimited (opened (record { number = number; schema = []; rows = empty }) empty))) }
+        ensures { IfOk result (λ core. Stands M.maps M.spare M.limit core (opened_state unlimited (opened (record { number = number; schema = []; rows = empty }) empty))) }
     {
         empty_law();
         Ok(CoreState {
@@ -68,6 +75,7 @@ impl<M: SortedMaps> CoreState<M> {
             store: new_store(alloc, maps, number)?,
             book: Book::new(alloc, number)?,
             locks: LockTable::new(alloc)?,
+            wants: PayWants::new(alloc)?,
             begun: 0,
             next: 1,
             steps: 0,
@@ -80,5 +88,16 @@ impl<M: SortedMaps> CoreState<M> {
             },
             stop: None,
         })
+    }
+
+    /// The open transaction of a session that has one.
+    pub fn open_of(&self, session: u32) -> &Open
+        requires { IsSome (open_at self.now.book.opens session) }
+        ensures { open_at self.now.book.opens session ≡ Some result.now }
+    {
+        match self.book.get(session) {
+            Some(txn) => txn,
+            None => unreachable!(),
+        }
     }
 }

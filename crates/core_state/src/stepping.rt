@@ -38,10 +38,11 @@ impl<M: SortedMaps> CoreState<M> {
     /// Begins a step of a session, of a core that is not stopped: the session waits for nothing any more.
     pub fn open_step(&mut self, session: u32)
         requires { session ≤ MOST_SESSIONS }
-        ensures { (s : State) → Stands M.maps self.old s → s.stop ≡ None → Began M.maps self.new s session }
+        ensures { (s : State) → Stands M.maps M.spare M.limit self.old s → s.stop ≡ None → Began M.maps M.spare M.limit self.new s session }
     {
         if session > 0 {
-            let _wants = self.locks.cancel(session);
+            let wants = self.locks.cancel(session);
+            self.wants.put_back(session, wants);
         }
     }
 
@@ -51,7 +52,7 @@ impl<M: SortedMaps> CoreState<M> {
         requires steps { self.old.steps < 2 ^ 62 }
         requires few { (seat_at self.old.seats session).steps < 2 ^ 62 }
         requires removed { self.old.cleaner.removed < 2 ^ 62 }
-        ensures { (s : State) (a : Act) → May s session a → Told M.maps s session a (answer_of said.now) self.old → Moved M.maps s session a (answer_of said.now) self.new }
+        ensures { (s : State) (a : Act) → May s session a → Told M.maps M.spare M.limit s session a (answer_of said.now) self.old → Moved M.maps M.spare M.limit s session a (answer_of said.now) self.new }
     {
         self.steps += 1;
         let number = self.steps;
@@ -66,7 +67,7 @@ impl<M: SortedMaps> CoreState<M> {
     /// Answers a step of a core that is stopped: the session is told of it.
     pub fn tell_of_stop(&mut self, session: u32)
         requires { session ≤ MOST_SESSIONS }
-        ensures { (s : State) (stop : Stop) (a : Act) → May s session a → Stands M.maps self.old s → s.stop ≡ Some stop → Moved M.maps s session a (answer.Refused (refusal.Stopped stop.step)) self.new }
+        ensures { (s : State) (stop : Stop) (a : Act) → May s session a → Stands M.maps M.spare M.limit self.old s → s.stop ≡ Some stop → Moved M.maps M.spare M.limit s session a (answer.Refused (refusal.Stopped stop.step)) self.new }
     {
         self.seats.tell_of_stop(session);
     }

@@ -25,22 +25,22 @@ use Rattle.core_state.specs.declared.state.CoreState.{CoreState}
 max_above : (a b : ℕ) → a ≤ b → max a b ≡ b
 max_above a b le = omega (arith, le)
 
-module _ {M : Type 0} (maps : M → ℕ → Map) (core : CoreState M) (s : State) (h : Began maps core s 0) where
+module _ {M : Type 0} (maps : M → ℕ → Map) (spare : M → ℕ → ℕ) (limit : M → Option ℕ) (core : CoreState M) (s : State) (h : Began maps spare limit core s 0) where
   abbrev oldest : ℕ
   oldest = least_snapshot s.store.open_of 64 (committed s.store).number
 
-  in_book : books.least_snapshot core.book.opens 64 (number_of core.book) ≡ oldest
+  pub in_book : books.least_snapshot core.book.opens 64 (number_of core.book) ≡ oldest
   in_book =
       ap (books.least_snapshot core.book.opens 64) h.holds.book.number
       ∙ least_in_book (schema_of s.store) core.book.opens s.store.open_of s.log.logged h.holds.book.txns 64 (committed s.store).number (omega arith)
 
-  above_mark : s.store.mark ≤ oldest
+  pub above_mark : s.store.mark ≤ oldest
   above_mark = least_above s.store.open_of s.store.mark 64 (committed s.store).number (mark_reached s h.reached).marked
       (λ j low high o e snap. mark_law s h.reached j (record { of_session = (low, high); transaction = o; is_open = e }) snap)
 
   pub pruned_told : (rows : Chains (Option (List ℕ))) (deltas : Chains Delta) (least : ℕ) → least ≡ books.least_snapshot core.book.opens 64 (number_of core.book)
       → rows.pruned ≡ max core.store.row_versions.pruned least → deltas.pruned ≡ max core.store.delta_versions.pruned least
-      → Told maps s 0 act.Prune answer.Pruned (record core { store = record core.store { row_versions = rows; delta_versions = deltas } })
+      → Told maps spare limit s 0 act.Prune answer.Pruned (record core { store = record core.store { row_versions = rows; delta_versions = deltas } })
   pruned_told rows deltas least least_is rows_are deltas_are = record {
     reached = h.reached;
     opening = h.opening;
@@ -55,6 +55,7 @@ module _ {M : Type 0} (maps : M → ℕ → Map) (core : CoreState M) (s : State
       next = h.holds.next;
       row_mark = rows_are ∙ marked core.store.row_versions.pruned h.holds.row_mark;
       delta_mark = deltas_are ∙ marked core.store.delta_versions.pruned h.holds.delta_mark;
+      rooms = h.holds.rooms;
     };
     own = λ sessions e. absurd (cc);
     none = λ _ is. h.own is;
@@ -74,7 +75,7 @@ module _ {M : Type 0} (maps : M → ℕ → Map) (core : CoreState M) (s : State
       same_logged : with_one s.log.logged 0 (s.log.logged 0) ≡ s.log.logged
       same_logged = λ k j. as_logged j k
 
-  pub saved_told : (number : ℕ) → number ≡ number_of core.book → Told maps s 0 act.Checkpoint (answer.Saved number) core
+  pub saved_told : (number : ℕ) → number ≡ number_of core.book → Told maps spare limit s 0 act.Checkpoint (answer.Saved number) core
   saved_told number is = record {
     reached = h.reached;
     opening = h.opening;
@@ -89,6 +90,7 @@ module _ {M : Type 0} (maps : M → ℕ → Map) (core : CoreState M) (s : State
       next = h.holds.next;
       row_mark = h.holds.row_mark;
       delta_mark = h.holds.delta_mark;
+      rooms = h.holds.rooms;
     };
     own = λ sessions e. absurd (cc);
     none = λ _ is. h.own is;

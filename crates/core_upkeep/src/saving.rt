@@ -10,7 +10,7 @@ use txn_book::Answer;
 
 /// Answers the greatest commit number: a core without a disk has nothing to write.
 pub fn save<M: SortedMaps>(core: &CoreState<M>) -> Answer
-    ensures { (s : State) → Began M.maps core.now s 0 → Told M.maps s 0 act.Checkpoint (answer_of result) core.now }
+    ensures { (s : State) → Began M.maps M.spare M.limit core.now s 0 → Told M.maps M.spare M.limit s 0 act.Checkpoint (answer_of result) core.now }
 {
     core.book.book_law();
     Answer::Saved(core.book.number())

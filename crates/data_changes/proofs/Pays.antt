@@ -9,6 +9,8 @@ use Rattle.iv_types.specs.Maps.{Map}
 use Rattle.iv_types.specs.Definitions.{Definitions}
 use Rattle.iv_types.specs.declared.lock.GroupDelta.{GroupDelta}
 use Rattle.iv_types.specs.declared.lock.Prefix.{Prefix}
+use Rattle.iv_meaning.specs.Schema as schema
+use Rattle.iv_meaning.specs.Schema.{ViewTree}
 use Rattle.table_laws.specs.Place.{Place}
 use Rattle.table_laws.specs.Table.{write}
 use Rattle.txn_machine.specs.Deltas.{place_of, worth, columns_of, negated}
@@ -17,7 +19,7 @@ use Rattle.txn_machine.specs.Locks.{with_one}
 use Rattle.txn_machine.specs.Stored.{plus}
 use Rattle.txn_machine.proofs.Columns.{is_for_here, is_for_other}
 use Rattle.ghost_rows.specs.Numbers.{numbers_bytes, Fits128, step, moved}
-use Rattle.ghost_rows.specs.Kept.{Pays, with_pays, width, ArePrefixes}
+use Rattle.ghost_rows.specs.Kept.{Pays, StandsFor, with_pays, width, ArePrefixes}
 use Rattle.ghost_rows.specs.State.{State, stored_at, AreKept, Stores, StoresOnlyAt, OnlyAt}
 use Rattle.ghost_rows.specs.Ghosts.{StayListed}
 use Rattle.ghost_rows.proofs.NumberSteps.{numbers_same}
@@ -26,6 +28,7 @@ use Rattle.data_store.specs.Contents.{Contents, pays_on}
 use Rattle.data_store.specs.Held.{IsHeld}
 use Rattle.data_changes.specs.Effects.{keeping, with_pay, without_pay}
 use Rattle.data_changes.specs.Paying.{HasFor}
+use Rattle.ghost_rows.proofs.TableLemmas.{by_place}
 use Rattle.data_changes.proofs.Frames.{row_changed, pays_else}
 
 -- ---- kept pays
@@ -145,3 +148,24 @@ module _ (ds : Definitions) (maps : ℕ → Map) (state : State) (c : Contents) 
       taken_held new after session (λ none. let e : d ∷ pays_on (place_of d) ks ≡ [] = sym on_row ∙ kept_here.absent none session in absurd (cc)) others only listed ks latest
       (λ k. value (λ s. pays_on (place_of d) (c.kept s)) (pays_on (place_of d) ks) k on_row prefixes)
       (taken (λ s. pays_on (place_of d) (c.kept s)) (pays_on (place_of d) ks) kept_here on_row prefixes)
+
+-- where nothing but room in its row was made
+pub reserved_held : (ds : Definitions) (maps : ℕ → Map) (state after : State) (c : Contents) (d : GroupDelta) → HasFor ds maps state d c → OnlyAt (place_of d) state after → StayListed state maps after maps
+    → ((pays : Pays) → AreKept state maps (place_of d) (width d) pays → AreKept after maps (place_of d) (width d) pays) → IsHeld ds maps after c
+reserved_held ds maps state after c d has only listed keeps = record {
+  objects = has.held.objects;
+  tables = has.held.tables;
+  views = has.held.views;
+  in_range = has.held.in_range;
+  pays = λ n u at group. by_place (n, group) (place_of d)
+      (λ e.
+      let one : n ≡ d.view = ap (λ (q : Place). q.0) e in
+      let views : Some (schema.view has.of_view.of) ≡ Some (schema.view u) = sym has.of_view.is ∙ (ap (schema.numbered c.objects) (sym one) ∙ at) in
+      let same : has.of_view.of ≡ u = cc in
+      let wide : width d ≡ suc (length u.sums) = ap suc (has.of_view.sums ∙ ap (λ (v : ViewTree). length v.sums) same) in
+      subst (λ q. AreKept after maps q (suc (length u.sums)) (λ s. pays_on q (c.kept s))) (sym e)
+      (subst (λ w. AreKept after maps (place_of d) w (λ s. pays_on (place_of d) (c.kept s))) wide (keeps (λ s. pays_on (place_of d) (c.kept s)) (kept_here ds maps state c d has))))
+      (λ ne. subst (λ o. StandsFor o (stored_at maps (n, group)) (suc (length u.sums)) (λ s. pays_on (n, group) (c.kept s))) (sym (only (n, group) ne)) (has.held.pays n u at group));
+  ghosts = λ n u at group. listed (n, group) (has.held.ghosts n u at group);
+  unused = has.held.unused;
+}

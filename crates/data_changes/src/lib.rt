@@ -8,5 +8,5 @@ mod paying;
 mod putting;
 
 pub use ghosts::{make_ghost, remove_ghost, settle};
-pub use paying::{pay, take_back_pay};
+pub use paying::{pay, reserve_pay, take_back_pay};
 pub use putting::{put, take_back_put};

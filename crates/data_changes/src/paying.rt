@@ -14,7 +14,34 @@ ghost use Rattle.data_changes.specs.Paying.{HasFor, AreCommittedAt, IsRefusedWit
 
 use data_store::DataStore;
 use ghost_rows::PayRefusal;
-use iv_types::{GroupDelta, PrefixList, SortedMaps};
+use iv_types::{GroupDelta, NoMemory, PrefixList, SortedMaps};
+
+/// Makes all that pays of a delta by a session and their taking back need: its seat in the row, and buffers, so that it has that
+/// many at least.
+///
+/// # Errors
+///
+/// Where there is no memory for it. No kept pay and no room is lost then.
+pub fn reserve_pay<M: SortedMaps>(
+    store: &mut DataStore<M>,
+    session: u32,
+    delta: &GroupDelta,
+    room: usize,
+) -> Result<(), NoMemory>
+    requires session { IsSession session }
+    requires delta { IsDelta delta.now }
+    requires held { (c : Contents) × HasFor store.old.catalog (M.maps store.old.tables) store.old.views delta.now c }
+    ensures held { (c : Contents) → HasFor store.old.catalog (M.maps store.old.tables) store.old.views delta.now c → IsHeld store.new.catalog (M.maps store.new.tables) store.new.views c }
+    ensures seat { OnOk result (HasSeat store.new.views (place_of delta.now) session) }
+    ensures room { OnOk result (room ≤ room_of store.new.views session) }
+    ensures rooms { (s : ℕ) → room_of store.old.views s ≤ room_of store.new.views s }
+    ensures seats { (s : ℕ) (place : Place) → HasSeat store.old.views place s → HasSeat store.new.views place s }
+    ensures rest { store.new ≡ record store.old { views = store.new.views } }
+{
+    store
+        .views
+        .reserve(store.tables.maps(), delta, session, room)
+}
 
 /// Adds a delta to its stored row, as a kept pay of the session, and answers the session's prefixes on the row before it. The
 /// session has room for it. Takes no memory.

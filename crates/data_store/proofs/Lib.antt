@@ -1,4 +1,5 @@
 pub mod ShownRows
+pub mod ByIndex
 pub mod Listing
 pub mod Finding
 pub mod Noting
@@ -6,3 +7,11 @@ pub mod EntrySums
 pub mod Sizing
 pub mod Were
 pub mod PastEntries
+pub mod Merging
+pub mod Left
+pub mod RowsThen
+pub mod ViewsThen
+pub mod Peeked
+pub mod FoundThen
+pub mod NoVersions
+pub mod Laws

@@ -1,16 +1,12 @@
 -- The entries of a view and its stored rows.
-use Rattle.std.specs.Prelude.{◌≡◌, ◌≢◌, ℕ, suc, ◌==◌, ◌&&◌, ℤ, true, false, cond, T, List, [], ◌∷◌, ◌++◌, map, filter, length, Some}
+use Rattle.std.specs.Prelude.{◌≡◌, ℕ, suc, ◌==◌, ◌&&◌, ℤ, true, false, cond, T, List, [], ◌∷◌, ◌++◌, map, filter, length, Some}
 use Rattle.std.specs.Option.{option_map}
 use Rattle.std.specs.List.{AllByRecursion, AllZip}
 use Rattle.std.proofs.Common.{arith}
 use Rattle.std.proofs.lemmas.Bool.Decides.{nat_tests}
 use mathlib.Core.Path.{refl, sym, ap, subst, ◌∙◌}
-use Rattle.std.specs.FinMap.{get, entries, find, is_sorted, get-entries, entries_sorted, nat_cmp-IsAntisymmetric}
-use Rattle.std.specs.FinMap.Entries.{below_all, same_entries}
-use Rattle.std.specs.declared.cmp.Ordering.{Ordering}
-use Rattle.std.specs.declared.cmp.Ordering.TheVariants.{Less, Equal, Greater}
-use Rattle.std.specs.Ordering.{nat_cmp, eq_by_cmp, is_eq, is_lt, ordering_then}
-use Rattle.std.specs.Cmp.{tied_itself, nat_cmp_total}
+use Rattle.std.specs.FinMap.{get, entries, find, is_sorted, get-entries, entries_sorted}
+use Rattle.std.specs.FinMap.Entries.{same_entries}
 use Rattle.std.specs.Cmp.Lexicographic.{nat_list_cmp_total}
 use Rattle.iv_types.specs.declared.value.Kind.{Kind}
 use Rattle.iv_types.specs.declared.value.Interval.{Interval}
@@ -20,17 +16,16 @@ use Rattle.iv_types.specs.Maps.{Map, Entry}
 use Rattle.table_laws.specs.Place.{Place, place_cmp}
 use Rattle.table_laws.specs.Table.{rows_where}
 use Rattle.table_laws.proofs.Place.{place_cmp_total, place_cmp-IsAntisymmetric}
-use Rattle.table_laws.proofs.Tables.{other_key}
 use Rattle.iv_meaning.specs.Schema.{Schema, ViewTree, group_kinds}
 use Rattle.iv_meaning.specs.Database.{Row}
 use Rattle.table_store.specs.Stored.{between}
-use Rattle.table_store.proofs.Places.{first, second, both, first_below, rest_sorted}
 use Rattle.table_store.proofs.Maps.{by_bytes, bytes_same}
 use Rattle.table_store.proofs.Fresh.{Each, each_found, changed, changed_sorted, find_changed, filter_changed}
 use Rattle.txn_machine.specs.Stored.{ViewRows, first_numbers, IsShown, is_shown, Lists}
 use Rattle.ghost_rows.specs.Numbers.{numbers_bytes, Fits128}
 use Rattle.data_store.specs.Shown.{StoredRow, entries_of, stands, IsShownAs, Shows}
 use Rattle.data_store.proofs.ShownRows.{AllFit, one_stored}
+use Rattle.data_store.proofs.ByIndex.{index_sorted, find_index}
 
 abbrev ViewEntry : Type 0
 ViewEntry = Place × List ℤ
@@ -46,45 +41,11 @@ at_view n es = rows_where (λ place numbers. place.0 == n) es
 abbrev pub of_view : ℕ → List ViewEntry → List StoredRow
 of_view n es = map without_view (at_view n es)
 
-tie : (n k : ℕ) (r : Ordering) → n ≡ k → ordering_then (nat_cmp n k) r ≡ r
-tie n k r e = ap (λ x. ordering_then (nat_cmp n x) r) (sym e) ∙ ap (λ x. ordering_then x r) (tied_itself nat_cmp_total n)
-
-no_tie : (x r : Ordering) → is_eq x ≡ false → is_eq (ordering_then x r) ≡ false
-no_tie Less r e = refl
-no_tie Equal r e = cc
-no_tie Greater r e = refl
-
-below_view : (n : ℕ) (k : List ℕ) (es : List ViewEntry) → T (below_all place_cmp (n, k) es) → T (below_all by_bytes k (of_view n es))
-below_view n k [] h = tt
-below_view n k (e ∷ es) h = elim (e.0.0 == n) as (λ b. (e.0.0 == n) ≡ b → T (below_all by_bytes k (map without_view (cond b (e ∷ at_view n es) (at_view n es))))) [
-  | true ↦ λ is.
-      let number : e.0.0 ≡ n = grind (arith, nat_tests) in
-      both _ _ (subst (λ r. T (is_lt r)) (tie n e.0.0 (by_bytes k e.0.1) (sym number)) (first _ _ h)) (below_view n k es (second _ _ h))
-  | false ↦ λ is. below_view n k es (second _ _ h)
-] refl
-
 pub view_sorted : (n : ℕ) (es : List ViewEntry) → T (is_sorted place_cmp es) → T (is_sorted by_bytes (of_view n es))
-view_sorted n [] s = tt
-view_sorted n (e ∷ es) s = elim (e.0.0 == n) as (λ b. (e.0.0 == n) ≡ b → T (is_sorted by_bytes (map without_view (cond b (e ∷ at_view n es) (at_view n es))))) [
-  | true ↦ λ is.
-      let number : e.0.0 ≡ n = grind (arith, nat_tests) in
-      both _ _ (below_view n e.0.1 es (subst (λ (x : ℕ). T (below_all place_cmp (x, e.0.1) es)) number (first_below place_cmp e es s))) (view_sorted n es (rest_sorted place_cmp e es s))
-  | false ↦ λ is. view_sorted n es (rest_sorted place_cmp e es s)
-] refl
+view_sorted n es s = index_sorted n es s
 
 pub find_view : (n : ℕ) (q : List ℕ) (es : List ViewEntry) → find by_bytes q (of_view n es) ≡ find place_cmp (n, q) es
-find_view n q [] = refl
-find_view n q (e ∷ es) = elim (e.0.0 == n) as (λ b. (e.0.0 == n) ≡ b → find by_bytes q (map without_view (cond b (e ∷ at_view n es) (at_view n es))) ≡ find place_cmp (n, q) (e ∷ es)) [
-  | true ↦ λ is.
-      let number : e.0.0 ≡ n = grind (arith, nat_tests) in
-      let same : place_cmp (n, q) e.0 ≡ by_bytes q e.0.1 = tie n e.0.0 (by_bytes q e.0.1) (sym number) in
-      ap (λ r. cond (is_eq r) (Some e.1) (find by_bytes q (of_view n es))) (sym same)
-      ∙ ap (λ x. cond (eq_by_cmp place_cmp (n, q) e.0) (Some e.1) x) (find_view n q es)
-  | false ↦ λ is.
-      let apart : n ≢ e.0.0 = grind (arith, nat_tests) in
-      let other : is_eq (place_cmp (n, q) e.0) ≡ false = no_tie _ _ (other_key nat_cmp_total nat_cmp-IsAntisymmetric n e.0.0 apart) in
-      find_view n q es ∙ sym (ap (λ b. cond b (Some e.1) (find place_cmp (n, q) es)) other)
-] refl
+find_view n q es = find_index n q es
 
 -- the entries of the view's index are these rows
 pub encoded : (stored : ViewRows) (m : Map) (n : ℕ) → ((group : List ℕ) → get m group ≡ option_map numbers_bytes (get stored (n, group))) → entries m ≡ entries_of (of_view n (entries stored))

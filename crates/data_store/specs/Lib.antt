@@ -4,3 +4,6 @@ pub mod Shown
 pub mod Reading
 pub mod Past
 pub mod ViewPast
+pub mod Peeking
+pub mod Machine
+pub mod Laws

@@ -13,8 +13,8 @@ use table_store::{row_of, table_of};
 impl<M: SortedMaps> DataStore<M> {
     ghost use Rattle.data_store.specs.Past.{committed_value, value_at, WereRows};
 
-    // The committed value under a key of an index.
-    fn committed(&self, index: u32, key: &[u8]) -> Option<&[u8]>
+    /// The committed value under a key of an index, if there is one.
+    pub fn committed(&self, index: u32, key: &[u8]) -> Option<&[u8]>
         ensures { option_copied result ≡ committed_value self.now.pending.entries (M.maps self.now.tables) (index, key.now) }
     {
         match self.pending.get(index, key) {
@@ -26,8 +26,13 @@ impl<M: SortedMaps> DataStore<M> {
         }
     }
 
-    // The value under a key of an index at a commit number.
-    fn value_at(&self, number: u64, index: u32, key: &[u8]) -> Result<Option<Bytes>, NoMemory>
+    /// The value under a key of an index at a commit number.
+    pub(crate) fn value_at(
+        &self,
+        number: u64,
+        index: u32,
+        key: &[u8],
+    ) -> Result<Option<Bytes>, NoMemory>
         requires { self.now.row_versions.pruned ≤ number }
         ensures { IfOk result (λ found. found ≡ value_at number self.now.row_versions.versions self.now.pending.entries (M.maps self.now.tables) (index, key.now)) }
     {

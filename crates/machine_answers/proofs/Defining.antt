@@ -22,7 +22,7 @@ use Rattle.query_laws.proofs.SoundLemmas.{neither}
 use Rattle.txn_machine.specs.Acts as act
 use Rattle.txn_machine.specs.Answers as answer
 use Rattle.txn_machine.specs.Store.{Store, committed, schema_of, Defines}
-use Rattle.txn_machine.specs.Counts.{entry_size, definition_size, most_of_history}
+use Rattle.txn_machine.specs.Counts.{entry_size, definition_size, most_of_history, told_need}
 use Rattle.txn_machine.specs.Log.{Within, Above, reserved, definition_need}
 use Rattle.txn_machine.specs.State.{State}
 use Rattle.txn_machine.specs.May.{IsCreate}
@@ -109,7 +109,7 @@ module _ (s : State) (session : ℕ) (statement : StatementTree) where
       says = record { object = object; makes = makes; none_open = none; accepted = accepted; log_room = log_room; data_room = data_room; room = fits; number_is = refl; effects = refl };
     }
     in_history log_room data_room (inr full) = record {
-      said = answer.Refused (refusal.HistoryFull (history_bytes s) (entry_size + definition_size statement));
+      said = answer.Refused (refusal.HistoryFull (history_bytes s) (told_need (entry_size + definition_size statement)));
       effects = [];
       of_state = tt;
       says = (record { object = object; makes = makes; none_open = none; accepted = accepted; log_room = log_room; data_room = data_room; need_is = refl; full = record { kept_is = refl; full = full } }, refl);
@@ -119,7 +119,7 @@ module _ (s : State) (session : ℕ) (statement : StatementTree) where
         → Within s.opening.data_limit (used_data s + made_need s.store statement object) ⊎ Above s.opening.data_limit (used_data s + made_need s.store statement object) → HasAnswer s session (act.Schema statement)
     in_data log_room (inl fits) = in_history log_room fits (at_most_or_more (history_bytes s + (entry_size + definition_size statement)) most_of_history)
     in_data log_room (inr full) = record {
-      said = answer.Refused (refusal.DataFull (used_data s) (made_need s.store statement object));
+      said = answer.Refused (refusal.DataFull (used_data s) (told_need (made_need s.store statement object)));
       effects = [];
       of_state = tt;
       says = (record { object = object; makes = makes; none_open = none; accepted = accepted; log_room = log_room; need_is = refl; full = record { used_is = refl; full = full } }, refl);
@@ -129,7 +129,7 @@ module _ (s : State) (session : ℕ) (statement : StatementTree) where
     in_log = elim (within_or_above s.opening.log_limit (s.log.used + reserved s.store s.log + definition_need statement)) [
       | inl fits ↦ in_data fits (within_or_above s.opening.data_limit (used_data s + made_need s.store statement object))
       | inr full ↦ record {
-        said = answer.Refused (refusal.LogFull s.log.used (reserved s.store s.log) (definition_need statement));
+        said = answer.Refused (refusal.LogFull s.log.used (reserved s.store s.log) (told_need (definition_need statement)));
         effects = [];
         of_state = tt;
         says = (record { object = object; makes = makes; none_open = none; accepted = accepted; need_is = refl; full = record { used_is = refl; reserved_is = refl; full = full } }, refl);

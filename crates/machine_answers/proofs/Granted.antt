@@ -18,7 +18,7 @@ use Rattle.txn_machine.specs.Deltas.{RowChange, columns_of, place_of, worth}
 use Rattle.txn_machine.specs.Keeping.{Open}
 use Rattle.txn_machine.specs.Store.{schema_of, now, change_at, Takes, Notes, Writes, Pays}
 use Rattle.txn_machine.specs.Ghosts.{account_of}
-use Rattle.txn_machine.specs.Counts.{fetch_size, transaction_size, most_of_transaction, kept_change_size, most_of_history}
+use Rattle.txn_machine.specs.Counts.{fetch_size, transaction_size, most_of_transaction, kept_change_size, most_of_history, told_need}
 use Rattle.txn_machine.specs.Log.{Within, Above, reserved}
 use Rattle.txn_machine.specs.State.{State}
 use Rattle.txn_machine.specs.May.{Owes}
@@ -53,7 +53,7 @@ module _ (s : State) (session : ℕ) where
         says = record { free = free; found = found; room = fits; effects = refl };
       }
       by (inr full) = record {
-        said = answer.Refused (refusal.TxnFull kept need);
+        said = answer.Refused (refusal.TxnFull kept (told_need need));
         effects = [];
         of_state = tt;
         says = (record { free = free; rows = rows; found = found; need_is = refl; full = record { kept_is = refl; full = full } }, refl);
@@ -75,7 +75,7 @@ module _ (s : State) (session : ℕ) where
       says = record { free = free; room = room; log_room = log_room; data_room = data_room; history_room = fits; before_is = refl; owed_is = refl; effects = refl };
     }
     in_history room log_room data_room (inr full) = record {
-      said = answer.Refused (refusal.HistoryFull (history_bytes s) (kept_change_size (schema_of s.store) change));
+      said = answer.Refused (refusal.HistoryFull (history_bytes s) (told_need (kept_change_size (schema_of s.store) change)));
       effects = [];
       of_state = tt;
       says = (record { free = free; room = room; log_room = log_room; data_room = data_room; need_is = refl; full = record { kept_is = refl; full = full } }, refl);
@@ -86,7 +86,7 @@ module _ (s : State) (session : ℕ) where
         → HasAnswer s session (act.Put number key new)
     in_data room log_room (inl fits) = in_history room log_room fits (at_most_or_more (history_bytes s + kept_change_size (schema_of s.store) change) most_of_history)
     in_data room log_room (inr full) = record {
-      said = answer.Refused (refusal.DataFull (used_data s) (data_need s.store change));
+      said = answer.Refused (refusal.DataFull (used_data s) (told_need (data_need s.store change)));
       effects = [];
       of_state = tt;
       says = (record { free = free; room = room; log_room = log_room; need_is = refl; full = record { used_is = refl; full = full } }, refl);
@@ -97,7 +97,7 @@ module _ (s : State) (session : ℕ) where
         → HasAnswer s session (act.Put number key new)
     in_log room (inl fits) = in_data room fits (within_or_above s.opening.data_limit (used_data s + data_need s.store change))
     in_log room (inr full) = record {
-      said = answer.Refused (refusal.LogFull s.log.used (reserved s.store s.log) (log_need s.store change));
+      said = answer.Refused (refusal.LogFull s.log.used (reserved s.store s.log) (told_need (log_need s.store change)));
       effects = [];
       of_state = tt;
       says = (record { free = free; room = room; need_is = refl; full = record { used_is = refl; reserved_is = refl; full = full } }, refl);
@@ -107,7 +107,7 @@ module _ (s : State) (session : ℕ) where
     puts = elim (at_most_or_more (transaction_size (schema_of s.store) (now s.store session) + put_need s.store change) most_of_transaction) [
       | inl fits ↦ in_log fits (within_or_above s.opening.log_limit (s.log.used + reserved s.store s.log + log_need s.store change))
       | inr full ↦ record {
-        said = answer.Refused (refusal.TxnFull (transaction_size (schema_of s.store) (now s.store session)) (put_need s.store change));
+        said = answer.Refused (refusal.TxnFull (transaction_size (schema_of s.store) (now s.store session)) (told_need (put_need s.store change)));
         effects = [];
         of_state = tt;
         says = (record { free = free; need_is = refl; full = record { kept_is = refl; full = full } }, refl);

@@ -14,7 +14,7 @@ use Rattle.txn_machine.specs.Answers as answer
 use Rattle.txn_machine.specs.Answers.{Answer}
 use Rattle.txn_machine.specs.Keeping.{Open}
 use Rattle.txn_machine.specs.Store.{committed, schema_of, Effect, Defines}
-use Rattle.txn_machine.specs.Counts.{entry_size, definition_size, most_of_history}
+use Rattle.txn_machine.specs.Counts.{entry_size, definition_size, most_of_history, told_need}
 use Rattle.txn_machine.specs.Log.{Above, reserved, definition_need}
 use Rattle.txn_machine.specs.State.{State}
 use Rattle.txn_machine.specs.Steps.{Says, FitsLog, FitsData, FitsHistory, history_bytes, used_data, NoneIsOpen, IsBusy, Makes, made_need, unbound, refused}
@@ -49,10 +49,10 @@ module _ (s : State) (session : ℕ) (statement : StatementTree) where
   IsDefining (suc zero) said es = (busy : ℕ) × IsBusy s.store busy × Both (answer.Refused (refusal.SchemaBusy busy)) [] said es
   IsDefining (suc (suc zero)) said es =
       (o : Object) × Makes s.store statement o × (why : Refusal) × (bound_meaning (create o) (committed s.store) ≡ Refused why) × Both (answer.Denied why) [] said es
-  IsDefining (suc (suc (suc zero))) said es = Both (answer.Refused (refusal.LogFull s.log.used (reserved s.store s.log) (definition_need statement))) [] said es
+  IsDefining (suc (suc (suc zero))) said es = Both (answer.Refused (refusal.LogFull s.log.used (reserved s.store s.log) (told_need (definition_need statement)))) [] said es
   IsDefining (suc (suc (suc (suc zero)))) said es =
-      (o : Object) × Makes s.store statement o × Both (answer.Refused (refusal.DataFull (used_data s) (made_need s.store statement o))) [] said es
-  IsDefining (suc (suc (suc (suc (suc zero))))) said es = Both (answer.Refused (refusal.HistoryFull (history_bytes s) (entry_size + definition_size statement))) [] said es
+      (o : Object) × Makes s.store statement o × Both (answer.Refused (refusal.DataFull (used_data s) (told_need (made_need s.store statement o)))) [] said es
+  IsDefining (suc (suc (suc (suc (suc zero))))) said es = Both (answer.Refused (refusal.HistoryFull (history_bytes s) (told_need (entry_size + definition_size statement)))) [] said es
   IsDefining (suc (suc (suc (suc (suc (suc n)))))) said es =
       (o : Object) × Makes s.store statement o × Both (answer.Committed ((committed s.store).number + 1)) (Defines o ∷ []) said es
 
@@ -102,7 +102,7 @@ module _ (s : State) (session : ℕ) (statement : StatementTree) where
         number = 3;
         most = omega arith;
         passed = (((tt, (create h.0.object, h.0.makes.bound)), h.0.none_open), (h.0.object, h.0.makes, h.0.accepted));
-        failed = λ less fits. not_both s.opening.log_limit _ fits (subst (λ n. Above s.opening.log_limit n) (λ i. f.used_is i + f.reserved_is i + h.0.need_is i) f.full);
+        failed = λ less fits. not_both s.opening.log_limit _ fits (subst (λ n. Above s.opening.log_limit n) (λ i. f.used_is i + f.reserved_is i + definition_need statement) f.full);
         is = ((λ i. answer.Refused (refusal.LogFull (f.used_is i) (f.reserved_is i) (h.0.need_is i))), h.1);
       }
   defining_says (answer.Refused (refusal.DataFull used need)) es of h =
@@ -111,7 +111,7 @@ module _ (s : State) (session : ℕ) (statement : StatementTree) where
         most = omega arith;
         passed = ((((tt, (create h.0.object, h.0.makes.bound)), h.0.none_open), (h.0.object, h.0.makes, h.0.accepted)), h.0.log_room);
         failed = λ less fits. not_both s.opening.data_limit _ (subst (λ o. FitsData s (made_need s.store statement o)) (same_object fits.0 h.0.object fits.1 h.0.makes) fits.2)
-            (subst (λ n. Above s.opening.data_limit n) (λ i. f.used_is i + h.0.need_is i) f.full);
+            (subst (λ n. Above s.opening.data_limit n) (λ i. f.used_is i + made_need s.store statement h.0.object) f.full);
         is = (h.0.object, h.0.makes, ((λ i. answer.Refused (refusal.DataFull (f.used_is i) (h.0.need_is i))), h.1));
       }
   defining_says (answer.Refused (refusal.HistoryFull kept need)) es of h =
@@ -120,10 +120,9 @@ module _ (s : State) (session : ℕ) (statement : StatementTree) where
         most = omega arith;
         passed = (((((tt, (create h.0.object, h.0.makes.bound)), h.0.none_open), (h.0.object, h.0.makes, h.0.accepted)), h.0.log_room), (h.0.object, h.0.makes, h.0.data_room));
         failed = λ less fits.
-            let full : most_of_history < kept + need = f.full in
+            let full : most_of_history < kept + (entry_size + definition_size statement) = f.full in
             let kept_is : kept ≡ history_bytes s = f.kept_is in
-            let need_is : need ≡ entry_size + definition_size statement = h.0.need_is in
-            omega (arith, fits, full, kept_is, need_is);
+            omega (arith, fits, full, kept_is);
         is = ((λ i. answer.Refused (refusal.HistoryFull (f.kept_is i) (h.0.need_is i))), h.1);
       }
   defining_says (answer.Committed number) es of h = record {
@@ -144,6 +143,6 @@ module _ (s : State) (session : ℕ) (statement : StatementTree) where
       (h.4.0 ∙ ap answer.Denied (same_refused h.2 k.2 why) ∙ sym k.4.0, h.4.1 ∙ sym k.4.1)
   is_defining (suc (suc (suc zero))) one other es fs h k = both_same _ _ one other es fs h k
   is_defining (suc (suc (suc (suc zero)))) one other es fs h k =
-      (h.2.0 ∙ ap (λ o. answer.Refused (refusal.DataFull (used_data s) (made_need s.store statement o))) (same_object h.0 k.0 h.1 k.1) ∙ sym k.2.0, h.2.1 ∙ sym k.2.1)
+      (h.2.0 ∙ ap (λ o. answer.Refused (refusal.DataFull (used_data s) (told_need (made_need s.store statement o)))) (same_object h.0 k.0 h.1 k.1) ∙ sym k.2.0, h.2.1 ∙ sym k.2.1)
   is_defining (suc (suc (suc (suc (suc zero))))) one other es fs h k = both_same _ _ one other es fs h k
   is_defining (suc (suc (suc (suc (suc (suc n)))))) one other es fs h k = (h.2.0 ∙ sym k.2.0, h.2.1 ∙ (λ i. Defines (same_object h.0 k.0 h.1 k.1 i) ∷ []) ∙ sym k.2.1)

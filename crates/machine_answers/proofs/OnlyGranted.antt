@@ -22,7 +22,7 @@ use Rattle.txn_machine.specs.Deltas.{RowChange, place_of}
 use Rattle.txn_machine.specs.Stored.{ViewRows, IsShown, first_numbers}
 use Rattle.txn_machine.specs.Store.{schema_of, now, change_at, Effect, Takes, Notes, Writes, Pays}
 use Rattle.txn_machine.specs.Ghosts.{account_of}
-use Rattle.txn_machine.specs.Counts.{fetch_size, transaction_size, most_of_transaction, kept_change_size, most_of_history}
+use Rattle.txn_machine.specs.Counts.{fetch_size, transaction_size, most_of_transaction, kept_change_size, most_of_history, told_need}
 use Rattle.txn_machine.specs.Log.{Above, reserved}
 use Rattle.txn_machine.specs.State.{State}
 use Rattle.txn_machine.specs.Steps.{Says, asked, stored, FindsIn, Finds, FitsTransaction, FitsLog, FitsData, FitsHistory, note_of, put_owed, put_need, log_need, data_need, used_data, history_bytes, AllAllow, IsRefusedBy}
@@ -66,7 +66,7 @@ module _ (s : State) (session : ℕ) where
     FetchTest n = (rows : List Row) × Finds s.store number interval rows × FitsTransaction s.store session (need_of rows)
 
     abbrev pub IsFetch : ℕ → Answer → List Effect → Type 0
-    IsFetch zero said es = (rows : List Row) × Finds s.store number interval rows × Both (answer.Refused (refusal.TxnFull (transaction_size (schema_of s.store) (now s.store session)) (need_of rows))) [] said es
+    IsFetch zero said es = (rows : List Row) × Finds s.store number interval rows × Both (answer.Refused (refusal.TxnFull (transaction_size (schema_of s.store) (now s.store session)) (told_need (need_of rows)))) [] said es
     IsFetch (suc n) said es = (rows : List Row) × Finds s.store number interval rows
         × Both (answer.Rows rows) (Takes (asked s.store session (act.Fetch number interval mode)) ∷ Notes (note_of s.store session number interval rows) ∷ []) said es
 
@@ -88,8 +88,8 @@ module _ (s : State) (session : ℕ) where
           passed = tt;
           failed = λ less t.
               let kept_is : kept ≡ transaction_size (schema_of s.store) (now s.store session) = f.kept_is in
-              let need_is : need ≡ need_of t.0 = h.0.need_is ∙ ap need_of (one_found h.0.rows t.0 h.0.found t.1) in
-              let full : most_of_transaction < kept + need = f.full in
+              let need_is : need_of h.0.rows ≡ need_of t.0 = ap need_of (one_found h.0.rows t.0 h.0.found t.1) in
+              let full : most_of_transaction < kept + need_of h.0.rows = f.full in
               let fits : transaction_size (schema_of s.store) (now s.store session) + need_of t.0 ≤ most_of_transaction = t.2 in
               omega (arith, kept_is, need_is, full, fits);
           is = (h.0.rows, h.0.found, ((λ i. answer.Refused (refusal.TxnFull (f.kept_is i) (h.0.need_is i))), h.1));
@@ -99,7 +99,7 @@ module _ (s : State) (session : ℕ) where
     pub is_fetch : (n : ℕ) (one other : Answer) (es fs : List Effect) → IsFetch n one es → IsFetch n other fs → (one ≡ other) × (es ≡ fs)
     is_fetch zero one other es fs h k =
         let same : h.0 ≡ k.0 = one_found h.0 k.0 h.1 k.1 in
-        (h.2.0 ∙ (ap (λ (rows : List Row). answer.Refused (refusal.TxnFull (transaction_size (schema_of s.store) (now s.store session)) (need_of rows))) same ∙ sym k.2.0), h.2.1 ∙ sym k.2.1)
+        (h.2.0 ∙ (ap (λ (rows : List Row). answer.Refused (refusal.TxnFull (transaction_size (schema_of s.store) (now s.store session)) (told_need (need_of rows)))) same ∙ sym k.2.0), h.2.1 ∙ sym k.2.1)
     is_fetch (suc n) one other es fs h k =
         let same : h.0 ≡ k.0 = one_found h.0 k.0 h.1 k.1 in (
           h.2.0 ∙ (ap answer.Rows same ∙ sym k.2.0),
@@ -119,10 +119,10 @@ module _ (s : State) (session : ℕ) where
     PutTest (suc (suc (suc n))) = FitsHistory s (kept_change_size (schema_of s.store) change)
 
     abbrev pub IsPut : ℕ → Answer → List Effect → Type 0
-    IsPut zero said es = Both (answer.Refused (refusal.TxnFull (transaction_size (schema_of s.store) (now s.store session)) (put_need s.store change))) [] said es
-    IsPut (suc zero) said es = Both (answer.Refused (refusal.LogFull s.log.used (reserved s.store s.log) (log_need s.store change))) [] said es
-    IsPut (suc (suc zero)) said es = Both (answer.Refused (refusal.DataFull (used_data s) (data_need s.store change))) [] said es
-    IsPut (suc (suc (suc zero))) said es = Both (answer.Refused (refusal.HistoryFull (history_bytes s) (kept_change_size (schema_of s.store) change))) [] said es
+    IsPut zero said es = Both (answer.Refused (refusal.TxnFull (transaction_size (schema_of s.store) (now s.store session)) (told_need (put_need s.store change)))) [] said es
+    IsPut (suc zero) said es = Both (answer.Refused (refusal.LogFull s.log.used (reserved s.store s.log) (told_need (log_need s.store change)))) [] said es
+    IsPut (suc (suc zero)) said es = Both (answer.Refused (refusal.DataFull (used_data s) (told_need (data_need s.store change)))) [] said es
+    IsPut (suc (suc (suc zero))) said es = Both (answer.Refused (refusal.HistoryFull (history_bytes s) (told_need (kept_change_size (schema_of s.store) change)))) [] said es
     IsPut (suc (suc (suc (suc n)))) said es =
         Both (answer.Changed change.before (put_owed s.store change)) (Takes (asked s.store session (act.Put number key new)) ∷ Writes change.key change.after ∷ []) said es
 
@@ -144,9 +144,8 @@ module _ (s : State) (session : ℕ) where
           passed = tt;
           failed = λ less fits.
               let kept_is : kept ≡ transaction_size (schema_of s.store) (now s.store session) = f.kept_is in
-              let need_is : need ≡ put_need s.store change = h.0.need_is in
-              let full : most_of_transaction < kept + need = f.full in
-              omega (arith, kept_is, need_is, full, fits);
+              let full : most_of_transaction < kept + put_need s.store change = f.full in
+              omega (arith, kept_is, full, fits);
           is = ((λ i. answer.Refused (refusal.TxnFull (f.kept_is i) (h.0.need_is i))), h.1);
         }
     put_says (answer.Refused (refusal.LogFull used reserved_bytes need)) es of h =
@@ -154,7 +153,7 @@ module _ (s : State) (session : ℕ) where
           number = 1;
           most = omega arith;
           passed = (tt, h.0.room);
-          failed = λ less fits. not_both s.opening.log_limit _ fits (subst (λ n. Above s.opening.log_limit n) (λ i. f.used_is i + f.reserved_is i + h.0.need_is i) f.full);
+          failed = λ less fits. not_both s.opening.log_limit _ fits (subst (λ n. Above s.opening.log_limit n) (λ i. f.used_is i + f.reserved_is i + log_need s.store change) f.full);
           is = ((λ i. answer.Refused (refusal.LogFull (f.used_is i) (f.reserved_is i) (h.0.need_is i))), h.1);
         }
     put_says (answer.Refused (refusal.DataFull used need)) es of h =
@@ -162,7 +161,7 @@ module _ (s : State) (session : ℕ) where
           number = 2;
           most = omega arith;
           passed = ((tt, h.0.room), h.0.log_room);
-          failed = λ less fits. not_both s.opening.data_limit _ fits (subst (λ n. Above s.opening.data_limit n) (λ i. f.used_is i + h.0.need_is i) f.full);
+          failed = λ less fits. not_both s.opening.data_limit _ fits (subst (λ n. Above s.opening.data_limit n) (λ i. f.used_is i + data_need s.store change) f.full);
           is = ((λ i. answer.Refused (refusal.DataFull (f.used_is i) (h.0.need_is i))), h.1);
         }
     put_says (answer.Refused (refusal.HistoryFull kept need)) es of h =
@@ -171,10 +170,9 @@ module _ (s : State) (session : ℕ) where
           most = omega arith;
           passed = (((tt, h.0.room), h.0.log_room), h.0.data_room);
           failed = λ less fits.
-              let full : most_of_history < kept + need = f.full in
+              let full : most_of_history < kept + kept_change_size (schema_of s.store) change = f.full in
               let kept_is : kept ≡ history_bytes s = f.kept_is in
-              let need_is : need ≡ kept_change_size (schema_of s.store) change = h.0.need_is in
-              omega (arith, fits, full, kept_is, need_is);
+              omega (arith, fits, full, kept_is);
           is = ((λ i. answer.Refused (refusal.HistoryFull (f.kept_is i) (h.0.need_is i))), h.1);
         }
     put_says _ es of h = absurd h

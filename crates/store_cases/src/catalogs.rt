@@ -37,7 +37,7 @@ fn columns(alloc: Global, text: &str) -> anyhow::Result<ColumnList> {
 pub fn places(alloc: Global, text: &str) -> anyhow::Result<Places> {
     let mut places = Places::new(alloc);
     for place in text.split(' ') {
-        places.push(place.parse::<u32>()?)?;
+        places.push(place.parse::<usize>()?)?;
     }
     Ok(places)
 }

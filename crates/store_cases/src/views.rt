@@ -13,7 +13,7 @@ fn column(text: &str) -> anyhow::Result<ColumnAt> {
     if let Some(column) = read_column(text) {
         return Ok(column);
     }
-    let column = text.parse::<u32>()?;
+    let column = text.parse::<usize>()?;
     Ok(ColumnAt { source: 0, column })
 }
 
@@ -45,7 +45,7 @@ fn condition(alloc: Global, text: &str) -> anyhow::Result<Option<Expr>> {
 fn places(alloc: Global, text: &str) -> anyhow::Result<Places> {
     let mut places = Places::new(alloc);
     for part in text.split(',') {
-        places.push(part.parse::<u32>()?)?;
+        places.push(part.parse::<usize>()?)?;
     }
     Ok(places)
 }

@@ -1,9 +1,9 @@
 -- Keys of rows in the indexes of their table: rows with one key there have one primary key.
-use Rattle.std.specs.Prelude.{◌≡◌, ℕ, zero, suc, ◌<◌, List, [], ◌∷◌, ◌++◌, length, take, drop, slice_get, Option, Some, None}
+use Rattle.std.specs.Prelude.{◌≡◌, ℕ, suc, List, [], ◌∷◌, ◌++◌, length, drop, slice_get, Option, Some, None}
 use Rattle.std.specs.List.{cons_option}
 use Rattle.std.proofs.lemmas.List.Elements.{filter_map-append}
 use Rattle.std.proofs.Math.Seq.{drop-append_seam}
-use Rattle.std.proofs.Common.{arith, append_assoc}
+use Rattle.std.proofs.Common.{append_assoc}
 use Rattle.std.proofs.lemmas.List.{append-nil}
 use mathlib.Core.Path.{refl, sym, ap, subst, ◌∙◌}
 use Rattle.iv_types.specs.declared.value.Kind.{Kind}
@@ -17,7 +17,6 @@ use Rattle.iv_meaning.specs.Database.{key_of}
 use Rattle.iv_meaning.specs.View.{index_key}
 use Rattle.row_codec.specs.Laws.{OneSpelling}
 use Rattle.table_store.specs.Stored.{key_at}
-use Rattle.table_store.proofs.Rows.{some_same}
 
 same_some : {A : Type 0} (x y : A) → Some x ≡ Some y → x ≡ y
 same_some x y e = cc
@@ -97,26 +96,19 @@ key_append t (x ∷ xs) ys row f =
     ∙ (ap (λ (l : List ℕ). key_at t (x ∷ []) row ++ l) (key_append t xs ys row f)
     ∙ (sym (append_assoc (key_at t (x ∷ []) row) (key_at t xs row) (key_at t ys row)) ∙ ap (λ (l : List ℕ). l ++ key_at t ys row) (sym (key_next t x xs row f))))
 
-there_within : {X Y : Type 0} (ks : List X) (vs : List Y) (place : ℕ) (k : X) → length vs ≡ length ks → slice_get ks place ≡ Some k → place < length vs
-there_within [] vs place k e is = absurd (cc)
-there_within (x ∷ ks) [] place k e is = absurd (omega (arith, e))
-there_within (x ∷ ks) (v ∷ vs) zero k e is = omega arith
-there_within (x ∷ ks) (v ∷ vs) (suc place) k e is = omega (arith, there_within ks vs place k (omega (arith, e)) is)
+-- ---- a place with a column of a kind, and the row's value there
 
--- a place with a column is one of the row's
-pub place_within : (t : TableDef) (place : ℕ) (row : List Value) (k : Kind) → FitAll (kinds_of t) row → slice_get (kinds_of t) place ≡ Some k → place < length row
-place_within t place row k f is = there_within (kinds_of t) row place k (same_length (kinds_of t) row f) is
+pub value_fits : (t : TableDef) (place : ℕ) (row : List Value) (k : Kind) (v : Value) → FitAll (kinds_of t) row → Some k ≡ slice_get (kinds_of t) place → Some v ≡ slice_get row place → FitAll (k ∷ []) (v ∷ [])
+value_fits t place row k v f is at =
+    subst (λ (y : Option Value). FitAll (k ∷ []) (cons_option y [])) (sym at)
+    (subst (λ (x : Option Kind). FitAll (cons_option x []) (cons_option (slice_get row place) [])) (sym is) (items_fit (kinds_of t) row (place ∷ []) f))
 
-one_here : (ks : List Kind) (vs : List Value) (place : ℕ) (k : Kind) → FitAll ks vs → slice_get ks place ≡ Some k
-    → FitAll (k ∷ []) (take 1 (drop place vs)) × (cons_option (slice_get vs place) [] ≡ take 1 (drop place vs))
-one_here [] vs place k f is = absurd (cc)
-one_here (x ∷ ks) [] place k f is = absurd f
-one_here (x ∷ ks) (v ∷ vs) zero k f is = let P : Kind → Type 0 = λ y. Fits y v in ((subst P (some_same x k is) f.0, tt), refl)
-one_here (x ∷ ks) (v ∷ vs) (suc place) k f is = one_here ks vs place k f.1 is
+pub value_key : (t : TableDef) (place : ℕ) (row : List Value) (k : Kind) (v : Value) → Some k ≡ slice_get (kinds_of t) place → Some v ≡ slice_get row place → key_bytes (k ∷ []) (v ∷ []) ≡ key_at t (place ∷ []) row
+value_key t place row k v is at =
+    ap (λ (y : Option Value). key_bytes (k ∷ []) (cons_option y [])) at
+    ∙ ap (λ (x : Option Kind). key_bytes (cons_option x []) (cons_option (slice_get row place) [])) is
 
--- the part of the row at the place, as a key of one column
-pub one_column : (t : TableDef) (place : ℕ) (row : List Value) (k : Kind) → FitAll (kinds_of t) row → slice_get (kinds_of t) place ≡ Some k
-    → FitAll (k ∷ []) (take 1 (drop place row)) × (key_bytes (k ∷ []) (take 1 (drop place row)) ≡ key_at t (place ∷ []) row)
-one_column t place row k f is =
-    let o = one_here (kinds_of t) row place k f is in
-    (o.0, ap (key_bytes (k ∷ [])) (sym o.1) ∙ ap (λ (y : Option Kind). key_bytes (cons_option y []) (cons_option (slice_get row place) [])) (sym is))
+pub no_value : (t : TableDef) (place : ℕ) (row : List Value) (k : Kind) → Some k ≡ slice_get (kinds_of t) place → None ≡ slice_get row place → key_at t (place ∷ []) row ≡ []
+no_value t place row k is at =
+    ap (λ (x : Option Kind). key_bytes (cons_option x []) (cons_option (slice_get row place) [])) (sym is)
+    ∙ ap (λ (y : Option Value). key_bytes (k ∷ []) (cons_option y [])) (sym at)

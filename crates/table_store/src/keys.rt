@@ -9,17 +9,17 @@ use iv_types::{Kind, TableDef};
 use row_codec::after_column;
 
 // The kind of the column of this place of the table, if it has one.
-pub fn kind_at(table: &TableDef, place: u32) -> Option<Kind>
+pub fn kind_at(table: &TableDef, place: usize) -> Option<Kind>
     ensures { result ≡ slice_get (kinds_of table.now) place }
 {
-    match table.columns.as_slice().get(place as usize) {
+    match table.columns.as_slice().get(place) {
         Some(column) => Some(column.kind),
         None => None,
     }
 }
 
 // The bytes of a key behind the column of this place of the table, if it has one.
-fn after_place<'a>(table: &TableDef, place: u32, key: &'a [u8]) -> &'a [u8]
+fn after_place<'a>(table: &TableDef, place: usize, key: &'a [u8]) -> &'a [u8]
     ensures { (row : List Value) (places : List ℕ) → FitAll (kinds_of table.now) row → key.now ≡ key_at table.now (place ∷ places) row → result.now ≡ key_at table.now places row }
 {
     match kind_at(table, place) {
@@ -29,7 +29,7 @@ fn after_place<'a>(table: &TableDef, place: u32, key: &'a [u8]) -> &'a [u8]
 }
 
 /// The encoded primary key at the end of a row's key in an index of these columns.
-pub fn primary_part<'a>(table: &TableDef, columns: &[u32], key: &'a [u8]) -> &'a [u8]
+pub fn primary_part<'a>(table: &TableDef, columns: &[usize], key: &'a [u8]) -> &'a [u8]
     ensures { (row : List Value) → FitAll (kinds_of table.now) row → key.now ≡ key_at table.now (columns.now ++ table.now.primary) row → result.now ≡ key_of table.now row }
 {
     let mut rest = key;

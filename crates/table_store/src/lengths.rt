@@ -10,18 +10,18 @@ use iv_types::{IndexDef, Kind, Row, TableDef};
 use row_codec::key_value_len;
 
 // The bytes that a row's value at a place has in a key, if it has the place.
-fn value_len_at(kind: Kind, place: u32, row: &Row) -> u128
+fn value_len_at(kind: Kind, place: usize, row: &Row) -> u128
     ensures here { (v : value.Value) → slice_get row.now place ≡ Some v → result ≡ length (key_value_bytes kind v) }
     ensures none { slice_get row.now place ≡ None → result ≡ 0 }
 {
-    match row.as_slice().get(place as usize) {
+    match row.as_slice().get(place) {
         Some(value) => key_value_len(kind, value),
         None => 0,
     }
 }
 
 // The same of a place of its table, if it has the place.
-fn place_len(table: &TableDef, place: u32, row: &Row) -> u128
+fn place_len(table: &TableDef, place: usize, row: &Row) -> u128
     requires { FitAll (kinds_of table.now) row.now }
     ensures len { result ≡ length (key_at table.now (place ∷ []) row.now) }
     ensures most { result ≤ 402 }
@@ -33,7 +33,7 @@ fn place_len(table: &TableDef, place: u32, row: &Row) -> u128
 }
 
 // The bytes that a row's values at some places have in a key.
-fn places_len(table: &TableDef, places: &[u32], row: &Row) -> u128
+fn places_len(table: &TableDef, places: &[usize], row: &Row) -> u128
     requires { FitAll (kinds_of table.now) row.now }
     ensures len { result ≡ length (key_at table.now places.now row.now) }
     ensures most { result ≤ 402 * 2 ^ 64 }

@@ -1,5 +1,6 @@
 //! The entries of a row that another one in its place has not.
-ghost use Rattle.std.specs.Prelude.{◌≡◌, ◌++◌, ◌∷◌, [], IfOk, IfSome, OnOk, IsTrue};
+ghost use Rattle.std.specs.Prelude.{◌≡◌, ◌++◌, ◌∷◌, [], slice_get, IfOk, IfSome, OnOk, IsTrue};
+ghost use Rattle.std.specs.Option.{option_copied};
 ghost use Rattle.std.specs.List.{flat_map};
 ghost use Rattle.iv_types.specs.Encoding.{kinds_of, FitAll};
 ghost use Rattle.iv_meaning.specs.Schema.{indexes_of};
@@ -13,25 +14,35 @@ use crate::keys::kind_at;
 use crate::stored::copy_of;
 use iv_types::{
     Bytes, Catalog, Definition, IndexDef, IndexEntry, IndexEntryList, NoMemory, Row, TableDef,
+    Value,
 };
 use row_codec::{encode_key, encode_row};
 use std::alloc::Global;
+use std::slice::from_ref;
+
+// A row's value at a place, if it has the place.
+fn value_at(row: &Row, place: usize) -> Option<&Value>
+    ensures { option_copied result ≡ slice_get row.now place }
+{
+    row.as_slice().get(place)
+}
 
 // Adds the bytes that a row's value at a place has in a key.
 fn put_place(
     alloc: Global,
     out: &mut Vec<u8>,
     table: &TableDef,
-    place: u32,
+    place: usize,
     row: &Row,
 ) -> Result<(), NoMemory>
     requires { FitAll (kinds_of table.now) row.now }
     ensures { OnOk result (out.new.items ≡ out.old.items ++ key_at table.now (place ∷ []) row.now) }
 {
     if let Some(kind) = kind_at(table, place) {
-        let at = place as usize;
-        let bytes = encode_key(alloc, &[kind], &row.as_slice()[at..at + 1])?;
-        out.extend_from_slice(bytes.as_slice())?;
+        if let Some(value) = value_at(row, place) {
+            let bytes = encode_key(alloc, &[kind], from_ref(value))?;
+            out.extend_from_slice(bytes.as_slice())?;
+        }
     }
     Ok(())
 }
@@ -41,7 +52,7 @@ fn put_places(
     alloc: Global,
     out: &mut Vec<u8>,
     table: &TableDef,
-    places: &[u32],
+    places: &[usize],
     row: &Row,
 ) -> Result<(), NoMemory>
     requires { FitAll (kinds_of table.now) row.now }
@@ -58,7 +69,12 @@ fn put_places(
 /// # Errors
 ///
 /// Where there is no memory for them.
-pub fn key_at(alloc: Global, table: &TableDef, places: &[u32], row: &Row) -> Result<Bytes, NoMemory>
+pub fn key_at(
+    alloc: Global,
+    table: &TableDef,
+    places: &[usize],
+    row: &Row,
+) -> Result<Bytes, NoMemory>
     requires { FitAll (kinds_of table.now) row.now }
     ensures { IfOk result (λ key. key ≡ key_at table.now places.now row.now) }
 {

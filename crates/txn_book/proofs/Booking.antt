@@ -29,7 +29,7 @@ at_place opens i o is = by (slice_get opens i) refl
 pub has_place : (opens : Opens) (i : ℕ) (o : Open) → open_at opens i ≡ Some o → i < length opens
 has_place opens i o is = slice_get_within opens i (Some o) (at_place opens i o is)
 
-no_place : (opens : Opens) (i : ℕ) → i < length opens → open_at opens i ≡ None → slice_get opens i ≡ Some None
+pub no_place : (opens : Opens) (i : ℕ) → i < length opens → open_at opens i ≡ None → slice_get opens i ≡ Some None
 no_place opens i lt is = by (slice_get opens i) refl
   where
     by : (x : Option (Option Open)) → slice_get opens i ≡ x → x ≡ Some None
@@ -55,21 +55,21 @@ sum_set f [] i x y at = absurd cc
 sum_set f (z ∷ xs) zero x y at = let same : z ≡ x = cc in omega (arith, sum_by-cons f y xs, sum_by-cons f z xs, ap f same)
 sum_set f (z ∷ xs) (suc i) x y at = omega (arith, sum_by-cons f z (slice_set xs i y), sum_by-cons f z xs, sum_set f xs i x y at)
 
--- with one more place
-pub bytes_more : (opens : Opens) (i : ℕ) (o : Option Open) → i < length opens → open_at opens i ≡ o → sum_by bytes_of (take (i + 1) opens) ≡ sum_by bytes_of (take i opens) + bytes_of o
-bytes_more opens i o lt is = sum_by_more bytes_of opens i None lt ∙ ap (λ x. sum_by bytes_of (take i opens) + bytes_of x) (sym (ap (option_and_then (λ x. x)) (slice_get-get_or opens i None lt)) ∙ is)
+-- of a sum over all places: with one more place
+pub opens_more : (f : Option Open → ℕ) (opens : Opens) (i : ℕ) (o : Option Open) → i < length opens → open_at opens i ≡ o → sum_by f (take (i + 1) opens) ≡ sum_by f (take i opens) + f o
+opens_more f opens i o lt is = sum_by_more f opens i None lt ∙ ap (λ x. sum_by f (take i opens) + f x) (sym (ap (option_and_then (λ x. x)) (slice_get-get_or opens i None lt)) ∙ is)
 
-pub bytes_within : (opens : Opens) (i : ℕ) → sum_by bytes_of (take i opens) ≤ open_bytes opens
-bytes_within [] zero = omega arith
-bytes_within [] (suc i) = omega arith
-bytes_within (o ∷ opens) zero = omega (arith, sum_by-cons bytes_of o opens)
-bytes_within (o ∷ opens) (suc i) = omega (arith, bytes_within opens i, sum_by-cons bytes_of o opens, sum_by-cons bytes_of o (take i opens))
+pub opens_within : (f : Option Open → ℕ) (opens : Opens) (i : ℕ) → sum_by f (take i opens) ≤ sum_by f opens
+opens_within f [] zero = omega arith
+opens_within f [] (suc i) = omega arith
+opens_within f (o ∷ opens) zero = omega (arith, sum_by-cons f o opens)
+opens_within f (o ∷ opens) (suc i) = omega (arith, opens_within f opens i, sum_by-cons f o opens, sum_by-cons f o (take i opens))
 
-pub bytes_all : (opens : Opens) (i : ℕ) → length opens ≤ i → sum_by bytes_of (take i opens) ≡ open_bytes opens
-bytes_all [] zero le = refl
-bytes_all [] (suc i) le = refl
-bytes_all (o ∷ opens) zero le = absurd (omega arith)
-bytes_all (o ∷ opens) (suc i) le = omega (arith, bytes_all opens i (omega arith), sum_by-cons bytes_of o opens, sum_by-cons bytes_of o (take i opens))
+pub opens_all : (f : Option Open → ℕ) (opens : Opens) (i : ℕ) → length opens ≤ i → sum_by f (take i opens) ≡ sum_by f opens
+opens_all f [] zero le = refl
+opens_all f [] (suc i) le = refl
+opens_all f (o ∷ opens) zero le = absurd (omega arith)
+opens_all f (o ∷ opens) (suc i) le = omega (arith, opens_all f opens i (omega arith), sum_by-cons f o opens, sum_by-cons f o (take i opens))
 
 -- ---- the book
 

@@ -26,16 +26,16 @@ use Rattle.txn_book.specs.Txns.{changes_in, entry_size}
 use Rattle.txn_book.specs.Books.{Books, IsBook, bytes_of, total_bytes}
 use Rattle.txn_book.specs.Holding.{AreKept, changes_size, IsSame, IsKept, Holds}
 use Rattle.txn_book.specs.declared.open_table.Open.{Open}
-use Rattle.txn_book.proofs.Booking.{bytes_more, bytes_all}
+use Rattle.txn_book.proofs.Booking.{opens_more, opens_all}
 
 -- ---- open transactions
 
 -- over the places from 1 on, and that of nobody
 over_places : (opens : List (Option Open)) (n : ℕ) → n < length opens → sum_by bytes_of (take (n + 1) opens) ≡ bytes_of (open_at opens 0) + sum_over n (λ j. bytes_of (open_at opens j))
-over_places opens zero lt = bytes_more opens 0 (open_at opens 0) lt refl ∙ omega arith
+over_places opens zero lt = opens_more bytes_of opens 0 (open_at opens 0) lt refl ∙ omega arith
 over_places opens (suc n) lt =
     let rest = over_places opens n (omega (arith, lt)) in
-    let more = bytes_more opens (suc n) (open_at opens (suc n)) lt refl in
+    let more = opens_more bytes_of opens (suc n) (open_at opens (suc n)) lt refl in
     let next : suc n ≡ n + 1 = omega arith in
     let same : take (suc n) opens ≡ take (n + 1) opens = ap (λ k. take k opens) next in
     omega (arith, rest, more, ap (sum_by bytes_of) same)
@@ -67,7 +67,7 @@ pub bytes_law : (b : Books) (objects : Schema) (open_of : ℕ → Option machine
     → total_bytes b ≡ history_size objects history definitions open_of
 bytes_law b objects open_of logged history greatest definitions good holds alone =
     let places : length b.opens ≡ 65 = good.places in
-    let all = bytes_all b.opens 65 (omega (arith, places)) in
+    let all = opens_all bytes_of b.opens 65 (omega (arith, places)) in
     let over = over_places b.opens 64 (omega (arith, places)) in
     let nobody : bytes_of (open_at b.opens 0) ≡ 0 = ap bytes_of holds.nobody in
     let each = same_over 64 (λ j. bytes_of (open_at b.opens j)) (λ j. open_size objects (open_of j)) (λ j low high. one_counts objects (open_at b.opens j) (open_of j) (logged j) (alone j) (holds.txns j (low, high))) in

@@ -50,6 +50,14 @@ open_bytes opens = sum_by bytes_of opens
 abbrev pub total_bytes : Books → ℕ
 total_bytes b = b.entry_bytes + open_bytes b.opens
 
+-- how many changes are kept
+abbrev pub puts_of : Option Open → ℕ
+puts_of None = 0
+puts_of (Some o) = let t : Txn = txn_of o in length (changes_in t.kept)
+
+abbrev pub open_changes : List (Option Open) → ℕ
+open_changes opens = sum_by puts_of opens
+
 abbrev pub how_many_open : List (Option Open) → ℕ
 how_many_open opens = count_by is_some opens
 

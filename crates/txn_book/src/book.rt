@@ -1,5 +1,5 @@
 //! The book of an engine's transactions: those that are open and those that are committed.
-ghost use Rattle.std.specs.Prelude.{◌≡◌, ◌≢◌, ◌+◌, ◌≤◌, ◌<◌, ◌^◌, ℕ, List, [], ◌∷◌, length, reverse, suc, ⊤, Option, Some, None, IfOk, OnOk, OnErr};
+ghost use Rattle.std.specs.Prelude.{IfSome, ◌≡◌, ◌≢◌, ◌+◌, ◌≤◌, ◌<◌, ◌^◌, ℕ, List, [], ◌∷◌, length, reverse, suc, ⊤, Option, Some, None, IfOk, OnOk, OnErr};
 ghost use Rattle.std.specs.Option.{option_copied};
 ghost use Rattle.iv_types.specs.declared.limit.TheConstants.{MOST_SESSIONS, SEATS};
 ghost use Rattle.iv_types.specs.declared.lock.GroupDelta.{GroupDelta as Delta};
@@ -7,7 +7,7 @@ ghost use Rattle.iv_types.specs.declared.lock.KeptStep.{KeptStep as Step};
 ghost use Rattle.txn_book.specs.declared.open_table.Open.{Open as Transaction};
 ghost use Rattle.txn_book.specs.Opens.{open_at};
 ghost use Rattle.txn_book.specs.Txns.{HasRoomFor, IsRoomy, txn_of, entry_size, begun, noting, with_ghost, lost, with_put, with_pay, without_step, kept_in};
-ghost use Rattle.txn_book.specs.Books.{CanKeep, Changes, Committed, Defined, IsBook, IsLeastOpen, IsOpenAnd, IsSame, OfOpen, Seats, bytes_of, how_many_open, least_snapshot, number_of, total_bytes};
+ghost use Rattle.txn_book.specs.Books.{CanKeep, Changes, Committed, Defined, IsBook, IsLeastOpen, IsOpenAnd, IsSame, OfOpen, Seats, bytes_of, how_many_open, least_snapshot, number_of, open_changes, puts_of, total_bytes};
 
 use crate::kept_steps::{Owing, changes_of, keep, make_room, pay, undo};
 use crate::open_table::{Open, OpenTable};
@@ -44,6 +44,17 @@ fn bytes_of(txn: Option<&Open>) -> u64
 {
     match txn {
         Some(txn) => txn.history_bytes,
+        None => 0,
+    }
+}
+
+// How many changes a transaction, if there is one, keeps.
+fn puts_of(txn: Option<&Open>) -> usize
+    requires { IfSome (option_copied txn) IsRoomy }
+    ensures { result ≡ puts_of (option_copied txn.entry) }
+{
+    match txn {
+        Some(txn) => txn.puts,
         None => 0,
     }
 }
@@ -154,6 +165,18 @@ impl Book {
         let mut sum = self.entry_bytes;
         for session in 0..SEATS as u32 {
             sum += bytes_of(self.opens.get(session));
+        }
+        sum
+    }
+
+    /// How many changes the open transactions keep.
+    pub fn changes(&self) -> usize
+        requires { open_changes self.now.opens < 2 ^ 64 }
+        ensures { result ≡ open_changes self.now.opens }
+    {
+        let mut sum = 0;
+        for session in 0..SEATS as u32 {
+            sum += puts_of(self.opens.get(session));
         }
         sum
     }

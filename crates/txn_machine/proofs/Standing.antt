@@ -3,7 +3,7 @@ use Rattle.std.specs.Prelude.{◌≡◌, ◌≢◌, ℕ, zero, suc, ◌+◌, ◌
 use Rattle.std.specs.List.{All, AllByRecursion, Contains}
 use mathlib.Core.Path.{refl, sym, ap, subst, ◌∙◌}
 use mathlib.Core.Logic.{inl, inr}
-use Rattle.std.proofs.Common.{arith, leb-true}
+use Rattle.std.proofs.Common.{arith, leb-true, le-leb}
 use Rattle.std.proofs.lemmas.Bool.{cases_lt}
 use Rattle.std.proofs.lemmas.List.Elements.{All-from_recursion, recursion_from_All}
 use Rattle.iv_types.specs.declared.statement.Mode.TheVariants.{Serial}
@@ -25,7 +25,7 @@ use Rattle.txn_machine.specs.May.{MayAct}
 use Rattle.txn_machine.specs.Steps.{asked, CommitsAs, Says, Step, Did, Run}
 use Rattle.iv_meaning.specs.View.{read}
 use Rattle.txn_machine.specs.Alone.{Fact, Found, WasThere, told_of_undo, told_after, Story, story_after, begun_story, Unfolds, IsTrueIn, with_changes}
-use Rattle.txn_machine.specs.Laws.{IsReachedStory}
+use Rattle.txn_machine.specs.Laws.{IsReached, IsReachedStory}
 use Rattle.txn_machine.specs.KeptLaws.{oldest, NotesLaw}
 use Rattle.txn_machine.proofs.Basics.{one_same, one_other}
 use Rattle.txn_machine.proofs.Good.{the_open}
@@ -305,3 +305,16 @@ notes_law s r i o serial =
     (each_note (λ n. Contains (story.0.told i) (found n o.transaction.kept)) (λ n. Contains (story.0.told i) (found n o.transaction.kept))
     (λ n. read (with_changes (changes_of (oldest n.kept o.transaction.kept)) (committed story.0.state.store)) n.index n.interval ≡ n.rows) o.transaction.notes
     (λ n c d. all_contains (IsTrueIn (committed story.0.state.store)) (story.0.told i) (found n o.transaction.kept) (recursion_from_All (IsTrueIn (committed story.0.state.store)) (story.0.told i) told.0) c) each each))
+
+-- no note was taken behind a step that is kept no more
+all_before : (many : ℕ) (ns : List Note) → AllByRecursion (λ n. n.kept ≤ many) ns → notes_before many ns ≡ ns
+all_before many [] h = refl
+all_before many (n ∷ ns) h = ap (λ b. cond b (n ∷ notes_before many ns) (notes_before many ns)) (le-leb n.kept many h.0) ∙ ap (λ ms. n ∷ ms) (all_before many ns h.1)
+
+-- of a session that takes nothing back all notes stand
+pub notes_stand : (s : State) → IsReached s → (i : ℕ) → (now s.store i).back ≡ 0 → notes_before (length (now s.store i).kept) (now s.store i).notes ≡ (now s.store i).notes
+notes_stand s r i none =
+    let story = story_of (begun_story _) r.steps s (λ j. none_good idle [] refl refl) r.run in
+    let own : now story.0.state.store i ≡ now s.store i = ap (λ (z : State). now z.store i) story.1 in
+    let good : NotesGood (now s.store i) (story.0.told i) = subst (λ t. NotesGood t (story.0.told i)) own (story.3 i) in
+    all_before (length (now s.store i).kept) (now s.store i).notes (good.below none)

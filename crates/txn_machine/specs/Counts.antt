@@ -1,7 +1,7 @@
 -- No clause of `run` rests on this module: it serves contracts between crates.
 --
 -- How many bytes a transaction and the history take, and the most that they may.
-use Rattle.std.specs.Prelude.{ℕ, ◌+◌, ◌*◌, List, [], map, length, Option, Some, None}
+use Rattle.std.specs.Prelude.{ℕ, ◌+◌, ◌*◌, ◌-◌, ◌^◌, min, List, [], map, length, Option, Some, None}
 use Rattle.std.specs.List.{sum}
 use Rattle.std.specs.Option.{option_map_or}
 use Rattle.iv_types.specs.declared.value.Kind.{Kind}
@@ -122,3 +122,9 @@ definition_sizes texts = sum (map text_size texts)
 
 abbrev pub most_of_history : ℕ
 most_of_history = 268435456
+
+-- ---- refusals
+
+-- the bytes that a step needs as a refusal tells them: a number of 64 bits, which stands still at its end
+abbrev pub told_need : ℕ → ℕ
+told_need bytes = min bytes (2 ^ 64 - 1)

@@ -40,7 +40,7 @@ use Rattle.txn_machine.specs.Deltas.{RowChange, owed, columns_of, worth, place_o
 use Rattle.txn_machine.specs.Keeping.{KeptStep, Note, Open}
 use Rattle.txn_machine.specs.Stored.{ViewRows, Lists}
 use Rattle.txn_machine.specs.Store.{Store, committed, schema_of, now, changes_by, locks_of, change_at, Effect, Opens, Takes, Notes, Writes, Pays, Ghosts, Undoes, Loses, Ends, Commits, Defines, Cleans, Prunes, run}
-use Rattle.txn_machine.specs.Counts.{fetch_size, put_size, transaction_size, most_of_transaction, entry_size, kept_change_size, definition_size, definition_sizes, history_size, most_of_history}
+use Rattle.txn_machine.specs.Counts.{fetch_size, put_size, transaction_size, most_of_transaction, entry_size, kept_change_size, definition_size, definition_sizes, history_size, most_of_history, told_need}
 use Rattle.txn_machine.specs.Ghosts.{the_views, account_of, IsCleanable, IsFirstCleanable}
 use Rattle.txn_machine.specs.Records.{Definition, group_bytes}
 use Rattle.txn_machine.specs.Log.{Log, Within, Above, appended, with_logged, log_all, record_of, end_bytes, block_bytes, reserved, carried, write_need, definition_need, data_bytes, change_need, object_need}
@@ -179,8 +179,8 @@ pub record IsFetchFull (s : State) (session number : ℕ) (interval : Interval) 
   pub free : IsFree s.store session wants
   pub rows : List Row
   pub found : Finds s.store number interval rows
-  pub need_is : need ≡ fetch_size (schema_of s.store) number interval rows
-  pub full : IsTxnFull s.store session need kept
+  pub need_is : need ≡ told_need (fetch_size (schema_of s.store) number interval rows)
+  pub full : IsTxnFull s.store session (fetch_size (schema_of s.store) number interval rows) kept
 
 -- what the change owes
 abbrev pub put_owed : Store → RowChange → List GroupDelta
@@ -209,29 +209,29 @@ pub record Puts (s : State) (session : ℕ) (c : RowChange) (wants : List Want) 
 
 pub record IsPutFull (s : State) (session : ℕ) (c : RowChange) (wants : List Want) (kept need : ℕ) : Type 0 where
   pub free : IsFree s.store session wants
-  pub need_is : need ≡ put_need s.store c
-  pub full : IsTxnFull s.store session need kept
+  pub need_is : need ≡ told_need (put_need s.store c)
+  pub full : IsTxnFull s.store session (put_need s.store c) kept
 
 pub record IsPutLogFull (s : State) (session : ℕ) (c : RowChange) (wants : List Want) (used reserved_bytes need : ℕ) : Type 0 where
   pub free : IsFree s.store session wants
   pub room : FitsTransaction s.store session (put_need s.store c)
-  pub need_is : need ≡ log_need s.store c
-  pub full : IsLogFull s need used reserved_bytes
+  pub need_is : need ≡ told_need (log_need s.store c)
+  pub full : IsLogFull s (log_need s.store c) used reserved_bytes
 
 pub record IsPutDataFull (s : State) (session : ℕ) (c : RowChange) (wants : List Want) (used need : ℕ) : Type 0 where
   pub free : IsFree s.store session wants
   pub room : FitsTransaction s.store session (put_need s.store c)
   pub log_room : FitsLog s (log_need s.store c)
-  pub need_is : need ≡ data_need s.store c
-  pub full : IsDataFull s need used
+  pub need_is : need ≡ told_need (data_need s.store c)
+  pub full : IsDataFull s (data_need s.store c) used
 
 pub record IsPutHistoryFull (s : State) (session : ℕ) (c : RowChange) (wants : List Want) (kept need : ℕ) : Type 0 where
   pub free : IsFree s.store session wants
   pub room : FitsTransaction s.store session (put_need s.store c)
   pub log_room : FitsLog s (log_need s.store c)
   pub data_room : FitsData s (data_need s.store c)
-  pub need_is : need ≡ kept_change_size (schema_of s.store) c
-  pub full : IsHistoryFull s need kept
+  pub need_is : need ≡ told_need (kept_change_size (schema_of s.store) c)
+  pub full : IsHistoryFull s (kept_change_size (schema_of s.store) c) kept
 
 -- the first owed delta is this one, before these
 pub record PaysFirst (s : Store) (session : ℕ) (wants : List Want) : Type 0 where
@@ -334,8 +334,8 @@ pub record IsSchemaLogFull (s : State) (statement : StatementTree) (used reserve
   pub makes : Makes s.store statement object
   pub none_open : NoneIsOpen s.store
   pub accepted : (count : ℕ) × (kept : List Kept) × (bound_meaning (create object) (committed s.store) ≡ Accepted [] count kept)
-  pub need_is : need ≡ definition_need statement
-  pub full : IsLogFull s need used reserved_bytes
+  pub need_is : need ≡ told_need (definition_need statement)
+  pub full : IsLogFull s (definition_need statement) used reserved_bytes
 
 pub record IsSchemaDataFull (s : State) (statement : StatementTree) (used need : ℕ) : Type 0 where
   pub object : Object
@@ -343,8 +343,8 @@ pub record IsSchemaDataFull (s : State) (statement : StatementTree) (used need :
   pub none_open : NoneIsOpen s.store
   pub accepted : (count : ℕ) × (kept : List Kept) × (bound_meaning (create object) (committed s.store) ≡ Accepted [] count kept)
   pub log_room : FitsLog s (definition_need statement)
-  pub need_is : need ≡ made_need s.store statement object
-  pub full : IsDataFull s need used
+  pub need_is : need ≡ told_need (made_need s.store statement object)
+  pub full : IsDataFull s (made_need s.store statement object) used
 
 pub record IsSchemaFull (s : State) (statement : StatementTree) (kept need : ℕ) : Type 0 where
   pub object : Object
@@ -353,8 +353,8 @@ pub record IsSchemaFull (s : State) (statement : StatementTree) (kept need : ℕ
   pub accepted : (count : ℕ) × (kept : List Kept) × (bound_meaning (create object) (committed s.store) ≡ Accepted [] count kept)
   pub log_room : FitsLog s (definition_need statement)
   pub data_room : FitsData s (made_need s.store statement object)
-  pub need_is : need ≡ entry_size + definition_size statement
-  pub full : IsHistoryFull s need kept
+  pub need_is : need ≡ told_need (entry_size + definition_size statement)
+  pub full : IsHistoryFull s (entry_size + definition_size statement) kept
 
 -- ---- snapshots
 

@@ -68,7 +68,7 @@ due_behind n p column (x ∷ l) r e h fails =
     ap (λ z. z +ℤ due n p column (l ++ e ∷ r)) (no_part n p column x (before_fails true (p, n) x e (all_right _ l (e ∷ r) h.0).0 fails))
     ∙ (zero_left (due n p column (l ++ e ∷ r)) ∙ due_behind n p column l r e h.1 fails)
 
-due_append : (n : ℕ) (p : Place) (column : ℕ) (l r : List (Version Delta)) → due n p column (l ++ r) ≡ due n p column l +ℤ due n p column r
+pub due_append : (n : ℕ) (p : Place) (column : ℕ) (l r : List (Version Delta)) → due n p column (l ++ r) ≡ due n p column l +ℤ due n p column r
 due_append n p column [] r = sym (zero_left (due n p column r))
 due_append n p column (x ∷ l) r = ap (λ z. part n p column x +ℤ z) (due_append n p column l r) ∙ nested (part n p column x) (due n p column l) (due n p column r)
 

@@ -24,7 +24,7 @@ use Rattle.std.proofs.Common.{append_assoc}
 not_less_nat : (m n : ℕ) → n ≤ m → nat_cmp m n ≢ Less
 not_less_nat m n up is = let less : m < n = ranked m n Less (sym is) in omega (arith, up, less)
 
-same_place : (p q : Place) → eq_by_cmp place_cmp p q ≡ true → p ≡ q
+pub same_place : (p q : Place) → eq_by_cmp place_cmp p q ≡ true → p ≡ q
 same_place p q is = place_cmp-IsAntisymmetric p q (tied (place_cmp p q) is)
   where
     tied : (o : Ordering) → is_eq o ≡ true → o ≡ Equal
@@ -32,7 +32,7 @@ same_place p q is = place_cmp-IsAntisymmetric p q (tied (place_cmp p q) is)
     tied Equal e = refl
     tied Greater e = absurd (cc e)
 
-other_place : (p q : Place) → eq_by_cmp place_cmp p q ≡ false → p ≢ q
+pub other_place : (p q : Place) → eq_by_cmp place_cmp p q ≡ false → p ≢ q
 other_place p q is same = let bad : true ≡ false = sym (ap is_eq (tied_itself place_cmp_total p)) ∙ (ap (λ r. eq_by_cmp place_cmp p r) same ∙ is) in absurd (cc bad)
 
 same_before : {V : Type 0} (p : Place) (v w : Version V) → is_of p v ≡ true → place_cmp (place v) (place w) ≡ Less → place_cmp p (place w) ≡ Less
@@ -196,7 +196,7 @@ module _ {V : Type 0} where
 
   -- ---- what a chain tells
 
-  empty_chain : (p : Place) (vs : List (Version V)) → is_empty p vs ≡ is_empty p (chain_of p vs)
+  pub empty_chain : (p : Place) (vs : List (Version V)) → is_empty p vs ≡ is_empty p (chain_of p vs)
   empty_chain p [] = refl
   empty_chain p (v ∷ vs) = by (is_of p v) refl (empty_chain p vs)
     where
@@ -208,7 +208,7 @@ module _ {V : Type 0} where
   empty_law calls h p = empty_chain p (left_by calls).0 ∙ (ap (is_empty p) (chain_law calls h p) ∙ sym (empty_chain p (above (left_by calls).1 (pushed_by calls))))
 
 module _ {X : Type 0} where
-  row_chain : (n : ℕ) (p : Place) (now : Option X) (vs : List (Version (Option X))) → row_at n p now vs ≡ row_at n p now (chain_of p vs)
+  pub row_chain : (n : ℕ) (p : Place) (now : Option X) (vs : List (Version (Option X))) → row_at n p now vs ≡ row_at n p now (chain_of p vs)
   row_chain n p now [] = refl
   row_chain n p now (v ∷ vs) = by (is_of p v) (nat_lt n (number v)) refl refl (row_chain n p now vs)
     where
@@ -237,7 +237,7 @@ module _ {X : Type 0} where
   none_yet n m rows [] lt h = refl
   none_yet n m rows (c ∷ cs) lt h = rw (not_yet n m c.0 lt h.0) (none_yet n m rows cs lt h.1)
 
-  row_of_state : (n : ℕ) (rows : FinMap place_cmp X) (cs : List (Committed X)) → AreTrue rows cs → AreRising (map version_of cs) → (p : Place)
+  pub row_of_state : (n : ℕ) (rows : FinMap place_cmp X) (cs : List (Committed X)) → AreTrue rows cs → AreRising (map version_of cs) → (p : Place)
       → row_at n p (get (rows_after cs rows) p) (map version_of cs) ≡ get (rows_at n cs rows) p
   row_of_state n rows [] h up p = refl
   row_of_state n rows (c ∷ cs) h up p =

@@ -14,7 +14,7 @@ use object_kinds::numbered;
 use row_eval::are_alike;
 
 // Whether the columns of an index begin with the joined ones.
-fn begins(columns: &[u32], joined: &[u32]) -> bool
+fn begins(columns: &[usize], joined: &[usize]) -> bool
     ensures { IsTrue result ↔ Begins columns.now joined.now }
 {
     columns.starts_with(joined)

@@ -11,13 +11,13 @@ pub open-requires-after_bounds : goal.open-requires-after_bounds
 open-requires-after_bounds g c κs within =
     let h = c.requires.1 in
     let room : c.history_bytes-kept.result + 256 ≤ most_of_history = c.has_room.ensures.0 (subst IsTrue (sym c.if-not-has_room.false) refl) in
-    (c.requires.0, h, c.requires.2, may_begin g.M.SortedMaps.maps c.args.core.now c.requires.0 c.args.session h c.requires.2.0 c.requires.2.1 c.book_law.ensures (subst (λ n. n + 256 ≤ most_of_history) c.history_bytes-kept.ensures room))
+    (c.requires.0, h, c.requires.2, may_begin g.M.SortedMaps.maps g.M.SortedMaps.spare g.M.SortedMaps.limit c.args.core.now c.requires.0 c.args.session h c.requires.2.0 c.requires.2.1 c.book_law.ensures (subst (λ n. n + 256 ≤ most_of_history) c.history_bytes-kept.ensures room))
 
 pub returns-clause-told : goal.returns-clause-told
 returns-clause-told g c = if_ok_as c.open.result _ _
-    (λ said told s h may. told s h may (may_begin g.M.SortedMaps.maps c.args.core.now s c.args.session h may.0 may.1 c.book_law.ensures
+    (λ said told s h may. told s h may (may_begin g.M.SortedMaps.maps g.M.SortedMaps.spare g.M.SortedMaps.limit c.args.core.now s c.args.session h may.0 may.1 c.book_law.ensures
     (subst (λ n. n + 256 ≤ most_of_history) c.history_bytes-kept.ensures (c.has_room.ensures.0 (subst IsTrue (sym c.if-not-has_room.false) refl))))) c.open.ensures.told
 
 pub returns-then-not-has_room-clause-told : goal.returns-then-not-has_room-clause-told
-returns-then-not-has_room-clause-told g c = λ s h may. full_told g.M.SortedMaps.maps c.args.core.now s c.args.session h may.0 may.1 c.book_law.ensures c.history_bytes-kept.result 256 c.history_bytes-kept.ensures refl
+returns-then-not-has_room-clause-told g c = λ s h may. full_told g.M.SortedMaps.maps g.M.SortedMaps.spare g.M.SortedMaps.limit c.args.core.now s c.args.session h may.0 may.1 c.book_law.ensures c.history_bytes-kept.result 256 c.history_bytes-kept.ensures refl
     (λ room. not_true (subst IsTrue c.if-not-has_room.true (c.has_room.ensures.1 room)))

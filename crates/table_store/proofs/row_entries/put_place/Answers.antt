@@ -1,28 +1,20 @@
-use Rattle.std.proofs.Common.{◌≡◌, ◌+◌, ◌-◌, ◌<◌, ◌++◌, ◌∷◌, [], ℕ, List, take, drop, length, rules, arith, sym, ap, subst, ◌∙◌}
-use Rattle.iv_types.specs.declared.value.Value.{Value}
+use Rattle.std.proofs.Common.{◌≡◌, ◌++◌, ◌∷◌, [], rules, ap, subst, sym, ◌∙◌}
 use Rattle.iv_types.specs.Encoding.{FitAll, key_bytes}
-use Rattle.table_store.proofs.IndexKeys.{place_within, one_column}
+use Rattle.std.proofs.lemmas.List.{append-nil}
+use Rattle.table_store.proofs.IndexKeys.{value_fits, value_key, no_value}
 use Rattle.table_store.proofs.row_entries.put_place.Goals as goal
-
-pub slice_bounds-encode_key-end-in-Some : goal.slice_bounds-encode_key-end-in-Some
-slice_bounds-encode_key-end-in-Some c =
-    let in_row : c.args.place < length c.args.row.now = place_within c.args.table.now c.args.place c.args.row.now c.in-Some.kind c.requires (sym c.in-Some.ensures) in
-    let same : length c.as_slice.result.now ≡ length c.args.row.now = ap length c.as_slice.ensures in
-    omega arith
 
 pub encode_key-requires : goal.encode_key-requires
 encode_key-requires c =
-    let one : c.args.place + 1 - c.args.place ≡ 1 = omega arith in
-    let fits = (one_column c.args.table.now c.args.place c.args.row.now c.in-Some.kind c.requires (sym c.in-Some.ensures)).0 in
-    subst (λ (n : ℕ). FitAll (c.in-Some.kind ∷ []) (take n (drop c.args.place c.as_slice.result.now))) (sym one)
-    (subst (λ (l : List Value). FitAll (c.in-Some.kind ∷ []) (take 1 (drop c.args.place l))) (sym c.as_slice.ensures) fits)
+    subst (FitAll (c.in-Some.kind ∷ [])) (sym c.from_ref.ensures.value)
+    (value_fits c.args.table.now c.args.place c.args.row.now c.in-Some.kind c.in-Some-value_at.value.now c.requires c.in-Some.ensures c.in-Some-value_at.ensures)
 
 pub returns-in_ok-extend_from_slice : goal.returns-in_ok-extend_from_slice
 returns-in_ok-extend_from_slice c =
-    let one : c.args.place + 1 - c.args.place ≡ 1 = omega arith in
-    let is = (one_column c.args.table.now c.args.place c.args.row.now c.in-Some.kind c.requires (sym c.in-Some.ensures)).1 in
-    let part : take (c.args.place + 1 - c.args.place) (drop c.args.place c.as_slice.result.now) ≡ take 1 (drop c.args.place c.args.row.now) =
-    ap (λ (n : ℕ). take n (drop c.args.place c.as_slice.result.now)) one ∙ ap (λ (l : List Value). take 1 (drop c.args.place l)) c.as_slice.ensures in
-    let made : c.in_ok-bytes.bytes ≡ key_bytes (c.in-Some.kind ∷ []) (take 1 (drop c.args.place c.args.row.now)) = c.in_ok-bytes.ensures ∙ ap (key_bytes (c.in-Some.kind ∷ [])) part in
+    let made : c.in_ok-bytes.bytes ≡ key_bytes (c.in-Some.kind ∷ []) (c.in-Some-value_at.value.now ∷ []) = c.in_ok-bytes.ensures ∙ ap (key_bytes (c.in-Some.kind ∷ [])) c.from_ref.ensures.value in
     let put : c.extend_from_slice.new.self.items ≡ c.args.out.now.items ++ c.in_ok-bytes.bytes = search rules in
-    put ∙ ap (λ (l : List ℕ). c.args.out.now.items ++ l) (made ∙ is)
+    put ∙ ap (λ l. c.args.out.now.items ++ l) (made ∙ value_key c.args.table.now c.args.place c.args.row.now c.in-Some.kind c.in-Some-value_at.value.now c.in-Some.ensures c.in-Some-value_at.ensures)
+
+pub returns-in_default-value_at : goal.returns-in_default-value_at
+returns-in_default-value_at c =
+    sym (ap (λ l. c.args.out.now.items ++ l) (no_value c.args.table.now c.args.place c.args.row.now c.in-Some.kind c.in-Some.ensures c.in_default-value_at.ensures) ∙ append-nil c.args.out.now.items)

@@ -2,7 +2,7 @@ use Rattle.std.proofs.Common.{◌≡◌, ◌+◌, arith, ap, sym, ◌∙◌, len
 use Rattle.std.specs.Prelude.{sum_by}
 use Rattle.txn_book.specs.Opens.{open_at}
 use Rattle.txn_book.specs.Books.{bytes_of, total_bytes}
-use Rattle.txn_book.proofs.Booking.{bytes_more, bytes_within, bytes_all}
+use Rattle.txn_book.proofs.Booking.{opens_more, opens_within, opens_all}
 use Rattle.txn_book.proofs.book.Book.history_bytes.Goals as goal
 
 places : (c : goal.After-bytes_of-sum) → length c.args.self.now.opens ≡ 65
@@ -11,14 +11,14 @@ places c = ap (λ b. length b.opens) (sym c.self.view_is) ∙ c.self.invariant.p
 -- with this session's transaction
 more : (c : goal.After-bytes_of-sum) → sum_by bytes_of (take (c.loop-session.session + 1) c.args.self.now.opens) ≡ sum_by bytes_of (take c.loop-session.session c.args.self.now.opens) + c.bytes_of-sum.result
 more c =
-    bytes_more c.args.self.now.opens c.loop-session.session _ (omega (arith, places c, c.loop-session-test.true)) (ap (λ b. open_at b.opens c.loop-session.session) (sym c.self.view_is) ∙ sym c.get.ensures)
+    opens_more bytes_of c.args.self.now.opens c.loop-session.session _ (omega (arith, places c, c.loop-session-test.true)) (ap (λ b. open_at b.opens c.loop-session.session) (sym c.self.view_is) ∙ sym c.get.ensures)
     ∙ ap (λ n. sum_by bytes_of (take c.loop-session.session c.args.self.now.opens) + n) (sym c.bytes_of-sum.ensures)
 
 pub overflow_add-sum : goal.overflow_add-sum
 overflow_add-sum c =
     let inv = c.loop-session.invariant in
     let m = more c in
-    let all = bytes_within c.args.self.now.opens (c.loop-session.session + 1) in
+    let all = opens_within bytes_of c.args.self.now.opens (c.loop-session.session + 1) in
     let fits = c.self.invariant.fits in
     let same = ap total_bytes c.self.view_is in
     omega (arith, inv, m, all, fits, same)
@@ -33,5 +33,5 @@ pub returns : goal.returns
 returns c =
     let inv = c.loop-session.invariant in
     let places = ap (λ b. length b.opens) (sym c.self.view_is) ∙ c.self.invariant.places in
-    let all = bytes_all c.args.self.now.opens c.loop-session.session (omega (arith, places, c.loop-session-test.false)) in
+    let all = opens_all bytes_of c.args.self.now.opens c.loop-session.session (omega (arith, places, c.loop-session-test.false)) in
     omega (arith, inv, all)

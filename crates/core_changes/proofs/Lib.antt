@@ -1,0 +1,6 @@
+pub mod Few
+pub mod Roomier
+pub mod Walked
+pub mod Making
+pub mod Puts
+pub mod Within

@@ -1,0 +1,153 @@
+use Rattle.std.proofs.Common.{◌≡◌, ◌≤◌, ◌+◌, ◌∷◌, [], map, length, refl, sym, ap, subst, ◌∙◌, arith}
+use Rattle.iv_types.specs.declared.lock.Change.{Change}
+use Rattle.lock_manager.specs.Table as lock
+use Rattle.txn_machine.specs.Answers as answer
+use Rattle.txn_machine.specs.Ghosts.{the_views}
+use Rattle.txn_machine.specs.Steps.{group_want}
+use Rattle.core_state.specs.Stands.{Holds, Told}
+use Rattle.core_effects.specs.Writing.{CanWrite}
+use Rattle.core_effects.specs.declared.writing.Writing.{Writing}
+use Rattle.txn_machine.specs.Acts as act
+use Rattle.txn_machine.specs.Counts.{put_size, most_of_transaction}
+use Rattle.txn_machine.specs.Log.{logs}
+use Rattle.txn_machine.specs.RowChanges.{row_change}
+use Rattle.txn_machine.specs.Store.{Takes, Writes, does, schema_of}
+use Rattle.core_state.specs.declared.state.CoreState.{CoreState}
+use Rattle.core_state.proofs.Sessions.{owes_none}
+use Rattle.core_effects.proofs.Results.{on_err_of}
+use Rattle.core_changes.specs.Room.{AreDeltas, HasRoom}
+use Rattle.core_changes.proofs.Puts.{open_here, table_here, rows_fit, few_locks, few_owed, are_deltas}
+use Rattle.core_changes.proofs.Within.{free_there, between, can_add, can_write, same, put_told, can_still}
+use Rattle.core_changes.proofs.putting.put_within.Goals as goal
+
+pub make_room-requires-clause-wants : goal.make_room-requires-clause-wants
+make_room-requires-clause-wants g c κs within =
+    subst (λ ws. length ws ≤ 258) (sym c.as_slice-3.ensures) (few_locks g.M.SortedMaps.maps g.M.SortedMaps.spare g.M.SortedMaps.limit c.args.core.now c.requires.0 c.args.session c.args.change c.args.wants c.requires.1.puts)
+
+pub make_room-requires-clause-few : goal.make_room-requires-clause-few
+make_room-requires-clause-few g c κs within =
+    let s = c.requires.0 in
+    let can = c.requires.1 in
+    let room = can.room in
+    let exact : c.args.bytes ≡ put_size (schema_of s.store) (row_change c.args.change) c.args.owed = can.bytes_are ∙ ap (put_size (schema_of s.store) (row_change c.args.change)) (sym can.owed_is) in
+    let few = few_owed g.M.SortedMaps.maps g.M.SortedMaps.spare g.M.SortedMaps.limit c.args.core.now s c.args.session c.args.change c.args.wants can.puts c.args.owed can.owed_is (omega (arith, room, exact)) in
+    subst (λ ds. length ds ≤ 524288) (sym c.as_slice-4.ensures) few
+
+pub make_room-requires-clause-table : goal.make_room-requires-clause-table
+make_room-requires-clause-table g c κs within = (_, table_here g.M.SortedMaps.maps g.M.SortedMaps.spare g.M.SortedMaps.limit c.args.core.now c.requires.0 c.args.session c.args.change c.args.wants c.requires.1.puts, tt)
+
+pub make_room-requires-clause-began : goal.make_room-requires-clause-began
+make_room-requires-clause-began g c κs within =
+    let s = c.requires.0 in
+    let can = c.requires.1 in
+    (s, can.puts.began, open_here g.M.SortedMaps.maps g.M.SortedMaps.spare g.M.SortedMaps.limit c.args.core.now s c.args.session c.args.change c.args.wants can.puts,
+    subst (AreDeltas s.store) (sym c.as_slice-4.ensures) (are_deltas g.M.SortedMaps.maps g.M.SortedMaps.spare g.M.SortedMaps.limit c.args.core.now s c.args.session c.args.change c.args.wants can.puts c.args.owed can.owed_is))
+
+pub returns-in_err-make_room-clause-err : goal.returns-in_err-make_room-clause-err
+returns-in_err-make_room-clause-err g c = on_err_of c.from_residual-in_err-make_room.result (λ s can.
+    let core = c.args.core.now in
+    let i = c.args.session in
+    let ch = c.args.change in
+    let one = c.make_room.new.core in
+    let b1 = c.make_room.ensures.began s can.puts.began (open_here g.M.SortedMaps.maps g.M.SortedMaps.spare g.M.SortedMaps.limit core s i ch c.args.wants can.puts)
+        (subst (AreDeltas s.store) (sym c.as_slice-4.ensures) (are_deltas g.M.SortedMaps.maps g.M.SortedMaps.spare g.M.SortedMaps.limit core s i ch c.args.wants can.puts c.args.owed can.owed_is)) in
+    let can1 = can_still g.M.SortedMaps.maps g.M.SortedMaps.spare g.M.SortedMaps.limit core one s i ch c.args.wants c.args.owed c.args.bytes c.args.entry_bytes can b1 in
+    b1)
+
+pub prepare-requires-after_bounds : goal.prepare-requires-after_bounds
+prepare-requires-after_bounds g c κs within =
+    let s = c.requires.0 in
+    let can = c.requires.1 in
+    let core = c.args.core.now in
+    let i = c.args.session in
+    let ch = c.args.change in
+    let one = c.make_room.new.core in
+    let b1 = c.make_room.ensures.began s can.puts.began (open_here g.M.SortedMaps.maps g.M.SortedMaps.spare g.M.SortedMaps.limit core s i ch c.args.wants can.puts)
+        (subst (AreDeltas s.store) (sym c.as_slice-4.ensures) (are_deltas g.M.SortedMaps.maps g.M.SortedMaps.spare g.M.SortedMaps.limit core s i ch c.args.wants can.puts c.args.owed can.owed_is)) in
+    let can1 = can_still g.M.SortedMaps.maps g.M.SortedMaps.spare g.M.SortedMaps.limit core one s i ch c.args.wants c.args.owed c.args.bytes c.args.entry_bytes can b1 in
+    rows_fit g.M.SortedMaps.maps g.M.SortedMaps.spare g.M.SortedMaps.limit one s i ch c.args.wants can1.puts
+
+pub returns-in_err-ready-clause-err : goal.returns-in_err-ready-clause-err
+returns-in_err-ready-clause-err g c = on_err_of c.from_residual-in_err-ready.result (λ s can.
+    let core = c.args.core.now in
+    let i = c.args.session in
+    let ch = c.args.change in
+    let one = c.make_room.new.core in
+    let b1 = c.make_room.ensures.began s can.puts.began (open_here g.M.SortedMaps.maps g.M.SortedMaps.spare g.M.SortedMaps.limit core s i ch c.args.wants can.puts)
+        (subst (AreDeltas s.store) (sym c.as_slice-4.ensures) (are_deltas g.M.SortedMaps.maps g.M.SortedMaps.spare g.M.SortedMaps.limit core s i ch c.args.wants can.puts c.args.owed can.owed_is)) in
+    let can1 = can_still g.M.SortedMaps.maps g.M.SortedMaps.spare g.M.SortedMaps.limit core one s i ch c.args.wants c.args.owed c.args.bytes c.args.entry_bytes can b1 in
+    b1)
+
+pub take-requires-clause-free : goal.take-requires-clause-free
+take-requires-clause-free g c κs within =
+    let s = c.requires.0 in
+    let can = c.requires.1 in
+    let core = c.args.core.now in
+    let i = c.args.session in
+    let ch = c.args.change in
+    let one = c.make_room.new.core in
+    let b1 = c.make_room.ensures.began s can.puts.began (open_here g.M.SortedMaps.maps g.M.SortedMaps.spare g.M.SortedMaps.limit core s i ch c.args.wants can.puts)
+        (subst (AreDeltas s.store) (sym c.as_slice-4.ensures) (are_deltas g.M.SortedMaps.maps g.M.SortedMaps.spare g.M.SortedMaps.limit core s i ch c.args.wants can.puts c.args.owed can.owed_is)) in
+    let can1 = can_still g.M.SortedMaps.maps g.M.SortedMaps.spare g.M.SortedMaps.limit core one s i ch c.args.wants c.args.owed c.args.bytes c.args.entry_bytes can b1 in
+    free_there g.M.SortedMaps.maps g.M.SortedMaps.spare g.M.SortedMaps.limit one s i ch c.args.wants c.args.owed c.args.bytes c.args.entry_bytes can1
+
+pub write-requires-clause-can : goal.write-requires-clause-can
+write-requires-clause-can g c κs within =
+    let s = c.requires.0 in
+    let can = c.requires.1 in
+    let core = c.args.core.now in
+    let i = c.args.session in
+    let ch = c.args.change in
+    let one = c.make_room.new.core in
+    let b1 = c.make_room.ensures.began s can.puts.began (open_here g.M.SortedMaps.maps g.M.SortedMaps.spare g.M.SortedMaps.limit core s i ch c.args.wants can.puts)
+        (subst (AreDeltas s.store) (sym c.as_slice-4.ensures) (are_deltas g.M.SortedMaps.maps g.M.SortedMaps.spare g.M.SortedMaps.limit core s i ch c.args.wants can.puts c.args.owed can.owed_is)) in
+    let can1 = can_still g.M.SortedMaps.maps g.M.SortedMaps.spare g.M.SortedMaps.limit core one s i ch c.args.wants c.args.owed c.args.bytes c.args.entry_bytes can b1 in
+    let room = subst (λ ws. HasRoom g.M.SortedMaps.spare one i ch.table (length ws) c.args.owed) c.as_slice-3.ensures (subst (λ ds. HasRoom g.M.SortedMaps.spare one i ch.table (length c.as_slice-3.result.now) ds) c.as_slice-4.ensures c.in_ok-make_room.ensures.room) in
+    let w : Writing = record { ready = c.in_ok-ready.ready; owed = c.into_vec.result; wants = c.in_ok-pays.pays; txn_bytes = c.args.bytes; history_bytes = c.args.entry_bytes } in
+    let two = c.take.new.core in
+    let a = act.Put ch.table ch.key ch.after in
+    let took = c.take.ensures.holds s.store s.log s.definitions a b1.holds (open_here g.M.SortedMaps.maps g.M.SortedMaps.spare g.M.SortedMaps.limit one s i ch c.args.wants can1.puts) (owes_none g.M.SortedMaps.maps g.M.SortedMaps.spare g.M.SortedMaps.limit one s i b1 can1.puts.may.0) in
+    let mid = between g.M.SortedMaps.maps g.M.SortedMaps.spare g.M.SortedMaps.limit one s i ch c.args.wants c.args.owed c.args.bytes c.args.entry_bytes can1 in
+    let writes = subst (λ x. CanWrite g.M.SortedMaps.maps g.M.SortedMaps.spare g.M.SortedMaps.limit mid x i w) (sym c.take.ensures.rest)
+        (can_write g.M.SortedMaps.maps g.M.SortedMaps.spare g.M.SortedMaps.limit one s i ch c.args.wants c.args.owed c.args.bytes c.args.entry_bytes can1 c.book_law.ensures c.number_law.ensures room two.locks w c.take.ensures.room
+        c.into_vec.ensures (c.in_ok-pays.ensures ∙ ap (map (λ d. group_want d ∷ [])) c.as_slice-2.ensures) refl refl c.in_ok-ready.ensures.kept c.in_ok-ready.ensures.coming) in
+    (mid, logs s.store i a (Takes c.args.wants) s.log, s.definitions, took, writes)
+
+pub returns-clause-told : goal.returns-clause-told
+returns-clause-told g c = λ s can.
+    let core = c.args.core.now in
+    let i = c.args.session in
+    let ch = c.args.change in
+    let one = c.make_room.new.core in
+    let b1 = c.make_room.ensures.began s can.puts.began (open_here g.M.SortedMaps.maps g.M.SortedMaps.spare g.M.SortedMaps.limit core s i ch c.args.wants can.puts)
+        (subst (AreDeltas s.store) (sym c.as_slice-4.ensures) (are_deltas g.M.SortedMaps.maps g.M.SortedMaps.spare g.M.SortedMaps.limit core s i ch c.args.wants can.puts c.args.owed can.owed_is)) in
+    let can1 = can_still g.M.SortedMaps.maps g.M.SortedMaps.spare g.M.SortedMaps.limit core one s i ch c.args.wants c.args.owed c.args.bytes c.args.entry_bytes can b1 in
+    let room = subst (λ ws. HasRoom g.M.SortedMaps.spare one i ch.table (length ws) c.args.owed) c.as_slice-3.ensures (subst (λ ds. HasRoom g.M.SortedMaps.spare one i ch.table (length c.as_slice-3.result.now) ds) c.as_slice-4.ensures c.in_ok-make_room.ensures.room) in
+    let w : Writing = record { ready = c.in_ok-ready.ready; owed = c.into_vec.result; wants = c.in_ok-pays.pays; txn_bytes = c.args.bytes; history_bytes = c.args.entry_bytes } in
+    let two = c.take.new.core in
+    let a = act.Put ch.table ch.key ch.after in
+    let took = c.take.ensures.holds s.store s.log s.definitions a b1.holds (open_here g.M.SortedMaps.maps g.M.SortedMaps.spare g.M.SortedMaps.limit one s i ch c.args.wants can1.puts) (owes_none g.M.SortedMaps.maps g.M.SortedMaps.spare g.M.SortedMaps.limit one s i b1 can1.puts.may.0) in
+    let mid = between g.M.SortedMaps.maps g.M.SortedMaps.spare g.M.SortedMaps.limit one s i ch c.args.wants c.args.owed c.args.bytes c.args.entry_bytes can1 in
+    let writes = subst (λ x. CanWrite g.M.SortedMaps.maps g.M.SortedMaps.spare g.M.SortedMaps.limit mid x i w) (sym c.take.ensures.rest)
+        (can_write g.M.SortedMaps.maps g.M.SortedMaps.spare g.M.SortedMaps.limit one s i ch c.args.wants c.args.owed c.args.bytes c.args.entry_bytes can1 c.book_law.ensures c.number_law.ensures room two.locks w c.take.ensures.room
+        c.into_vec.ensures (c.in_ok-pays.ensures ∙ ap (map (λ d. group_want d ∷ [])) c.as_slice-2.ensures) refl refl c.in_ok-ready.ensures.kept c.in_ok-ready.ensures.coming) in
+    let new = c.write.new.core in
+    let kept = same g.M.SortedMaps.maps g.M.SortedMaps.spare g.M.SortedMaps.limit one s i ch c.args.wants c.args.owed c.args.bytes c.args.entry_bytes can1 c.book_law.ensures c.number_law.ensures room two.locks w c.take.ensures.room
+        c.into_vec.ensures (c.in_ok-pays.ensures ∙ ap (map (λ d. group_want d ∷ [])) c.as_slice-2.ensures) refl refl c.in_ok-ready.ensures.kept c.in_ok-ready.ensures.coming in
+    let wrote = subst (λ (x : Change). Holds g.M.SortedMaps.maps g.M.SortedMaps.spare g.M.SortedMaps.limit new (does the_views mid i (Writes (x.table, x.key) x.after)) (logs mid i a (Writes (x.table, x.key) x.after) (logs s.store i a (Takes c.args.wants) s.log)) s.definitions) kept
+        (c.write.ensures.holds mid (logs s.store i a (Takes c.args.wants) s.log) s.definitions a took writes) in
+    let e2 = c.take.ensures.rest in
+    let e3 = c.write.ensures.rest in
+    let before : c.in_ok-before.before ≡ ch.before = c.in_ok-before.ensures ∙ c.as_ref.ensures.value in
+    let told : c.from_vec-told.result ≡ c.args.owed = c.from_vec-told.ensures ∙ (c.in_ok-copied_deltas.ensures ∙ c.as_slice.ensures) in
+    subst (λ d. Told g.M.SortedMaps.maps g.M.SortedMaps.spare g.M.SortedMaps.limit s i a (answer.Changed c.in_ok-before.before d) new) (sym told)
+    (subst (λ b. Told g.M.SortedMaps.maps g.M.SortedMaps.spare g.M.SortedMaps.limit s i a (answer.Changed b c.args.owed) new) (sym before)
+    (put_told g.M.SortedMaps.maps g.M.SortedMaps.spare g.M.SortedMaps.limit one s i ch c.args.wants c.args.owed c.args.bytes c.args.entry_bytes can1 new wrote
+    (record {
+      steps = ap (λ (x : CoreState g.row.M.Denot). x.steps) e3 ∙ ap (λ (x : CoreState g.row.M.Denot). x.steps) e2;
+      seats = ap (λ (x : CoreState g.row.M.Denot). x.seats) e3 ∙ ap (λ (x : CoreState g.row.M.Denot). x.seats) e2;
+      cleaner = ap (λ (x : CoreState g.row.M.Denot). x.cleaner) e3 ∙ ap (λ (x : CoreState g.row.M.Denot). x.cleaner) e2;
+      stop = ap (λ (x : CoreState g.row.M.Denot). x.stop) e3 ∙ ap (λ (x : CoreState g.row.M.Denot). x.stop) e2;
+    })
+    (ap (λ (x : CoreState g.row.M.Denot). lock.waiting_of x.locks i) e3 ∙ c.take.ensures.own)
+    (λ j n. ap (λ (x : CoreState g.row.M.Denot). lock.waiting_of x.locks j) e3 ∙ c.take.ensures.others j n)))

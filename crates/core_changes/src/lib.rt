@@ -1,0 +1,5 @@
+//! Changes of rows: the act Put of the core.
+#![tactic(auto)]
+
+mod putting;
+mod room;

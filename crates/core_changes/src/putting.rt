@@ -1,0 +1,144 @@
+//! Put.
+ghost use Rattle.std.specs.Prelude.{◌≡◌, ◌∷◌, [], ◌+◌, ◌-◌, ◌≤◌, ◌^◌, ℕ, List, map, min, ⊤, IfOk, IfSome, IfNone, OnErr};
+ghost use Rattle.std.specs.FinMap.{get};
+ghost use Rattle.iv_meaning.specs.Sound.{IsTable};
+ghost use Rattle.txn_machine.specs.Acts as act;
+ghost use Rattle.txn_machine.specs.Counts.{put_size, kept_change_size};
+ghost use Rattle.txn_machine.specs.Log.{Log};
+ghost use Rattle.txn_machine.specs.May.{MayAct};
+ghost use Rattle.txn_machine.specs.RowChanges.{row_change};
+ghost use Rattle.txn_machine.specs.State.{State};
+ghost use Rattle.txn_machine.specs.Steps.{group_want};
+ghost use Rattle.txn_machine.specs.Store.{Store, schema_of};
+ghost use Rattle.txn_book.specs.Acts.{answer_of};
+ghost use Rattle.txn_book.specs.Books.{IsOpenAnd, OfOpen, total_bytes};
+ghost use Rattle.core_state.specs.declared.limits.TheConstants.{MOST_OF_TRANSACTION, MOST_OF_HISTORY};
+ghost use Rattle.core_state.specs.Stands.{Began, Holds, Told};
+ghost use Rattle.core_changes.specs.Putting.{IsFreePut, CanPut, IsFull};
+
+use crate::room::make_room;
+use core_effects::{Writing, take, write};
+use core_locks::ask_for;
+use core_state::{CoreState, MOST_OF_HISTORY, MOST_OF_TRANSACTION, fits};
+use data_past::copied_deltas;
+use iv_types::{
+    Bytes, Change, DeltaList, EngineRefusal, GroupDelta, LockMode, NoMemory, Row, SortedMaps, Want,
+    WantList, copied_perhaps,
+};
+use row_codec::point;
+use std::alloc::Global;
+use txn_book::Answer;
+
+// The change that a Put makes: of the row that is there.
+fn change_of<M: SortedMaps>(
+    core: &CoreState<M>,
+    table: u32,
+    key: &Bytes,
+    new: &Option<Row>,
+) -> Result<Change, NoMemory>
+    requires { (s : Store) × (l : Log) × (texts : List (List ℕ)) × Holds M.maps M.spare M.limit core.now s l texts × IsTable (schema_of s) table }
+    ensures place { IfOk result (λ change. (change.table ≡ table) × (change.key ≡ key.now) × (change.after ≡ new.now)) }
+    ensures before { IfOk result (λ change. (s : Store) (l : Log) (texts : List (List ℕ)) → Holds M.maps M.spare M.limit core.now s l texts → get s.rows (table, key.now) ≡ change.before) }
+{
+    let before = core.store.row(table, key.as_slice())?;
+    let after = copied_perhaps(core.alloc, new.as_ref())?;
+    let key = key.copied(core.alloc)?;
+    Ok(Change {
+        table,
+        key,
+        before,
+        after,
+    })
+}
+
+// The lock that the pay of a delta asks for.
+fn want_of(alloc: Global, delta: &GroupDelta) -> Result<WantList, NoMemory>
+    ensures { IfOk result (λ wants. wants ≡ group_want delta.now ∷ []) }
+{
+    let interval = point(alloc, &delta.group)?;
+    let mut wants = WantList::new(alloc);
+    wants.push(Want {
+        index: delta.view,
+        interval,
+        mode: LockMode::Increment,
+    })?;
+    Ok(wants)
+}
+
+// The locks that the pays of some deltas ask for.
+fn wants_of(alloc: Global, owed: &[GroupDelta]) -> Result<Vec<WantList>, NoMemory>
+    ensures { IfOk result (λ wants. wants.items ≡ map (λ d. group_want d ∷ []) owed.now) }
+{
+    let mut wants = Vec::new(alloc);
+    for delta in owed {
+        wants.push(want_of(alloc, delta)?)?;
+    }
+    Ok(wants)
+}
+
+// Why a change is refused that counts so many bytes in its session's transaction, and so many in the history, if it is.
+fn refusal<M: SortedMaps>(
+    core: &CoreState<M>,
+    session: u32,
+    bytes: u64,
+    entry_bytes: u64,
+) -> Option<EngineRefusal>
+    requires { IsOpenAnd core.now.book session (λ o. ⊤) }
+    ensures none { IfNone result (OfOpen core.now.book session (λ o. o.txn_bytes + bytes ≤ MOST_OF_TRANSACTION) × (total_bytes core.now.book + entry_bytes ≤ MOST_OF_HISTORY)) }
+    ensures some { IfSome result (IsFull core.now.book session bytes entry_bytes) }
+{
+    let kept = core.open_of(session).txn_bytes;
+    if !fits(kept, bytes, MOST_OF_TRANSACTION) {
+        return Some(EngineRefusal::TxnFull { kept, need: bytes });
+    }
+    let kept = core.book.history_bytes();
+    if !fits(kept, entry_bytes, MOST_OF_HISTORY) {
+        return Some(EngineRefusal::HistoryFull {
+            kept,
+            need: entry_bytes,
+        });
+    }
+    None
+}
+
+// Makes a change that is within the limits, whose locks are free.
+fn put_within<M: SortedMaps>(
+    core: &mut CoreState<M>,
+    session: u32,
+    change: Change,
+    wants: WantList,
+    owed: DeltaList,
+    bytes: u64,
+    entry_bytes: u64,
+) -> Result<Answer, NoMemory>
+    requires { (s : State) × CanPut M.maps M.spare M.limit s core.old session change wants owed bytes entry_bytes }
+    ensures told { IfOk result (λ said. (s : State) → CanPut M.maps M.spare M.limit s core.old session change wants owed bytes entry_bytes → Told M.maps M.spare M.limit s session (act.Put change.table change.key change.after) (answer_of said) core.new) }
+    ensures err { OnErr result ((s : State) → CanPut M.maps M.spare M.limit s core.old session change wants owed bytes entry_bytes → Began M.maps M.spare M.limit core.new s session) }
+{
+    let before = copied_perhaps(core.alloc, change.before.as_ref())?;
+    let told = DeltaList::from_vec(copied_deltas(core.alloc, owed.as_slice())?);
+    let pays = wants_of(core.alloc, owed.as_slice())?;
+    make_room(
+        core,
+        session,
+        change.table,
+        wants.as_slice().len(),
+        owed.as_slice(),
+    )?;
+    core.book.book_law();
+    core.store.catalog.number_law();
+    let ready = core.store.tables.prepare(&core.store.catalog, change)?;
+    take(core, session, wants);
+    write(
+        core,
+        session,
+        Writing {
+            ready,
+            owed: owed.into_vec(),
+            wants: pays,
+            txn_bytes: bytes,
+            history_bytes: entry_bytes,
+        },
+    );
+    Ok(Answer::Changed { before, owed: told })
+}

@@ -1,0 +1,16 @@
+pub mod Opened
+pub mod Noted
+pub mod Taken
+pub mod Reserved
+pub mod Results
+pub mod Done
+pub mod Deltas
+pub mod Paid
+pub mod Ghosted
+pub mod Gone
+pub mod Unpaid
+pub mod Entries
+pub mod Unput
+pub mod Latest
+pub mod Written
+pub mod Counted

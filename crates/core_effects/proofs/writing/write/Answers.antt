@@ -1,0 +1,30 @@
+use Rattle.std.proofs.Common.{◌+◌, sym, subst}
+use Rattle.iv_types.specs.declared.lock.Kept.{Kept}
+use Rattle.txn_machine.specs.Ghosts.{the_views}
+use Rattle.txn_machine.specs.Log.{logs}
+use Rattle.txn_machine.specs.RowChanges.{row_change}
+use Rattle.txn_machine.specs.Store.{does, Writes}
+use Rattle.txn_book.specs.Books.{Changes}
+use Rattle.txn_book.specs.Txns.{txn_of, with_put}
+use Rattle.data_store.specs.Contents.{contents_of}
+use Rattle.data_store.specs.Held.{IsHeld}
+use Rattle.data_store.specs.declared.store.DataStore.{DataStore}
+use Rattle.data_changes.specs.Effects as effect
+use Rattle.core_state.specs.Stands.{Holds}
+use Rattle.core_effects.proofs.Written.{mine, written_holds}
+use Rattle.core_effects.proofs.writing.write.Goals as goal
+
+pub returns-clause-holds : goal.returns-clause-holds
+returns-clause-holds g c = λ s l texts a h can.
+    let core = c.args.core.now in
+    let i = c.args.session in
+    let w = c.args.writing in
+    let own = mine g.M.SortedMaps.maps g.M.SortedMaps.spare g.M.SortedMaps.limit core s l texts i h w can in
+    let new = c.put-kept.new.store in
+    let rest = c.put-kept.ensures.rest in
+    let ch = row_change w.ready.kept.change in
+    subst (λ st. Holds g.M.SortedMaps.maps g.M.SortedMaps.spare g.M.SortedMaps.limit (record core { store = st; book = c.keep.new.self; wants = c.set.new.self; next = core.next + 1 }) (does the_views s i (Writes ch.key ch.after)) (logs s i a (Writes ch.key ch.after) l) texts) (sym rest)
+    (written_holds g.M.SortedMaps.maps g.M.SortedMaps.spare g.M.SortedMaps.limit core s l texts i h w can a new.tables c.keep.new.self c.set.new.self c.put-kept.ensures.limit c.book_law.ensures c.put-kept.ensures.spare
+    (subst (λ (st : DataStore g.row.M.Denot). IsHeld st.catalog (g.M.SortedMaps.maps new.tables) st.views (effect.with_put (contents_of s) i ch w.owed.items)) rest (c.put-kept.ensures.held (contents_of s) i w.owed.items h.stored))
+    (subst (λ (k : Kept). Changes core.book c.keep.new.self i (with_put (txn_of own.txn) k core.next w.owed.items w.txn_bytes w.history_bytes)) c.put-kept.ensures.kept (c.keep.ensures own.txn own.there))
+    c.set.ensures.own c.set.ensures.others)

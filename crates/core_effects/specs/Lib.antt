@@ -1,0 +1,4 @@
+pub mod Owing
+pub mod Underway
+pub mod Undoing
+pub mod Writing

@@ -1,0 +1,146 @@
+-- A transaction's latest kept step, and what is told where it is taken back.
+use Rattle.std.specs.Prelude.{◌≡◌, ◌≢◌, ℕ, suc, ◌+◌, ◌*◌, ◌<◌, ◌≤◌, ◌^◌, List, [], ◌∷◌, map, length, Option, Some, IsSome, refl}
+use Rattle.std.specs.Option.{unwrap_or}
+use Rattle.std.specs.List.{Contains, sum}
+use Rattle.std.specs.FinMap.{get}
+use mathlib.Core.Path.{sym, ap, subst, ◌∙◌}
+use mathlib.Core.Logic.{inl, inr}
+use Rattle.std.proofs.Common.{arith}
+use Rattle.std.proofs.lemmas.List.{length-reverse}
+use Rattle.iv_types.specs.Maps.{Map}
+use Rattle.iv_types.specs.declared.catalog.TableDef.{TableDef}
+use Rattle.table_laws.specs.Kept.{AreTrue, redo}
+use Rattle.iv_meaning.specs.Database.{Row, Rows}
+use Rattle.iv_meaning.specs.Schema.{Schema, table, numbered}
+use Rattle.iv_meaning.specs.Sound.{IsRow}
+use Rattle.lock_manager.specs.Table as table
+use Rattle.txn_machine.specs.Acts as act
+use Rattle.txn_machine.specs.Answers as answer
+use Rattle.txn_machine.specs.Counts.{most_of_transaction, kept_size, note_size}
+use Rattle.txn_machine.specs.Ghosts.{the_views}
+use Rattle.txn_machine.specs.Keeping.{KeptStep, Put, Pay, Open, changes_of, idle}
+use Rattle.txn_machine.specs.Log.{Log, logs}
+use Rattle.txn_machine.specs.Laws.{IsReached}
+use Rattle.txn_machine.specs.May.{IsOpen, MayAct, FitsUnder}
+use Rattle.txn_machine.specs.State.{State}
+use Rattle.txn_machine.specs.Store.{Store, Undoes, does, undone, now, schema_of, committed, changes_by, notes_before}
+use Rattle.txn_machine.specs.ViewLaws.{AreSound}
+use Rattle.txn_machine.proofs.Agreeing.{written_at}
+use Rattle.txn_machine.proofs.Basics.{one_same}
+use Rattle.txn_machine.proofs.Entered.{AreProper, sound_redo}
+use Rattle.txn_machine.proofs.Reached.{reached}
+use Rattle.txn_machine.proofs.Shapes.{delta_law}
+use Rattle.txn_book.specs.Opens.{open_at}
+use Rattle.txn_book.specs.Txns.{txn_of}
+use Rattle.txn_book.specs.declared.open_table.Open.{Open as BookOpen}
+use Rattle.core_state.specs.Stands.{Began, Told, Holds}
+use Rattle.core_state.specs.declared.state.CoreState.{CoreState}
+use Rattle.core_effects.specs.Undoing.{KeepsOne}
+use Rattle.core_effects.proofs.Counted.{many_same, kept_few}
+use Rattle.core_effects.proofs.Done.{told_by, begun_underway, still_underway}
+use Rattle.core_effects.proofs.Opened.{Has, own}
+use Rattle.core_pays.proofs.Answered.{next_few}
+
+-- ---- what is kept last
+
+-- a row that is there fits the table of its place
+fits_there : (objects : Schema) (rows : Rows) (key : _) (row : Option Row) → AreSound objects rows → row ≡ get rows key → (t : TableDef) → numbered objects key.0 ≡ Some (table t) → FitsUnder t key.1 row
+fits_there objects rows key Option.None sound e t is = tt
+fits_there objects rows key (Some row) sound e t is =
+    let r : IsRow objects key row = sound.rows key row (sym e) in
+    let one : Some (table r.of) ≡ Some (table t) = sym r.table_is ∙ is in
+    let same : r.of ≡ t = cc in
+    subst (λ (x : TableDef). FitsUnder x key.1 (Some row)) same (r.key, r.fits)
+
+module _ (s : State) (r : IsReached s) (i : ℕ) (o : IsOpen s.store i) where
+  keeps : (ks : List KeptStep) → (now s.store i).kept ≡ ks → ks ≢ [] → KeepsOne s.store i
+  keeps [] e some = absurd (some refl)
+  keeps (Pay d ∷ ks) e some = inl (record { is_open = o; latest = d; earlier = ks; kept_is = e; delta = (delta_law s r i o.of_session).1 d (subst (λ xs. Contains xs (Pay d)) (sym e) (0, omega arith, refl)) })
+  keeps (Put c ds ∷ ks) e some =
+      let good = reached s r in
+      let mine = good.each i o.of_session in
+      let cs : changes_by s.store i ≡ c ∷ changes_of ks = ap changes_of e in
+      let told : AreTrue (committed s.store).rows (c ∷ changes_of ks) = subst (AreTrue (committed s.store).rows) cs (good.stored.told i o.of_session) in
+      let proper : AreProper (schema_of s.store) (c ∷ changes_of ks) = subst (AreProper (schema_of s.store)) cs mine.proper in
+      inr (record {
+        is_open = o;
+        change = c;
+        owed = ds;
+        earlier = ks;
+        kept_is = e;
+        there = good.stored.own i c.key o.of_session (subst (λ xs. Rattle.table_laws.specs.Kept.Touches c.key xs) (sym cs) (inl refl))
+            ∙ (ap (λ xs. get (redo xs (committed s.store).rows) c.key) cs ∙ written_at (redo (changes_of ks) (committed s.store).rows) c.key c.after c.key refl);
+        before = fits_there (schema_of s.store) (redo (changes_of ks) (committed s.store).rows) c.key c.before (sound_redo (schema_of s.store) (committed s.store).rows (changes_of ks) good.sound proper.1) told.0;
+      })
+
+  pub keeps_one : o.transaction.kept ≢ [] → KeepsOne s.store i
+  keeps_one some = keeps (now s.store i).kept refl (λ none. some (sym (ap (λ x. (unwrap_or x idle).kept) o.is_open) ∙ none))
+
+-- ---- what is told
+
+-- the transaction without its latest step
+undone_kept : (s : Store) (i : ℕ) (t : Open) (k : KeptStep) (ks : List KeptStep) → (u : Open) × ((undone s i t (k ∷ ks)).open_of i ≡ Some u) × (u.kept ≡ ks)
+undone_kept s i t (Put c ds) ks = (record t { kept = ks; owed = []; back = 0; notes = notes_before (length ks) t.notes }, one_same s.open_of i (Some (record t { kept = ks; owed = []; back = 0; notes = notes_before (length ks) t.notes })) i refl, refl)
+undone_kept s i t (Pay d) ks = (record t { kept = ks; owed = d ∷ t.owed; back = t.back + 1 }, one_same s.open_of i (Some (record t { kept = ks; owed = d ∷ t.owed; back = t.back + 1 })) i refl, refl)
+
+pub latest_of : (s : Store) (i : ℕ) → KeepsOne s i → (k : KeptStep) × (ks : List KeptStep) × ((now s i).kept ≡ k ∷ ks)
+latest_of s i (inl o) = (Pay o.latest, o.earlier, o.kept_is)
+latest_of s i (inr o) = (Put o.change o.owed, o.earlier, o.kept_is)
+
+module _ {M : Type 0} (maps : M → ℕ → Map) (spare : M → ℕ → ℕ) (limit : M → Option ℕ) (core new : CoreState M) (s : State) (i : ℕ) (h : Began maps spare limit core s i) (may : MayAct s.store i act.UndoOne) where
+  abbrev the_open : IsOpen s.store i
+  the_open = may.0
+
+  pub keeps_here : KeepsOne s.store i
+  keeps_here = keeps_one s h.reached i the_open may.1
+
+  abbrev latest : KeptStep
+  latest = (latest_of s.store i keeps_here).0
+
+  abbrev pub earlier : List KeptStep
+  earlier = (latest_of s.store i keeps_here).1
+
+  kept_is : (now s.store i).kept ≡ latest ∷ earlier
+  kept_is = (latest_of s.store i keeps_here).2
+
+  abbrev after : Store
+  after = does the_views s.store i Undoes
+
+  open_after : (u : Open) × (after.open_of i ≡ Some u) × (u.kept ≡ earlier)
+  open_after =
+      let u = undone_kept s.store i (now s.store i) latest earlier in
+      (u.0, ap (λ ks. (undone s.store i (now s.store i) ks).open_of i) kept_is ∙ u.1, u.2)
+
+  module _ (l : Log) (holds : Holds maps spare limit new after l s.definitions) where
+    mine : Has (schema_of after) (open_at new.book.opens i) (now after i) (l.logged i)
+    mine = own maps spare limit new after l s.definitions i holds (record { of_session = the_open.of_session; transaction = open_after.0; is_open = open_after.1 })
+
+    pub is_there : IsSome (open_at new.book.opens i)
+    is_there = subst IsSome (sym mine.there) refl
+
+    many : (t : BookOpen) → open_at new.book.opens i ≡ Some t → length t.kept.items ≡ length (now after i).kept
+    many t there =
+        let one : Some t ≡ Some mine.txn = sym there ∙ mine.there in
+        let same : t ≡ mine.txn = cc in
+        ap (λ (x : BookOpen). length x.kept.items) same ∙ (sym (length-reverse mine.txn.kept.items) ∙ many_same (txn_of mine.txn).kept (now after i).kept (l.logged i).kept mine.is.kept)
+
+    pub left_is : (t : BookOpen) → open_at new.book.opens i ≡ Some t → length t.kept.items ≡ length earlier
+    left_is t there = many t there ∙ (ap (λ x. length (unwrap_or x idle).kept) open_after.1 ∙ ap length open_after.2)
+
+    pub few_left : length earlier < 2 ^ 32
+    few_left =
+        let before : Has (schema_of s.store) (open_at core.book.opens i) (now s.store i) (s.log.logged i) = own maps spare limit core s.store s.log s.definitions i h.holds the_open in
+        let small : before.txn.txn_bytes ≤ most_of_transaction = (h.holds.rooms.each i the_open.of_session before.txn before.there).small in
+        let bytes : before.txn.txn_bytes ≡ sum (map (note_size (schema_of s.store)) (now s.store i).notes) + sum (map (kept_size (schema_of s.store)) (now s.store i).kept) = before.is.txn_bytes in
+        let few : 128 * (length (now s.store i).kept + length (now s.store i).owed) ≤ sum (map (kept_size (schema_of s.store)) (now s.store i).kept) = kept_few (schema_of s.store) (now s.store i).kept (now s.store i).owed ((reached s h.reached).each i the_open.of_session).settled in
+        let one : length (now s.store i).kept ≡ suc (length earlier) = ap length kept_is in
+        omega (arith, small, bytes, few, one)
+
+  pub undone_told : new ≡ record core { store = new.store; book = new.book; next = new.next } → (left : ℕ) → left ≡ length earlier → Holds maps spare limit new after (logs s.store i act.UndoOne Undoes s.log) s.definitions
+      → Told maps spare limit s i act.UndoOne (answer.Undone left) new
+  undone_told rest left left_is holds =
+      told_by maps spare limit new s i
+      (still_underway maps spare limit core new s i (begun_underway maps spare limit core s i h)
+      (record { steps = ap (λ (x : CoreState M). x.steps) rest; seats = ap (λ (x : CoreState M). x.seats) rest; cleaner = ap (λ (x : CoreState M). x.cleaner) rest; stop = ap (λ (x : CoreState M). x.stop) rest })
+      (λ js. ap (λ (x : CoreState M). table.waiting_of x.locks i) rest ∙ h.own js) (λ j n. ap (λ (x : CoreState M). table.waiting_of x.locks j) rest))
+      act.UndoOne (answer.Undone left) (Undoes ∷ []) (record { latest = latest; earlier = earlier; kept_is = kept_is; left_is = left_is; effects = refl }) holds refl refl (omega arith) (next_few (schema_of s.store) _ _)

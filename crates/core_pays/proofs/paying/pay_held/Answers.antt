@@ -1,0 +1,69 @@
+use Rattle.std.proofs.Common.{◌≡◌, ◌<◌, ◌^◌, length, sym, ap, subst, ◌∙◌, arith}
+use Rattle.lock_manager.specs.Table as table
+use Rattle.txn_machine.specs.Acts as act
+use Rattle.txn_machine.specs.Log.{logs}
+use Rattle.txn_machine.specs.Store.{Pays}
+use Rattle.core_state.specs.Stands.{Told}
+use Rattle.core_state.specs.declared.state.CoreState.{CoreState}
+use Rattle.core_effects.proofs.Done.{still_underway}
+use Rattle.core_pays.proofs.Answered.{between, log_between, the_first, is_there, left_is, few_left, paid_told, unpaid_told}
+use Rattle.core_pays.proofs.paying.pay_held.Goals as goal
+
+pub pay_first-requires-clause-owes : goal.pay_first-requires-clause-owes
+pay_first-requires-clause-owes g c κs within =
+    let core = c.args.core.now in
+    let s = c.requires.0 in
+    let h = c.requires.1 in
+    (between g.M.SortedMaps.maps g.M.SortedMaps.spare g.M.SortedMaps.limit core s c.args.session h, log_between g.M.SortedMaps.maps g.M.SortedMaps.spare g.M.SortedMaps.limit core s c.args.session h, s.definitions, h.holds, the_first g.M.SortedMaps.maps g.M.SortedMaps.spare g.M.SortedMaps.limit core s c.args.session h)
+
+pub open_of-requires-after_bounds : goal.open_of-requires-after_bounds
+open_of-requires-after_bounds g c κs within =
+    let core = c.args.core.now in
+    let i = c.args.session in
+    let s = c.requires.0 in
+    let h = c.requires.1 in
+    let b = between g.M.SortedMaps.maps g.M.SortedMaps.spare g.M.SortedMaps.limit core s i h in
+    let l = log_between g.M.SortedMaps.maps g.M.SortedMaps.spare g.M.SortedMaps.limit core s i h in
+    is_there g.M.SortedMaps.maps g.M.SortedMaps.spare g.M.SortedMaps.limit core s i h c.pay_first.new.core (logs b i act.Pay Pays l) (c.in-Ok.ensures.paid b l s.definitions act.Pay h.holds (the_first g.M.SortedMaps.maps g.M.SortedMaps.spare g.M.SortedMaps.limit core s i h))
+
+pub overflow_cast-result : goal.overflow_cast-result
+overflow_cast-result g c =
+    let core = c.args.core.now in
+    let i = c.args.session in
+    let s = c.requires.0 in
+    let h = c.requires.1 in
+    let b = between g.M.SortedMaps.maps g.M.SortedMaps.spare g.M.SortedMaps.limit core s i h in
+    let l = log_between g.M.SortedMaps.maps g.M.SortedMaps.spare g.M.SortedMaps.limit core s i h in
+    let same : length c.open_of.result.now.owed.items ≡ length h.owes.others = left_is g.M.SortedMaps.maps g.M.SortedMaps.spare g.M.SortedMaps.limit core s i h c.pay_first.new.core (logs b i act.Pay Pays l) (c.in-Ok.ensures.paid b l s.definitions act.Pay h.holds (the_first g.M.SortedMaps.maps g.M.SortedMaps.spare g.M.SortedMaps.limit core s i h)) c.open_of.result.now c.open_of.ensures in
+    let few : length h.owes.others < 2 ^ 32 = few_left g.M.SortedMaps.maps g.M.SortedMaps.spare g.M.SortedMaps.limit core s i h in
+    let is : c.len.result ≡ length c.open_of.result.now.owed.items = c.len.ensures ∙ c.open_of.result.now.owed.ok.0 in
+    omega (arith, same, few, is)
+
+pub returns-in-Ok : goal.returns-in-Ok
+returns-in-Ok g c = λ s h.
+    let core = c.args.core.now in
+    let i = c.args.session in
+    let b = between g.M.SortedMaps.maps g.M.SortedMaps.spare g.M.SortedMaps.limit core s i h in
+    let l = log_between g.M.SortedMaps.maps g.M.SortedMaps.spare g.M.SortedMaps.limit core s i h in
+    let rest = c.pay_first.ensures.rest in
+    let holds = c.in-Ok.ensures.paid b l s.definitions act.Pay h.holds (the_first g.M.SortedMaps.maps g.M.SortedMaps.spare g.M.SortedMaps.limit core s i h) in
+    let allowed = c.in-Ok.ensures.allowed b l s.definitions (the_first g.M.SortedMaps.maps g.M.SortedMaps.spare g.M.SortedMaps.limit core s i h) h.holds in
+    paid_told g.M.SortedMaps.maps g.M.SortedMaps.spare g.M.SortedMaps.limit core s i h c.pay_first.new.core
+    (still_underway g.M.SortedMaps.maps g.M.SortedMaps.spare g.M.SortedMaps.limit core c.pay_first.new.core s i h.underway
+    (record { steps = ap (λ (x : CoreState g.row.M.Denot). x.steps) rest; seats = ap (λ (x : CoreState g.row.M.Denot). x.seats) rest; cleaner = ap (λ (x : CoreState g.row.M.Denot). x.cleaner) rest; stop = ap (λ (x : CoreState g.row.M.Denot). x.stop) rest })
+    (λ js. ap (λ (x : CoreState g.row.M.Denot). table.waiting_of x.locks i) rest ∙ h.underway.own js) (λ j n. ap (λ (x : CoreState g.row.M.Denot). table.waiting_of x.locks j) rest))
+    c.len.result ((c.len.ensures ∙ c.open_of.result.now.owed.ok.0) ∙ left_is g.M.SortedMaps.maps g.M.SortedMaps.spare g.M.SortedMaps.limit core s i h c.pay_first.new.core (logs b i act.Pay Pays l) holds c.open_of.result.now c.open_of.ensures) allowed.0 allowed.1 holds
+
+pub returns-in-Err : goal.returns-in-Err
+returns-in-Err g c = λ s h.
+    let core = c.args.core.now in
+    let i = c.args.session in
+    let b = between g.M.SortedMaps.maps g.M.SortedMaps.spare g.M.SortedMaps.limit core s i h in
+    let l = log_between g.M.SortedMaps.maps g.M.SortedMaps.spare g.M.SortedMaps.limit core s i h in
+    let rest = c.pay_first.ensures.rest in
+    subst (λ m. Told g.M.SortedMaps.maps g.M.SortedMaps.spare g.M.SortedMaps.limit s i act.Pay m c.pay_first.new.core) (sym c.unpaid.ensures)
+    (unpaid_told g.M.SortedMaps.maps g.M.SortedMaps.spare g.M.SortedMaps.limit core s i h c.pay_first.new.core
+    (still_underway g.M.SortedMaps.maps g.M.SortedMaps.spare g.M.SortedMaps.limit core c.pay_first.new.core s i h.underway
+    (record { steps = ap (λ (x : CoreState g.row.M.Denot). x.steps) rest; seats = ap (λ (x : CoreState g.row.M.Denot). x.seats) rest; cleaner = ap (λ (x : CoreState g.row.M.Denot). x.cleaner) rest; stop = ap (λ (x : CoreState g.row.M.Denot). x.stop) rest })
+    (λ js. ap (λ (x : CoreState g.row.M.Denot). table.waiting_of x.locks i) rest ∙ h.underway.own js) (λ j n. ap (λ (x : CoreState g.row.M.Denot). table.waiting_of x.locks j) rest))
+    c.in-Err.why (c.in-Err.ensures.unpaid b l s.definitions (the_first g.M.SortedMaps.maps g.M.SortedMaps.spare g.M.SortedMaps.limit core s i h) h.holds) (c.in-Err.ensures.kept b l s.definitions (the_first g.M.SortedMaps.maps g.M.SortedMaps.spare g.M.SortedMaps.limit core s i h) h.holds))
