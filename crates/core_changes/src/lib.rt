@@ -3,3 +3,5 @@
 
 mod putting;
 mod room;
+
+pub use putting::put;

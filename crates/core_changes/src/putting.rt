@@ -142,3 +142,49 @@ fn put_within<M: SortedMaps>(
     );
     Ok(Answer::Changed { before, owed: told })
 }
+
+// Makes a change whose locks are free, where it is within the limits.
+fn put_free<M: SortedMaps>(
+    core: &mut CoreState<M>,
+    session: u32,
+    change: Change,
+    wants: WantList,
+) -> Result<Answer, NoMemory>
+    requires { (s : State) × IsFreePut M.maps M.spare M.limit s core.old session change wants }
+    ensures told { IfOk result (λ said. (s : State) → IsFreePut M.maps M.spare M.limit s core.old session change wants → Told M.maps M.spare M.limit s session (act.Put change.table change.key change.after) (answer_of said) core.new) }
+    ensures err { OnErr result ((s : State) → IsFreePut M.maps M.spare M.limit s core.old session change wants → Began M.maps M.spare M.limit core.new s session) }
+{
+    core.book.book_law();
+    let owed = core.store.owed(&change)?;
+    let bytes = core.store.put_size(&change, owed.as_slice());
+    let entry_bytes = core.store.kept_change_size(&change);
+    match refusal(core, session, bytes, entry_bytes) {
+        Some(why) => Ok(Answer::Refused(why)),
+        None => put_within(core, session, change, wants, owed, bytes, entry_bytes),
+    }
+}
+
+/// Makes a row of a table the new one under its key, or takes it away, where nobody is in the way of its locks and it is within the
+/// limits.
+///
+/// # Errors
+///
+/// Where there is no memory for it. Nothing is changed then but room.
+pub fn put<M: SortedMaps>(
+    core: &mut CoreState<M>,
+    session: u32,
+    table: u32,
+    key: &Bytes,
+    new: &Option<Row>,
+) -> Result<Answer, NoMemory>
+    requires { (s : State) × Began M.maps M.spare M.limit core.old s session × MayAct s.store session (act.Put table key.now new.now) }
+    ensures told { IfOk result (λ said. (s : State) → Began M.maps M.spare M.limit core.old s session → MayAct s.store session (act.Put table key.now new.now) → Told M.maps M.spare M.limit s session (act.Put table key.now new.now) (answer_of said) core.new) }
+    ensures err { OnErr result ((s : State) → Began M.maps M.spare M.limit core.old s session → MayAct s.store session (act.Put table key.now new.now) → Began M.maps M.spare M.limit core.new s session) }
+{
+    let change = change_of(core, table, key, new)?;
+    let wants = core.store.put_wants(&change)?;
+    match ask_for(core, session, wants) {
+        Ok(wants) => put_free(core, session, change, wants),
+        Err(said) => Ok(said),
+    }
+}

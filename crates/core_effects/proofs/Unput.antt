@@ -106,14 +106,17 @@ module _ {M : Type 0} (maps : M → ℕ → Map) (spare : M → ℕ → ℕ) (li
       let t : TableDef = is.0 in
       let here : table_of core.store.catalog t.number ≡ Some t = its_number core.store.catalog are last.kept.change.table t is.1 in
       let same_number : t.number ≡ last.kept.change.table = number_is t last.kept.change.table is.1 are in
-      let before : FitsUnder t last.kept.change.key last.kept.change.before = subst (λ (c : RowChange). FitsUnder t c.key.1 c.before) (sym last.change) (o.before t (table_there t is.1)) in
-      (t, is.1, record {
-        is_kept = is.2;
-        there = record { rows = s.rows; held = h.stored.tables t here; is = subst (λ n. get s.rows (n, last.kept.change.key) ≡ last.kept.change.after) (sym same_number) (subst (λ (c : RowChange). get s.rows c.key ≡ c.after) (sym last.change) o.there) };
-        row_before = stands_under t last.kept.change.key last.kept.change.before before;
-        can_hold = subst Rattle.table_store.specs.Changes.CanHoldEach (sym is.2.removed) (each_held core.store.catalog are h.rooms.limited t here last.kept.change.key last.kept.change.before last.kept.change.after (stands_under t last.kept.change.key last.kept.change.before before));
-        room = record { places = λ n. let fits = gone_fits n in omega (arith, fits); within = subst (λ m. IsWithin m (used (maps core.store.tables) + sizes last.kept.gone - sizes last.kept.made)) (sym h.rooms.unlimited) tt };
-      })
+      let before : FitsUnder t last.kept.change.key last.kept.change.before = subst (λ (c : RowChange). FitsUnder t c.key.1 c.before) (sym last.change) (o.before t (table_there t is.1)) in (
+        t,
+        is.1,
+        record {
+          is_kept = is.2;
+          there = record { rows = s.rows; held = h.stored.tables t here; is = subst (λ n. get s.rows (n, last.kept.change.key) ≡ last.kept.change.after) (sym same_number) (subst (λ (c : RowChange). get s.rows c.key ≡ c.after) (sym last.change) o.there) };
+          row_before = stands_under t last.kept.change.key last.kept.change.before before;
+          can_hold = subst Rattle.table_store.specs.Changes.CanHoldEach (sym is.2.removed) (each_held core.store.catalog are h.rooms.limited t here last.kept.change.key last.kept.change.before last.kept.change.after (stands_under t last.kept.change.key last.kept.change.before before));
+          room = record { places = λ n. let fits = gone_fits n in omega (arith, fits); within = subst (λ m. IsWithin m (used (maps core.store.tables) + sizes last.kept.gone - sizes last.kept.made)) (sym h.rooms.unlimited) tt };
+        },
+      )
     where
       number_is : (t : TableDef) (n : ℕ) → table_of core.store.catalog n ≡ Some t → AreNumbered core.store.catalog → t.number ≡ n
       number_is t n e are = Rattle.table_store.proofs.TableIndexes.table_number core.store.catalog n t are e

@@ -35,7 +35,7 @@ pub fn write<M: SortedMaps>(core: &mut CoreState<M>, session: u32, writing: Writ
     requires can { (s : Store) × (l : Log) × (texts : List (List ℕ)) × Holds M.maps M.spare M.limit core.old s l texts × CanWrite M.maps M.spare M.limit s core.old session writing }
     ensures holds { (s : Store) (l : Log) (texts : List (List ℕ)) (a : Act) → Holds M.maps M.spare M.limit core.old s l texts → CanWrite M.maps M.spare M.limit s core.old session writing
         → Holds M.maps M.spare M.limit core.new (does the_views s session (Writes (writing.ready.kept.change.table, writing.ready.kept.change.key) writing.ready.kept.change.after))
-            (logs s session a (Writes (writing.ready.kept.change.table, writing.ready.kept.change.key) writing.ready.kept.change.after) l) texts }
+        (logs s session a (Writes (writing.ready.kept.change.table, writing.ready.kept.change.key) writing.ready.kept.change.after) l) texts }
     ensures rest { core.new ≡ record core.old { store = record core.old.store { tables = core.new.store.tables }; book = core.new.book; wants = core.new.wants; next = core.new.next } }
 {
     core.book.book_law();

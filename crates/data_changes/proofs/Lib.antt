@@ -3,3 +3,4 @@ pub mod Pays
 pub mod Refusals
 pub mod Answered
 pub mod GhostMoves
+pub mod Accounts

@@ -17,7 +17,7 @@ use Rattle.data_changes.specs.Paying.{AreCommittedAt, IsRefusedWith}
 use Rattle.ghost_rows.specs.declared.view_rows.PayRefusal.TheVariants.{Escrow}
 
 -- the increments of a column are what its pays add
-increments_as : (place : Place) (column : ℕ) (ks : List KeptStep) → map (worth column) (pays_on place ks) ≡ increments place column ks
+pub increments_as : (place : Place) (column : ℕ) (ks : List KeptStep) → map (worth column) (pays_on place ks) ≡ increments place column ks
 increments_as place column [] = refl
 increments_as place column (Put c ds ∷ ks) = increments_as place column ks
 increments_as place column (Pay d ∷ ks) = by (is_for place d) (increments_as place column ks)
