@@ -1,1 +1,4 @@
 pub mod Kept
+pub mod Cleanable
+pub mod Removed
+pub mod Candidates

@@ -1,8 +1,10 @@
-//! Acts that keep the core small: Prune, and Checkpoint of a core without a disk.
+//! Acts that keep the core small: Clean, Prune, and Checkpoint of a core without a disk.
 #![tactic(auto)]
 
+mod cleaning;
 mod pruning;
 mod saving;
 
+pub use cleaning::clean;
 pub use pruning::prune;
 pub use saving::save;

@@ -1,0 +1,144 @@
+-- A ghost is removed.
+use Rattle.std.specs.Prelude.{◌≡◌, ℕ, suc, ◌+◌, ◌≤◌, ℤ, pos, List, [], ◌∷◌, map, length, get_or, Option, Some, refl}
+use Rattle.std.specs.FinMap.{get}
+use mathlib.Core.Path.{sym, ap, subst, ◌∙◌}
+use mathlib.Core.Logic.{inl, inr}
+use Rattle.std.proofs.Common.{arith}
+use Rattle.std.proofs.lemmas.Int.{ints}
+use Rattle.iv_types.specs.Maps.{Map}
+use Rattle.table_laws.specs.Place.{Place}
+use Rattle.table_laws.proofs.Stored.{by_session}
+use Rattle.iv_meaning.specs.Escrow.{over_sessions, paid, value}
+use Rattle.iv_meaning.specs.Schema.{view}
+use Rattle.query_laws.specs.Limited.{IsLimited}
+use Rattle.query_laws.proofs.Widths.{width_law}
+use Rattle.lock_manager.specs.Table as table
+use Rattle.ghost_rows.specs.State.{State as ViewState, HasSeat, room_of}
+use Rattle.txn_machine.specs.Acts as act
+use Rattle.txn_machine.specs.Answers as answer
+use Rattle.txn_machine.specs.Counts.{definition_sizes}
+use Rattle.txn_machine.specs.Deltas.{worth}
+use Rattle.txn_machine.specs.Fresh.{fresh}
+use Rattle.txn_machine.specs.Ghosts.{the_views, account_of, IsCleanable, IsFirstCleanable}
+use Rattle.txn_machine.specs.Keeping.{increments, idle}
+use Rattle.txn_machine.specs.Locks.{with_one}
+use Rattle.txn_machine.specs.Log.{Within, logs, reserved}
+use Rattle.txn_machine.specs.Records.{group_bytes}
+use Rattle.txn_machine.specs.State.{State}
+use Rattle.txn_machine.specs.Stored.{IsStoredRow, stored_number, zeros}
+use Rattle.txn_machine.specs.Store.{now, schema_of, committed, does, Cleans}
+use Rattle.txn_machine.proofs.Basics.{one_same, one_other}
+use Rattle.txn_machine.proofs.Bounds.{over_zero}
+use Rattle.txn_machine.proofs.Columns.{number_in_row}
+use Rattle.txn_machine.proofs.LogRoom.{logs_logged}
+use Rattle.txn_machine.proofs.Looking.{view_laws}
+use Rattle.txn_machine.proofs.Reached.{stored_law}
+use Rattle.txn_machine.proofs.Seats.{session_or, nobody_open}
+use Rattle.txn_machine.proofs.Shapes.{stored_row_law}
+use Rattle.txn_book.specs.Holding as book
+use Rattle.data_store.specs.Contents.{contents_of, pays_on}
+use Rattle.data_store.specs.Held.{IsHeld}
+use Rattle.data_changes.specs.Effects.{without_ghost}
+use Rattle.data_changes.specs.Ghosts.{HasGhost}
+use Rattle.data_changes.proofs.Accounts.{increments_as}
+use Rattle.core_state.specs.Rooms.{HasRooms}
+use Rattle.core_state.specs.Stands.{Told, Holds}
+use Rattle.core_state.specs.declared.state.CoreState.{CoreState}
+use Rattle.core_state.proofs.Unchanged.{unchanged_told}
+use Rattle.core_effects.proofs.Done.{AreUncounted, done_told}
+use Rattle.core_upkeep.specs.Cleaning.{HasPast}
+use Rattle.core_upkeep.proofs.Cleanable.{some_of, map_nil}
+
+-- numbers that are all 0 are a row of zeros
+all_zeros : (ns : List ℤ) → ((at : ℕ) → get_or ns at (pos 0) ≡ pos 0) → ns ≡ zeros (length ns)
+all_zeros [] h = refl
+all_zeros (n ∷ ns) h = λ i. h 0 i ∷ all_zeros ns (λ at. h (suc at)) i
+
+module _ {M : Type 0} (maps : M → ℕ → Map) (spare : M → ℕ → ℕ) (limit : M → Option ℕ) (core : CoreState M) (s : State) (h : HasPast maps spare limit core s) (place : Place) (c : IsCleanable s.store place) where
+  abbrev numbers : List ℤ
+  numbers = (some_of (get s.store.view place) c.ghost.stored).0
+
+  there : get s.store.view place ≡ Some numbers
+  there = (some_of (get s.store.view place) c.ghost.stored).1
+
+  pub row_is : IsStoredRow (schema_of s.store) place numbers
+  row_is = stored_row_law s h.began.reached place numbers there
+
+  -- no session keeps a pay on it
+  unpaid : (j : ℕ) → pays_on place (now s.store j).kept ≡ []
+  unpaid j = elim (session_or j) [
+    | inl js ↦ map_nil (worth 0) (pays_on place (now s.store j).kept) (increments_as place 0 (now s.store j).kept ∙ c.no_pays j js)
+    | inr n ↦ ap (λ o. pays_on place (Rattle.std.specs.Option.unwrap_or o idle).kept) (nobody_open s h.began.reached j n)
+  ]
+
+  -- its numbers are all 0
+  number_is : (column : ℕ) → get_or numbers column (pos 0) ≡ pos 0
+  number_is column =
+      let stored : stored_number s.store.view place column ≡ value (account_of s.store place column) = stored_law s h.began.reached place column in
+      let fresh_is : fresh (schema_of s.store) (committed s.store).rows place column ≡ pos 0 = view_laws.none (schema_of s.store) (committed s.store).rows place c.ghost.count column in
+      let kept : over_sessions (λ j. paid (increments place column (now s.store j).kept)) ≡ pos 0 =
+      over_zero (λ j. paid (increments place column (now s.store j).kept)) (λ j js. ap paid (sym (increments_as place column (now s.store j).kept) ∙ ap (map (worth column)) (unpaid j))) in
+      let here : stored_number s.store.view place column ≡ get_or numbers column (pos 0) = ap (number_in_row column) there in
+      omega (arith, ints, stored, fresh_is, kept, here)
+
+  pub has_ghost : HasGhost core.store.catalog (maps core.store.tables) core.store.views place (contents_of s.store)
+  has_ghost = record {
+    held = h.began.holds.stored;
+    of = row_is.of;
+    is = row_is.view_is;
+    zero = there ∙ ap Some (all_zeros numbers number_is ∙ ap zeros row_is.width);
+    unpaid = unpaid;
+  }
+
+  -- its key is short
+  pub key_fits : length place.1 ≤ 1024
+  key_fits =
+      let limited : IsLimited (schema_of s.store) = subst IsLimited h.began.holds.stored.objects h.began.holds.rooms.limited in
+      let most = (limited.narrow place.0 (view row_is.of) row_is.view_is).0 in
+      let bytes = (width_law _ row_is.group row_is.fits).1 in
+      let same : length place.1 ≡ length (Rattle.iv_types.specs.Encoding.key_bytes _ row_is.group) = ap length row_is.key in
+      omega (arith, most, bytes, same)
+
+  module _ (tables : M) (views : ViewState) (same_limit : limit tables ≡ limit core.store.tables) (rows : views.rows ≡ core.store.views.rows) (rooms : views.rooms ≡ core.store.views.rooms) (spares : (n : ℕ) → spare core.store.tables n ≤ spare tables n) where
+    rooms_left : HasRooms (spare tables) (limit tables) core.store.catalog views core.book.opens core.locks core.wants
+    rooms_left = record {
+      unlimited = same_limit ∙ h.began.holds.rooms.unlimited;
+      limited = h.began.holds.rooms.limited;
+      undo = λ n. let had = h.began.holds.rooms.undo n in let more = spares n in omega (arith, had, more);
+      each = λ j js t at. let r = h.began.holds.rooms.each j js t at in record {
+        wanted = r.wanted;
+        buffers = let same : room_of views j ≡ room_of core.store.views j = ap (λ rs. get_or rs j 0) rooms in omega (arith, r.buffers, same);
+        seats = λ d has. subst (λ rs. HasSeat (record views { rows = rs }) (Rattle.txn_machine.specs.Deltas.place_of d) j) (sym rows) (r.seats d has);
+        kept = r.kept;
+        small = r.small;
+      };
+    }
+
+    as_logged : (j : ℕ) → with_one s.log.logged 0 (s.log.logged 0) j ≡ s.log.logged j
+    as_logged j = by_session j 0 (λ e. one_same s.log.logged 0 (s.log.logged 0) j e ∙ ap s.log.logged (sym e)) (λ n. one_other s.log.logged 0 (s.log.logged 0) j n)
+
+    pub removed_holds : IsHeld core.store.catalog (maps tables) views (without_ghost (contents_of s.store) place)
+        → Holds maps spare limit (record core { store = record core.store { tables = tables; views = views }; next = core.next + 1 }) (does the_views s.store 0 (Cleans place)) (logs s.store 0 act.Clean (Cleans place) s.log) s.definitions
+    removed_holds stored = record {
+      stored = stored;
+      book = subst (λ f. book.Holds core.book (schema_of s.store) s.store.open_of f s.store.history (committed s.store).number (definition_sizes s.definitions)) (sym (logs_logged s.store 0 act.Clean (Cleans place) s.log ∙ (λ x j. as_logged j x))) h.began.holds.book;
+      locks = h.began.holds.locks;
+      begun = h.began.holds.begun;
+      next = ap (λ n. n + 1) h.began.holds.next;
+      row_mark = h.began.holds.row_mark;
+      delta_mark = h.began.holds.delta_mark;
+      rooms = rooms_left;
+    }
+
+-- ---- what is told
+
+module _ {M : Type 0} (maps : M → ℕ → Map) (spare : M → ℕ → ℕ) (limit : M → Option ℕ) (core : CoreState M) (s : State) (h : HasPast maps spare limit core s) where
+  pub none_told : ((place : Place) → IsCleanable s.store place → ⊥) → Told maps spare limit s 0 act.Clean (answer.Cleaned 0) core
+  none_told none = unchanged_told maps spare limit core s 0 act.Clean (answer.Cleaned 0) h.began (none, refl) refl refl refl refl
+
+  pub removed_told : (new : CoreState M) (place : Place) → IsFirstCleanable s.store place → Holds maps spare limit new (does the_views s.store 0 (Cleans place)) (logs s.store 0 act.Clean (Cleans place) s.log) s.definitions
+      → AreUncounted core new → ((j : ℕ) → table.waiting_of new.locks j ≡ table.waiting_of core.locks j) → Told maps spare limit s 0 act.Clean (answer.Cleaned 1) new
+  removed_told new place first holds same others =
+      done_told maps spare limit core new s 0 h.began act.Clean (answer.Cleaned 1) (Cleans place ∷ [])
+      (place, first, refl, subst (λ o. Within o.log_limit (s.log.used + reserved s.store s.log + group_bytes place)) (sym h.began.opening) tt)
+      holds same (λ js. others 0 ∙ h.began.own js) (λ j js n. others j ∙ h.began.waiting j js n) refl refl (omega arith) (omega arith)
