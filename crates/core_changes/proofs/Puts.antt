@@ -1,75 +1,57 @@
 -- What is known of a Put, and of the change that it makes.
-use Rattle.std.specs.Prelude.{◌≡◌, ◌≢◌, ℕ, zero, suc, ◌+◌, ◌*◌, ◌-◌, ◌<◌, ◌≤◌, ◌^◌, List, [], ◌∷◌, ◌++◌, map, length, reverse, Option, None, Some, IfSome, IsSome, refl}
-use Rattle.std.specs.Option.{unwrap_or}
-use Rattle.std.specs.List.{Contains, sum}
+use Rattle.std.specs.Prelude.{◌≡◌, ℕ, zero, suc, ◌+◌, ◌-◌, ◌≤◌, List, [], ◌∷◌, length, Option, None, Some, IfSome, refl}
 use Rattle.std.specs.FinMap.{get}
 use mathlib.Core.Path.{sym, ap, subst, ◌∙◌}
 use Rattle.std.proofs.Common.{arith}
-use Rattle.std.proofs.lemmas.List.{length-reverse}
 use Rattle.std.proofs.lemmas.List.Sums.{sum_by-cons}
-use Rattle.iv_types.specs.Maps.{Map, IsWithin, used}
+use Rattle.iv_types.specs.Maps.{Map}
 use Rattle.iv_types.specs.Definitions.{AreNumbered}
-use Rattle.iv_types.specs.declared.catalog.IndexDef.{IndexDef}
 use Rattle.iv_types.specs.declared.catalog.TableDef.{TableDef}
 use Rattle.iv_types.specs.declared.lock.Change.{Change}
 use Rattle.iv_types.specs.declared.lock.GroupDelta.{GroupDelta}
-use Rattle.iv_types.specs.declared.lock.Kept.{Kept}
 use Rattle.iv_types.specs.declared.lock.Want.{Want}
-use Rattle.iv_types.specs.declared.statement.Mode.TheVariants.{Serial}
 use Rattle.iv_meaning.specs.Database.{Row}
-use Rattle.iv_meaning.specs.Objects as defined
 use Rattle.iv_meaning.specs.Schema.{numbered, table}
 use Rattle.iv_meaning.specs.Sound.{IsTable, IsRow}
-use Rattle.query_laws.specs.Limited.{IsLimited}
-use Rattle.lock_manager.specs.Table as lock
-use Rattle.table_store.specs.Stored.{table_of, IsTableAnd, OfTable, StandsUnder, IsIndexOf}
-use Rattle.table_store.specs.Changes.{IsKept, IsChange, CanHoldEach, made_by, gone_by, how_many, sizes}
+use Rattle.table_store.specs.Stored.{table_of, IsTableAnd, StandsUnder}
+use Rattle.table_store.specs.Changes.{made_by, how_many}
 use Rattle.table_store.specs.Readying.{IsReady, HasPlaces}
 use Rattle.table_store.specs.Readying as ready
 use Rattle.table_store.proofs.Changing.{places_for}
 use Rattle.table_store.proofs.Held.{of_table}
-use Rattle.table_store.proofs.TableIndexes.{table_number}
-use Rattle.txn_machine.specs.Acts as act
-use Rattle.txn_machine.specs.Counts.{put_size, kept_change_size, delta_size, most_of_transaction, most_of_history, transaction_size}
-use Rattle.txn_machine.specs.Deltas.{RowChange, owed}
+use Rattle.txn_machine.specs.Counts.{put_size, most_of_transaction}
+use Rattle.txn_machine.specs.Deltas.{RowChange}
 use Rattle.txn_machine.specs.Ghosts.{the_views}
-use Rattle.txn_machine.specs.Keeping.{Open, idle}
 use Rattle.txn_machine.specs.KeptLaws.{IsDelta}
-use Rattle.txn_machine.specs.Locks.{with_one}
-use Rattle.txn_machine.specs.May.{IsOpen, IsReady as MayGoOn, MayPut, FitsUnder}
+use Rattle.txn_machine.specs.May.{IsOpen, MayPut, FitsUnder}
 use Rattle.txn_machine.specs.RowChanges.{row_change}
 use Rattle.txn_machine.specs.State.{State}
-use Rattle.txn_machine.specs.Steps.{IsFree, asked, put_owed, put_wants}
-use Rattle.txn_machine.specs.Store.{Store, Takes, does, now, schema_of, committed, change_at, notes_before}
+use Rattle.txn_machine.specs.Steps.{put_owed}
+use Rattle.txn_machine.specs.Store.{Store, schema_of, committed, change_at}
 use Rattle.txn_machine.specs.ViewLaws.{AreSound, IsRight}
-use Rattle.txn_machine.proofs.Basics.{one_same}
 use Rattle.txn_machine.proofs.Entered.{IsProper, sound_after}
 use Rattle.txn_machine.proofs.Good.{stored_sound}
 use Rattle.txn_machine.specs.Fresh.{fresh}
 use Rattle.txn_machine.proofs.Looking.{view_laws}
 use Rattle.txn_machine.proofs.Reached.{reached}
 use Rattle.txn_machine.proofs.Shapes.{owed_are}
-use Rattle.txn_machine.proofs.Standing.{notes_stand}
 use Rattle.txn_machine.proofs.Ranging.{all_contains}
-use Rattle.txn_book.specs.Books.{IsBook, IsOpenAnd, CanKeep, open_changes, puts_of, total_bytes}
+use Rattle.txn_book.specs.Books.{IsBook, open_changes, puts_of}
 use Rattle.txn_book.specs.Opens.{open_at}
-use Rattle.txn_book.specs.Txns.{txn_of, changes_in}
+use Rattle.txn_book.specs.Txns.{txn_of}
 use Rattle.txn_book.specs.declared.open_table.Open.{Open as BookOpen}
 use Rattle.txn_book.proofs.Booking.{has_place}
-use Rattle.data_store.specs.Contents.{Contents, contents_of}
+use Rattle.data_store.specs.Contents.{contents_of}
 use Rattle.data_store.specs.Reading.{CanChange}
-use Rattle.view_delta.specs.Owing as view
 use Rattle.core_state.specs.Rooms.{CanBeTakenBack, all_gone, gone_if}
-use Rattle.core_state.specs.Stands.{Began, Holds}
+use Rattle.core_state.specs.Stands.{Holds}
 use Rattle.core_state.specs.declared.state.CoreState.{CoreState}
 use Rattle.core_state.proofs.Sessions.{of_ready}
 use Rattle.core_effects.proofs.Counted.{many_deltas}
-use Rattle.core_effects.proofs.Entries.{each_held}
-use Rattle.core_effects.proofs.Gone.{its_number, steps_gone}
-use Rattle.core_changes.specs.Putting.{IsFreePut, CanPut}
-use Rattle.core_changes.specs.Room.{AreDeltas, HasRoom}
+use Rattle.core_effects.proofs.Gone.{steps_gone}
+use Rattle.core_changes.specs.Putting.{IsFreePut}
+use Rattle.core_changes.specs.Room.{AreDeltas}
 use Rattle.core_changes.proofs.Few.{few_wants}
-use Rattle.core_changes.proofs.Making.{mine}
 use Rattle.core_changes.proofs.Roomier.{limited_here}
 
 module _ {M : Type 0} (maps : M → ℕ → Map) (spare : M → ℕ → ℕ) (limit : M → Option ℕ) (core : CoreState M) (s : State) (i : ℕ) (change : Change) (wants : List Want) (p : IsFreePut maps spare limit s core i change wants) where

@@ -1,79 +1,48 @@
 -- A Put that is within the limits, in a core that has room for it.
-use Rattle.std.specs.Prelude.{◌≡◌, ◌≢◌, ℕ, zero, suc, ◌+◌, ◌*◌, ◌-◌, ◌<◌, ◌≤◌, ◌^◌, List, [], ◌∷◌, ◌++◌, map, length, reverse, Option, None, Some, IfSome, IsSome, refl}
+use Rattle.std.specs.Prelude.{◌≡◌, ◌≢◌, ℕ, ◌+◌, ◌*◌, ◌-◌, ◌≤◌, List, [], ◌∷◌, ◌++◌, map, length, reverse, Option, Some, refl}
 use Rattle.std.specs.Option.{unwrap_or}
-use Rattle.std.specs.List.{Contains, sum}
+use Rattle.std.specs.List.{Contains}
 use Rattle.std.specs.FinMap.{get}
 use mathlib.Core.Path.{sym, ap, subst, ◌∙◌}
 use Rattle.std.proofs.Common.{arith}
 use Rattle.std.proofs.lemmas.List.{length-reverse}
-use Rattle.std.proofs.lemmas.List.Sums.{sum_by-cons}
 use Rattle.iv_types.specs.Maps.{Map, IsWithin, used}
 use Rattle.iv_types.specs.Definitions.{AreNumbered}
-use Rattle.iv_types.specs.declared.catalog.IndexDef.{IndexDef}
 use Rattle.iv_types.specs.declared.catalog.TableDef.{TableDef}
 use Rattle.iv_types.specs.declared.lock.Change.{Change}
 use Rattle.iv_types.specs.declared.lock.GroupDelta.{GroupDelta}
 use Rattle.iv_types.specs.declared.lock.Kept.{Kept}
 use Rattle.iv_types.specs.declared.lock.Want.{Want}
-use Rattle.iv_types.specs.declared.statement.Mode.TheVariants.{Serial}
-use Rattle.iv_meaning.specs.Database.{Row}
-use Rattle.iv_meaning.specs.Objects as defined
-use Rattle.iv_meaning.specs.Schema.{numbered, table}
-use Rattle.iv_meaning.specs.Sound.{IsTable, IsRow}
-use Rattle.query_laws.specs.Limited.{IsLimited}
 use Rattle.lock_manager.specs.Table as lock
-use Rattle.table_store.specs.Stored.{table_of, IsTableAnd, OfTable, StandsUnder, IsIndexOf}
-use Rattle.table_store.specs.Changes.{IsKept, IsChange, CanHoldEach, made_by, gone_by, how_many, sizes}
-use Rattle.table_store.specs.Readying.{IsReady, HasPlaces}
-use Rattle.table_store.specs.Readying as ready
-use Rattle.table_store.proofs.Changing.{places_for}
-use Rattle.table_store.proofs.Held.{of_table}
+use Rattle.table_store.specs.Stored.{table_of, OfTable}
+use Rattle.table_store.specs.Changes.{IsKept, IsChange, made_by, gone_by, how_many, sizes}
+use Rattle.table_store.specs.Readying.{HasPlaces}
 use Rattle.table_store.proofs.TableIndexes.{table_number}
 use Rattle.txn_machine.specs.Acts as act
-use Rattle.txn_machine.specs.Counts.{put_size, kept_change_size, delta_size, most_of_transaction, most_of_history, transaction_size}
-use Rattle.txn_machine.specs.Deltas.{RowChange, owed}
+use Rattle.txn_machine.specs.Counts.{put_size, kept_change_size, transaction_size}
+use Rattle.txn_machine.specs.Deltas.{RowChange}
 use Rattle.txn_machine.specs.Ghosts.{the_views}
 use Rattle.txn_machine.specs.Keeping.{Open, idle}
-use Rattle.txn_machine.specs.KeptLaws.{IsDelta}
-use Rattle.txn_machine.specs.Locks.{with_one}
-use Rattle.txn_machine.specs.May.{IsOpen, IsReady as MayGoOn, MayPut, FitsUnder}
+use Rattle.txn_machine.specs.May.{IsOpen}
 use Rattle.txn_machine.specs.RowChanges.{row_change}
 use Rattle.txn_machine.specs.State.{State}
-use Rattle.txn_machine.specs.Steps.{IsFree, asked, put_owed, put_wants}
+use Rattle.txn_machine.specs.Steps.{IsFree, put_owed}
 use Rattle.txn_machine.specs.Store.{Store, Takes, does, now, schema_of, committed, change_at, notes_before}
-use Rattle.txn_machine.specs.ViewLaws.{AreSound, IsRight}
 use Rattle.txn_machine.proofs.Basics.{one_same}
-use Rattle.txn_machine.proofs.Entered.{IsProper, sound_after}
-use Rattle.txn_machine.proofs.Good.{stored_sound}
-use Rattle.txn_machine.specs.Fresh.{fresh}
-use Rattle.txn_machine.proofs.Looking.{view_laws}
-use Rattle.txn_machine.proofs.Reached.{reached}
-use Rattle.txn_machine.proofs.Shapes.{owed_are}
 use Rattle.txn_machine.proofs.Standing.{notes_stand}
-use Rattle.txn_machine.proofs.Ranging.{all_contains}
-use Rattle.txn_book.specs.Books.{IsBook, IsOpenAnd, CanKeep, open_changes, puts_of, total_bytes}
+use Rattle.txn_book.specs.Books.{IsBook, IsOpenAnd, open_changes, total_bytes}
 use Rattle.txn_book.specs.Opens.{open_at}
 use Rattle.txn_book.specs.Txns.{txn_of, changes_in}
-use Rattle.txn_book.specs.declared.open_table.Open.{Open as BookOpen}
-use Rattle.txn_book.proofs.Booking.{has_place}
-use Rattle.data_store.specs.Contents.{Contents, contents_of}
-use Rattle.data_store.specs.Reading.{CanChange}
-use Rattle.view_delta.specs.Owing as view
-use Rattle.core_state.specs.Rooms.{CanBeTakenBack, all_gone, gone_if}
+use Rattle.core_state.specs.Rooms.{all_gone}
 use Rattle.core_state.specs.Stands.{Began, Holds}
 use Rattle.core_state.specs.declared.state.CoreState.{CoreState}
-use Rattle.core_state.proofs.Sessions.{of_ready}
-use Rattle.core_effects.proofs.Counted.{many_deltas}
 use Rattle.core_effects.proofs.Entries.{each_held}
-use Rattle.core_effects.proofs.Gone.{its_number, steps_gone}
-use Rattle.core_changes.specs.Putting.{IsFreePut, CanPut}
-use Rattle.core_changes.specs.Room.{AreDeltas, HasRoom}
-use Rattle.core_changes.proofs.Few.{few_wants}
+use Rattle.core_effects.proofs.Gone.{its_number}
+use Rattle.core_changes.specs.Putting.{CanPut}
+use Rattle.core_changes.specs.Room.{HasRoom}
 use Rattle.core_changes.proofs.Making.{mine}
-use Rattle.core_changes.proofs.Roomier.{limited_here}
 use Rattle.lock_manager.specs.Table.{Table, AddAtMost}
 use Rattle.lock_manager.proofs.Counts.{all_new}
-use Rattle.iv_meaning.specs.Escrow.{IsSession}
 use Rattle.std.proofs.lemmas.List.{nil_from_length}
 use Rattle.txn_machine.specs.Answers as answer
 use Rattle.txn_machine.specs.Log.{Within, logs}
@@ -81,16 +50,17 @@ use Rattle.txn_machine.specs.Steps.{history_bytes, put_need, log_need, data_need
 use Rattle.txn_machine.specs.Log.{reserved}
 use Rattle.txn_machine.specs.Store.{Writes}
 use Rattle.core_state.specs.Stands.{Told}
-use Rattle.core_state.specs.declared.limits.TheConstants.{MOST_OF_TRANSACTION}
 use Rattle.core_state.proofs.Counted.{counted}
-use Rattle.core_effects.specs.Writing.{CanWrite, CanOwe}
+use Rattle.core_effects.specs.Writing.{CanWrite, IsNoting}
+use Rattle.data_store.specs.Machine.{bytes_of}
+use Rattle.data_store.specs.Past.{committed_value}
+use Rattle.data_store.proofs.RowsThen.{committed_is}
 use Rattle.core_effects.specs.declared.writing.Writing.{Writing}
 use Rattle.core_effects.proofs.Done.{AreUncounted, done_told}
 use Rattle.core_effects.proofs.Opened.{Has}
-use Rattle.ghost_rows.specs.State.{room_of, HasSeat}
-use Rattle.txn_machine.specs.Deltas.{place_of}
+use Rattle.ghost_rows.specs.State.{room_of}
 use Rattle.core_state.specs.Rooms.{paid}
-use Rattle.core_changes.proofs.Puts.{of, open_here, table_here, rows_fit, few_locks, undo_room, stands_before, stands_after}
+use Rattle.core_changes.proofs.Puts.{of, open_here, table_here, undo_room, stands_after}
 
 module _ {M : Type 0} (maps : M → ℕ → Map) (spare : M → ℕ → ℕ) (limit : M → Option ℕ) (core : CoreState M) (s : State) (i : ℕ) (change : Change) (wants : List Want) (deltas : List GroupDelta) (bytes entry_bytes : ℕ)
     (can : CanPut maps spare limit s core i change wants deltas bytes entry_bytes) where
@@ -148,7 +118,8 @@ module _ {M : Type 0} (maps : M → ℕ → Map) (spare : M → ℕ → ℕ) (li
 
     module _ (after : Table) (w : Writing) (left : lock.room_of core.locks i ≤ lock.room_of after i + length wants)
         (owed_are_it : w.owed.items ≡ deltas) (wants_are_it : w.wants.items ≡ map (λ d. group_want d ∷ []) deltas) (bytes_it : w.txn_bytes ≡ bytes) (entry_it : w.history_bytes ≡ entry_bytes)
-        (kept_it : OfTable core.store.catalog change.table (IsKept core.store.catalog change w.ready.kept)) (coming_it : w.ready.coming ≡ w.ready.kept.made) where
+        (kept_it : OfTable core.store.catalog change.table (IsKept core.store.catalog change w.ready.kept)) (coming_it : w.ready.coming ≡ w.ready.kept.made)
+        (noting_index : w.noting.index ≡ change.table) (noting_key : w.noting.key ≡ change.key) (noting_bytes : w.noting.committed ≡ committed_value core.store.pending.entries (maps core.store.tables) (change.table, change.key)) where
       abbrev k : Kept
       k = w.ready.kept
 
@@ -179,6 +150,14 @@ module _ {M : Type 0} (maps : M → ℕ → Map) (spare : M → ℕ → ℕ) (li
 
       places : HasPlaces core.store.catalog (open_changes core.book.opens + 1) (spare core.store.tables) its_table
       places = room.places its_table (table_here maps spare limit core s i change wants can.puts)
+
+      -- the bytes that were read are those that are committed
+      is_noting : IsNoting between w.noting (k.change.table, k.change.key)
+      is_noting = subst (λ (ch : Change). IsNoting between w.noting (ch.table, ch.key)) (sym same) (record {
+        is_of = λ x. (noting_index x, noting_key x);
+        committed = noting_bytes ∙ subst (λ n. committed_value core.store.pending.entries (maps core.store.tables) (n, change.key) ≡ bytes_of (schema_of s.store) (n, change.key) (get (committed s.store).rows (n, change.key))) number_is
+            (committed_is core.store.catalog (maps core.store.tables) core.store.views s h.reached h.holds.stored core.store.row_versions.versions core.store.delta_versions.versions core.store.pending.entries h.holds.past its_table its_own change.key);
+      })
 
       pub can_write : CanWrite maps spare limit between (record core { locks = after }) i w
       can_write = record {
@@ -217,6 +196,7 @@ module _ {M : Type 0} (maps : M → ℕ → Map) (spare : M → ℕ → ℕ) (li
           buffers = subst (λ ds. IsOpenAnd core.book i (λ o. 2 * length ds + length (paid (reverse o.kept.items)) ≤ room_of core.store.views i)) (sym owed_are_it) room.owes.buffers;
           seats = λ d has. room.owes.seats d (subst (λ ds. Contains ds d) owed_are_it has);
         };
+        noted = is_noting;
         wants = wants_are_it ∙ ap (map (λ d. group_want d ∷ [])) (sym owed_are_it);
       }
 

@@ -1,5 +1,5 @@
 -- What is told of a Fetch.
-use Rattle.std.specs.Prelude.{◌≡◌, ◌≢◌, ℕ, ◌+◌, ◌<◌, ◌≤◌, ◌^◌, List, [], ◌∷◌, ◌++◌, length, Option, None, Some, IsSome, refl}
+use Rattle.std.specs.Prelude.{◌≡◌, ◌≢◌, ℕ, ◌+◌, ◌≤◌, List, [], ◌∷◌, ◌++◌, length, Option, None, Some, IsSome, refl}
 use Rattle.std.specs.Option.{unwrap_or}
 use Rattle.std.specs.List.{Contains}
 use mathlib.Core.Path.{sym, ap, subst, ◌∙◌}
@@ -92,14 +92,16 @@ pub full_told : {M : Type 0} (maps : M → ℕ → Map) (spare : M → ℕ → �
     → (kept need : ℕ) → kept ≡ transaction_size (schema_of s.store) (now s.store i) → (rows : List Row) → Finds s.store n interval rows → need ≡ told_need (fetch_size (schema_of s.store) n interval rows) → (kept + need ≤ most_of_transaction → ⊥)
     → Told maps spare limit s i (act.Fetch n interval mode) (answer.Refused (refusal.TxnFull kept need)) core
 full_told maps spare limit core s i n interval mode wants f kept need kept_is rows found need_is full =
-    unchanged_told maps spare limit core s i (act.Fetch n interval mode) (answer.Refused (refusal.TxnFull kept need)) f.began
-    (record {
-      free = subst (IsFree s.store i) f.wants_are f.free;
-      rows = rows;
-      found = found;
-      need_is = need_is;
-      full = record { kept_is = kept_is; full = omega (arith, full, need_is) };
-    }, refl) refl refl refl refl
+    unchanged_told maps spare limit core s i (act.Fetch n interval mode) (answer.Refused (refusal.TxnFull kept need)) f.began (
+      record {
+        free = subst (IsFree s.store i) f.wants_are f.free;
+        rows = rows;
+        found = found;
+        need_is = need_is;
+        full = record { kept_is = kept_is; full = omega (arith, full, need_is) };
+      },
+      refl,
+    ) refl refl refl refl
 
 -- and where it is read
 module _ {M : Type 0} (maps : M → ℕ → Map) (spare : M → ℕ → ℕ) (limit : M → Option ℕ) (core middle taken new : CoreState M) (s : State) (i n : ℕ) (interval : Interval) (mode : LockMode) (wants : List Want) (need : ℕ) (can : CanRead maps spare limit s core i n interval mode wants need)

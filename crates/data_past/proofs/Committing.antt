@@ -1,7 +1,7 @@
 -- A store after a change is put or taken back, and after a commit, by what the calls did.
-use Rattle.std.specs.Prelude.{◌≡◌, ◌≤◌, ◌+◌, ℕ, zero, suc, List, [], ◌∷◌, ◌++◌, map, reverse, Option, Some, None}
+use Rattle.std.specs.Prelude.{◌≡◌, ◌≤◌, ◌<◌, ◌+◌, ◌-◌, ◌^◌, ℕ, zero, suc, List, [], ◌∷◌, ◌++◌, map, reverse, length, Option, Some, None, IfSome}
 use Rattle.std.specs.Option.{option_map, option_and_then}
-use mathlib.Core.Path.{refl, sym, ap, ◌∙◌}
+use mathlib.Core.Path.{refl, sym, ap, subst, ◌∙◌}
 use mathlib.Core.Logic.{inl, inr}
 use Rattle.std.proofs.Common.{arith}
 use Rattle.std.proofs.lemmas.List.{append-nil}
@@ -41,12 +41,14 @@ use Rattle.data_store.specs.Contents.{contents_of}
 use Rattle.data_store.specs.Held.{IsHeld}
 use Rattle.data_store.specs.Past.{Pendings, RowVersions, committed_value}
 use Rattle.data_store.specs.ViewPast.{DeltaVersions}
-use Rattle.data_store.specs.Machine.{bytes_by, bytes_of, changes_on, kept_up_to, kept_on, version_by, delta_by, IsPast}
+use Rattle.data_store.specs.declared.store.Pending.{Pending}
+use Rattle.data_store.specs.Machine.{bytes_by, bytes_of, changes_on, kept_up_to, kept_on, pending_of, version_by, delta_by, IsPast}
 use Rattle.data_store.proofs.Finding.{alike}
 use Rattle.data_store.proofs.RowsThen.{committed_is}
-use Rattle.data_past.specs.Moves.{one_more, fewer, ChangesAt, CanForget, put_in, puts_in, delta_in, deltas_in, bytes_in, versions_in, version_at, delta_at, pushed_all, pays_of, AreSteps}
+use Rattle.data_past.specs.Moves.{one_more, fewer, ChangesAt, CanCount, HasChange, CanForget, put_in, puts_in, delta_in, deltas_in, bytes_in, versions_in, version_at, delta_at, pushed_all, pays_of, AreSteps}
 use Rattle.data_past.proofs.Effects.{past_writes, past_commits}
-use Rattle.data_past.proofs.Pendings.{on_both}
+use Rattle.data_past.proofs.Counting.{kept_few, on_itself}
+use Rattle.data_past.proofs.Pendings.{on_both, pending_has}
 use Rattle.data_past.proofs.Entering.{sets_in, all_owed, paid_owed}
 
 -- ---- kept steps
@@ -130,6 +132,25 @@ module _ (R : RowVersions) (D : DeltaVersions) (P : Pendings) (s : Store) (past 
       let all = part_of (changes_by s) p 64 i is.0 is.1 in
       let same : changes_on p (puts_in (reverse bs)) ≡ changes_on p (changes_by s i) = ap (changes_on p) (same_puts bs (now s i).kept h) ∙ same_count p (changes_by s i) in
       (kept_on s p, bytes_of (store.schema_of s) p (get (committed s).rows p), past.pending p, omega (arith, all, same))
+
+  -- the latest change that a session keeps is counted
+  pub latest_counted : (c : RowChange) (owed : List GroupDelta) (ks : List machine.KeptStep) → (now s i).kept ≡ machine.Put c owed ∷ ks → HasChange P c.key
+  latest_counted c owed ks kept =
+      let all = part_of (changes_by s) c.key 64 i is.0 is.1 in
+      let own : changes_on c.key (changes_by s i) ≡ changes_on c.key (c ∷ changes_of ks) = ap (λ (l : List machine.KeptStep). changes_on c.key (changes_of l)) kept in
+      let one = on_itself c (changes_of ks) in
+      let found = pending_has (kept_on s c.key) (bytes_of (store.schema_of s) c.key (get (committed s).rows c.key)) (omega (arith, all, own, one)) in
+      (found.0, past.pending c.key ∙ found.1, found.2)
+
+  -- one more can be counted, where each session keeps few
+  pub can_count : (p : Place) → ((j : ℕ) → IsSession j → length (changes_by s j) ≤ 2 ^ 32) → CanCount P p
+  can_count p few =
+      let all = kept_few (changes_by s) p (2 ^ 32) 64 (λ j low high. few j (low, high)) in
+      subst (λ (o : Option Pending). IfSome o (λ x. x.changes < 2 ^ 64 - 1)) (sym (past.pending p)) (by (kept_on s p) (omega (arith, all)))
+    where
+      by : (n : ℕ) → n < 2 ^ 64 - 1 → IfSome (pending_of n (bytes_of (store.schema_of s) p (get (committed s).rows p))) (λ x. x.changes < 2 ^ 64 - 1)
+      by zero lt = tt
+      by (suc n) lt = lt
 
   -- ---- what the calls make
 

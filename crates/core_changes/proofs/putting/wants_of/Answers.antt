@@ -1,4 +1,4 @@
-use Rattle.std.proofs.Common.{◌≡◌, ◌++◌, ◌+◌, [], ◌∷◌, map, drop, refl, sym, ap, ◌∙◌, append_assoc}
+use Rattle.std.proofs.Common.{◌++◌, ◌+◌, [], ◌∷◌, map, drop, refl, sym, ap, ◌∙◌, append_assoc}
 use Rattle.iv_types.proofs.Walks.{all_gathered, walked}
 use Rattle.txn_machine.specs.Steps.{group_want}
 use Rattle.core_changes.proofs.putting.wants_of.Goals as goal

@@ -40,11 +40,12 @@ take_back_pay-requires-clause-held g c κs within =
     let core = c.args.core.now in
     let o = c.requires.keeps.4 in
     let it = last g.M.SortedMaps.maps g.M.SortedMaps.spare g.M.SortedMaps.limit core c.requires.keeps.0 c.requires.keeps.1 c.requires.keeps.2 c.args.session c.requires.keeps.3 c.requires.keeps.4 in
-    let are = c.latest_pay.ensures o.latest it.before it.number it.steps (there_latest g.M.SortedMaps.maps g.M.SortedMaps.spare g.M.SortedMaps.limit core c.requires.keeps.0 c.requires.keeps.1 c.requires.keeps.2 c.args.session c.requires.keeps.3 c.requires.keeps.4 c.in-Some.txn.now (sym c.get.ensures ∙ ap option_copied c.in-Some.is)) in
-    (contents_of c.requires.keeps.0,
-    subst (λ x. HasFor core.store.catalog (g.M.SortedMaps.maps core.store.tables) core.store.views x (contents_of c.requires.keeps.0)) (sym are.0) (for_it g.M.SortedMaps.maps g.M.SortedMaps.spare g.M.SortedMaps.limit core c.requires.keeps.0 c.requires.keeps.1 c.requires.keeps.2 c.args.session c.requires.keeps.3 c.requires.keeps.4),
-    subst (λ b. IsPaidLast (λ j. pays_on (place_of c.latest_pay.result.0.now) ((contents_of c.requires.keeps.0).kept j)) c.args.session c.latest_pay.result.0.now b) (sym are.1)
-    (subst (λ (x : GroupDelta). IsPaidLast (λ j. pays_on (place_of x) ((contents_of c.requires.keeps.0).kept j)) c.args.session x it.before) (sym are.0) (paid_last g.M.SortedMaps.maps g.M.SortedMaps.spare g.M.SortedMaps.limit core c.requires.keeps.0 c.requires.keeps.1 c.requires.keeps.2 c.args.session c.requires.keeps.3 c.requires.keeps.4)))
+    let are = c.latest_pay.ensures o.latest it.before it.number it.steps (there_latest g.M.SortedMaps.maps g.M.SortedMaps.spare g.M.SortedMaps.limit core c.requires.keeps.0 c.requires.keeps.1 c.requires.keeps.2 c.args.session c.requires.keeps.3 c.requires.keeps.4 c.in-Some.txn.now (sym c.get.ensures ∙ ap option_copied c.in-Some.is)) in (
+      contents_of c.requires.keeps.0,
+      subst (λ x. HasFor core.store.catalog (g.M.SortedMaps.maps core.store.tables) core.store.views x (contents_of c.requires.keeps.0)) (sym are.0) (for_it g.M.SortedMaps.maps g.M.SortedMaps.spare g.M.SortedMaps.limit core c.requires.keeps.0 c.requires.keeps.1 c.requires.keeps.2 c.args.session c.requires.keeps.3 c.requires.keeps.4),
+      subst (λ b. IsPaidLast (λ j. pays_on (place_of c.latest_pay.result.0.now) ((contents_of c.requires.keeps.0).kept j)) c.args.session c.latest_pay.result.0.now b) (sym are.1)
+          (subst (λ (x : GroupDelta). IsPaidLast (λ j. pays_on (place_of x) ((contents_of c.requires.keeps.0).kept j)) c.args.session x it.before) (sym are.0) (paid_last g.M.SortedMaps.maps g.M.SortedMaps.spare g.M.SortedMaps.limit core c.requires.keeps.0 c.requires.keeps.1 c.requires.keeps.2 c.args.session c.requires.keeps.3 c.requires.keeps.4)),
+    )
 
 pub take_back_pay-requires-clause-room : goal.take_back_pay-requires-clause-room
 take_back_pay-requires-clause-room g c κs within = has_room g.M.SortedMaps.maps g.M.SortedMaps.spare g.M.SortedMaps.limit c.args.core.now c.requires.keeps.0 c.requires.keeps.1 c.requires.keeps.2 c.args.session c.requires.keeps.3 c.requires.keeps.4

@@ -5,10 +5,13 @@ use Rattle.core_reads.proofs.fetching.fetch.Goals as goal
 
 pub fetch_free-requires-after_bounds : goal.fetch_free-requires-after_bounds
 fetch_free-requires-after_bounds g c κs within =
-    let s = c.requires.0 in
-    (s, c.args.mode, record {
-      began = subst (λ x. Began g.M.SortedMaps.maps g.M.SortedMaps.spare g.M.SortedMaps.limit x s c.args.session) (sym c.in-Ok.ensures.same) c.requires.1;
-      may = c.requires.2;
-      wants_are = c.in-Ok.ensures.wants ∙ c.in_ok-wants.ensures;
-      free = subst (IsFree s.store c.args.session) (sym c.in-Ok.ensures.wants) (c.in-Ok.ensures.free s c.requires.1);
-    })
+    let s = c.requires.0 in (
+      s,
+      c.args.mode,
+      record {
+        began = subst (λ x. Began g.M.SortedMaps.maps g.M.SortedMaps.spare g.M.SortedMaps.limit x s c.args.session) (sym c.in-Ok.ensures.same) c.requires.1;
+        may = c.requires.2;
+        wants_are = c.in-Ok.ensures.wants ∙ c.in_ok-wants.ensures;
+        free = subst (IsFree s.store c.args.session) (sym c.in-Ok.ensures.wants) (c.in-Ok.ensures.free s c.requires.1);
+      },
+    )

@@ -17,10 +17,13 @@ found_bytes-requires-after_bounds g c κs within =
 pub read-requires-after_bounds : goal.read-requires-after_bounds
 read-requires-after_bounds g c κs within =
     let s = c.requires.0 in
-    let f = c.requires.2 in
-    (s, c.requires.1, can_read g.M.SortedMaps.maps g.M.SortedMaps.spare g.M.SortedMaps.limit c.args.core.now s c.args.session c.args.index c.args.interval.now c.requires.1 c.args.wants c.in_ok-need.need f c.open_of.result.now c.open_of.ensures
-    (λ rows found. c.in_ok-need.ensures (contents_of s.store) (stored s.store) rows (readable g.M.SortedMaps.maps g.M.SortedMaps.spare g.M.SortedMaps.limit c.args.core.now s c.args.session f.began) refl refl found)
-    (c.has_room.ensures.0 (subst IsTrue (sym c.if-has_room.true) refl)))
+    let f = c.requires.2 in (
+      s,
+      c.requires.1,
+      can_read g.M.SortedMaps.maps g.M.SortedMaps.spare g.M.SortedMaps.limit c.args.core.now s c.args.session c.args.index c.args.interval.now c.requires.1 c.args.wants c.in_ok-need.need f c.open_of.result.now c.open_of.ensures
+          (λ rows found. c.in_ok-need.ensures (contents_of s.store) (stored s.store) rows (readable g.M.SortedMaps.maps g.M.SortedMaps.spare g.M.SortedMaps.limit c.args.core.now s c.args.session f.began) refl refl found)
+          (c.has_room.ensures.0 (subst IsTrue (sym c.if-has_room.true) refl)),
+    )
 
 pub returns-then-has_room-clause-told : goal.returns-then-has_room-clause-told
 returns-then-has_room-clause-told g c = if_ok_as c.read.result _ _
