@@ -45,7 +45,10 @@ use Rattle.data_store.specs.declared.store.Pending.{Pending}
 use Rattle.data_store.specs.Machine.{bytes_by, bytes_of, changes_on, kept_up_to, kept_on, pending_of, version_by, delta_by, IsPast}
 use Rattle.data_store.proofs.Finding.{alike}
 use Rattle.data_store.proofs.RowsThen.{committed_is}
-use Rattle.data_past.specs.Moves.{one_more, fewer, ChangesAt, CanCount, HasChange, CanForget, put_in, puts_in, delta_in, deltas_in, bytes_in, versions_in, version_at, delta_at, pushed_all, pays_of, AreSteps}
+use Rattle.iv_types.specs.declared.lock.Change.{Change}
+use Rattle.txn_machine.specs.RowChanges.{row_change}
+use Rattle.data_past.specs.Ahead.{made_of}
+use Rattle.data_past.specs.Moves.{version_of, one_more, fewer, ChangesAt, CanCount, HasChange, CanForget, put_in, puts_in, delta_in, deltas_in, bytes_in, versions_in, version_at, delta_at, pushed_all, pays_of, AreSteps}
 use Rattle.data_past.proofs.Effects.{past_writes, past_commits}
 use Rattle.data_past.proofs.Counting.{kept_few, on_itself}
 use Rattle.data_past.proofs.Pendings.{on_both, pending_has}
@@ -99,6 +102,10 @@ same_bytes ds n key before = by (definitions.numbered ds n) ∙ ap (λ o. bytes_
     by (Some (Index i)) = refl
     by (Some (View v)) = refl
 
+-- the version that code makes of a change is that of the machine's
+pub made_as : (ds : Definitions) (change : Change) → version_of ds change ≡ made_of (schema_of ds) (row_change change)
+made_as ds change = ap (λ b. record { index = change.table; key = change.key; before = b }) (same_bytes ds change.table change.key change.before)
+
 -- the versions that code makes are those of the entry
 pub same_versions : (ds : Definitions) (m : ℕ) (bs : List KeptStep) (ks : List machine.KeptStep) → AreSteps bs ks
     → map (version_at m) (versions_in ds (reverse bs)) ≡ map (version_by (schema_of ds)) (commits_in m (entry_changes ks))
@@ -109,7 +116,7 @@ same_versions ds m bs ks h = each (reverse bs) ∙ ap (map (version_by (schema_o
     each (Put kept txn_bytes history_bytes number ∷ bs) = λ i. (((kept.change.table, kept.change.key), m), same_bytes ds kept.change.table kept.change.key kept.change.before i) ∷ each bs i
     each (Pay delta before number ∷ bs) = each bs
 
-same_count : (p : Place) (cs : List RowChange) → changes_on p (reverse cs) ≡ changes_on p cs
+pub same_count : (p : Place) (cs : List RowChange) → changes_on p (reverse cs) ≡ changes_on p cs
 same_count p [] = refl
 same_count p (c ∷ cs) = ap (changes_on p) (reversed c cs) ∙ (on_both p (reverse cs) (c ∷ []) ∙ (let rest = same_count p cs in omega (arith, rest)))
 
