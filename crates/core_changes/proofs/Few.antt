@@ -20,7 +20,7 @@ use Rattle.iv_meaning.specs.Database.{Row}
 use Rattle.iv_meaning.specs.Schema.{Schema, Object, table, index, view, ViewTree, numbered, items_at, indexes_of, key_kinds, as_index, as_view}
 use Rattle.iv_meaning.specs.Escrow.{IsSession}
 use Rattle.query_laws.specs.Limited.{IsLimited}
-use Rattle.txn_machine.specs.Counts.{kept_size, put_size, note_size, most_of_transaction}
+use Rattle.txn_machine.specs.Counts.{kept_size, note_size, most_of_transaction}
 use Rattle.txn_machine.specs.Deltas.{RowChange, exclusive_point, entry_wants, look_ups, look_up_second, look_up_first}
 use Rattle.txn_machine.specs.Keeping.{KeptStep, Put, Pay, changes_of}
 use Rattle.txn_machine.specs.Keeping as machine
@@ -35,15 +35,10 @@ use Rattle.txn_book.specs.declared.open_table.Open.{Open}
 use Rattle.txn_book.proofs.Booking.{has_place}
 use Rattle.core_state.specs.Stands.{Holds}
 use Rattle.core_state.specs.declared.state.CoreState.{CoreState}
+use Rattle.core_state.proofs.Few.{changes_few}
 use Rattle.core_state.proofs.Sessions.{as_many}
 
 -- ---- changes
-
--- each counts
-changes_few : (objects : Schema) (ks : List KeptStep) → 128 * length (changes_of ks) ≤ sum (map (kept_size objects) ks)
-changes_few objects [] = omega arith
-changes_few objects (Put c ds ∷ ks) = omega (arith, changes_few objects ks, sum_by-cons (λ n. n) (put_size objects c ds) (map (kept_size objects) ks))
-changes_few objects (Pay d ∷ ks) = omega (arith, changes_few objects ks, sum_by-cons (λ n. n) 0 (map (kept_size objects) ks))
 
 -- over all places
 all_few : (opens : List (Option Open)) → ((j : ℕ) (o : Open) → open_at opens j ≡ Some o → puts_of (Some o) ≤ 524288) → open_changes opens ≤ 524288 * length opens

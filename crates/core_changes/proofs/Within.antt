@@ -27,7 +27,7 @@ use Rattle.txn_machine.specs.May.{IsOpen}
 use Rattle.txn_machine.specs.RowChanges.{row_change}
 use Rattle.txn_machine.specs.State.{State}
 use Rattle.txn_machine.specs.Steps.{IsFree, put_owed}
-use Rattle.txn_machine.specs.Store.{Store, Takes, does, now, schema_of, change_at, notes_before}
+use Rattle.txn_machine.specs.Store.{Store, Takes, does, now, schema_of, committed, change_at, notes_before}
 use Rattle.txn_machine.proofs.Basics.{one_same}
 use Rattle.txn_machine.proofs.Standing.{notes_stand}
 use Rattle.txn_book.specs.Books.{IsBook, IsOpenAnd, open_changes, total_bytes}
@@ -51,7 +51,10 @@ use Rattle.txn_machine.specs.Log.{reserved}
 use Rattle.txn_machine.specs.Store.{Writes}
 use Rattle.core_state.specs.Stands.{Told}
 use Rattle.core_state.proofs.Counted.{counted}
-use Rattle.core_effects.specs.Writing.{CanWrite}
+use Rattle.core_effects.specs.Writing.{CanWrite, IsNoting}
+use Rattle.data_store.specs.Machine.{bytes_of}
+use Rattle.data_store.specs.Past.{committed_value}
+use Rattle.data_store.proofs.RowsThen.{committed_is}
 use Rattle.core_effects.specs.declared.writing.Writing.{Writing}
 use Rattle.core_effects.proofs.Done.{AreUncounted, done_told}
 use Rattle.core_effects.proofs.Opened.{Has}
@@ -115,7 +118,8 @@ module _ {M : Type 0} (maps : M → ℕ → Map) (spare : M → ℕ → ℕ) (li
 
     module _ (after : Table) (w : Writing) (left : lock.room_of core.locks i ≤ lock.room_of after i + length wants)
         (owed_are_it : w.owed.items ≡ deltas) (wants_are_it : w.wants.items ≡ map (λ d. group_want d ∷ []) deltas) (bytes_it : w.txn_bytes ≡ bytes) (entry_it : w.history_bytes ≡ entry_bytes)
-        (kept_it : OfTable core.store.catalog change.table (IsKept core.store.catalog change w.ready.kept)) (coming_it : w.ready.coming ≡ w.ready.kept.made) where
+        (kept_it : OfTable core.store.catalog change.table (IsKept core.store.catalog change w.ready.kept)) (coming_it : w.ready.coming ≡ w.ready.kept.made)
+        (noting_index : w.noting.index ≡ change.table) (noting_key : w.noting.key ≡ change.key) (noting_bytes : w.noting.committed ≡ committed_value core.store.pending.entries (maps core.store.tables) (change.table, change.key)) where
       abbrev k : Kept
       k = w.ready.kept
 
@@ -146,6 +150,14 @@ module _ {M : Type 0} (maps : M → ℕ → Map) (spare : M → ℕ → ℕ) (li
 
       places : HasPlaces core.store.catalog (open_changes core.book.opens + 1) (spare core.store.tables) its_table
       places = room.places its_table (table_here maps spare limit core s i change wants can.puts)
+
+      -- the bytes that were read are those that are committed
+      is_noting : IsNoting between w.noting (k.change.table, k.change.key)
+      is_noting = subst (λ (ch : Change). IsNoting between w.noting (ch.table, ch.key)) (sym same) (record {
+        is_of = λ x. (noting_index x, noting_key x);
+        committed = noting_bytes ∙ subst (λ n. committed_value core.store.pending.entries (maps core.store.tables) (n, change.key) ≡ bytes_of (schema_of s.store) (n, change.key) (get (committed s.store).rows (n, change.key))) number_is
+            (committed_is core.store.catalog (maps core.store.tables) core.store.views s h.reached h.holds.stored core.store.row_versions.versions core.store.delta_versions.versions core.store.pending.entries h.holds.past its_table its_own change.key);
+      })
 
       pub can_write : CanWrite maps spare limit between (record core { locks = after }) i w
       can_write = record {
@@ -184,6 +196,7 @@ module _ {M : Type 0} (maps : M → ℕ → Map) (spare : M → ℕ → ℕ) (li
           buffers = subst (λ ds. IsOpenAnd core.book i (λ o. 2 * length ds + length (paid (reverse o.kept.items)) ≤ room_of core.store.views i)) (sym owed_are_it) room.owes.buffers;
           seats = λ d has. room.owes.seats d (subst (λ ds. Contains ds d) owed_are_it has);
         };
+        noted = is_noting;
         wants = wants_are_it ∙ ap (map (λ d. group_want d ∷ [])) (sym owed_are_it);
       }
 

@@ -20,7 +20,7 @@ use crate::room::make_room;
 use core_effects::{Writing, take, write};
 use core_locks::ask_for;
 use core_state::{CoreState, MOST_OF_HISTORY, MOST_OF_TRANSACTION, fits};
-use data_past::copied_deltas;
+use data_past::{copied_deltas, ready_note};
 use iv_types::{
     Bytes, Change, DeltaList, EngineRefusal, GroupDelta, LockMode, NoMemory, Row, SortedMaps, Want,
     WantList, copied_perhaps,
@@ -127,6 +127,7 @@ fn put_within<M: SortedMaps>(
     )?;
     core.book.book_law();
     core.store.catalog.number_law();
+    let noting = ready_note(&core.store, change.table, change.key.as_slice())?;
     let ready = core.store.tables.prepare(&core.store.catalog, change)?;
     take(core, session, wants);
     write(
@@ -134,6 +135,7 @@ fn put_within<M: SortedMaps>(
         session,
         Writing {
             ready,
+            noting,
             owed: owed.into_vec(),
             wants: pays,
             txn_bytes: bytes,

@@ -28,6 +28,7 @@ use Rattle.txn_book.specs.Txns.{txn_of}
 use Rattle.txn_book.specs.Holding as book
 use Rattle.data_store.specs.Contents.{contents_of}
 use Rattle.data_store.specs.Held.{IsHeld}
+use Rattle.data_past.proofs.Effects.{past_takes}
 use Rattle.core_state.specs.Rooms.{HasRooms, AreWanted, still_owed}
 use Rattle.core_state.specs.Stands.{Holds}
 use Rattle.core_state.specs.declared.state.CoreState.{CoreState}
@@ -81,6 +82,7 @@ module _ {M : Type 0} (maps : M → ℕ → Map) (spare : M → ℕ → ℕ) (li
     next = h.next;
     row_mark = h.row_mark;
     delta_mark = h.delta_mark;
+    past = past_takes core.store.row_versions.versions core.store.delta_versions.versions core.store.pending.entries s h.past i wants o.of_session;
     rooms = rooms;
   }
 

@@ -38,8 +38,10 @@ use Rattle.txn_book.specs.declared.open_table.Open.{Open as BookOpen}
 use Rattle.txn_book.proofs.Holding.{changed_holds, pay_undone}
 use Rattle.data_store.specs.Contents.{contents_of, pays_on}
 use Rattle.data_store.specs.Held.{IsHeld}
+use Rattle.data_store.specs.Machine.{IsPast}
 use Rattle.data_changes.specs.Effects.{without_pay}
 use Rattle.data_changes.specs.Paying.{HasFor}
+use Rattle.data_past.proofs.Effects.{past_unpaid}
 use Rattle.core_state.specs.Rooms.{AreWanted, IsCovered, CanBeTakenBack, gone_if, gone_of, still_owed, paid}
 use Rattle.core_state.specs.Stands.{Holds}
 use Rattle.core_state.specs.declared.state.CoreState.{CoreState}
@@ -168,6 +170,7 @@ module _ {M : Type 0} (maps : M → ℕ → Map) (spare : M → ℕ → ℕ) (li
           next = ap (λ n. n + 1) h.next;
           row_mark = h.row_mark;
           delta_mark = h.delta_mark;
+          past = subst (IsPast core.store.row_versions.versions core.store.delta_versions.versions core.store.pending.entries) does_is (past_unpaid core.store.row_versions.versions core.store.delta_versions.versions core.store.pending.entries s h.past i o.is_open.of_session d o.earlier o.kept_is);
           rooms = rooms_changed (spare core.store.tables) (spare tables) (limit core.store.tables) (limit tables) core.store.catalog core.store.views views core.book after core.locks core.locks core.wants core.wants i
               t_after good o.is_open.of_session h.rooms same_limit changes
               (λ index. let same : gone_if index (open_at core.book.opens i) ≡ gone_of index last.steps = ap (gone_if index) mine.there ∙ ap (gone_of index) last.is in let more = spares index in omega (arith, same, more))

@@ -43,7 +43,13 @@ use Rattle.txn_book.proofs.Booking.{has_place}
 use Rattle.txn_book.proofs.Holding.{changed_holds, put_undone}
 use Rattle.data_store.specs.Contents.{contents_of}
 use Rattle.data_store.specs.Held.{IsHeld}
+use Rattle.data_store.specs.Machine.{IsPast}
+use Rattle.data_store.specs.declared.store.Pending.{Pending}
 use Rattle.data_changes.specs.Effects.{without_put}
+use Rattle.data_past.specs.Moves.{one_less, ChangesAt, HasChange}
+use Rattle.data_past.proofs.Committing.{latest_counted}
+use Rattle.data_past.proofs.Effects.{past_unput}
+use Rattle.spare_map.specs.Spared.{Spared}
 use Rattle.core_state.specs.Rooms.{IsCovered, CanBeTakenBack, gone_if, gone_of, still_owed, paid}
 use Rattle.core_state.specs.Stands.{Holds}
 use Rattle.core_state.specs.declared.state.CoreState.{CoreState}
@@ -126,6 +132,11 @@ module _ {M : Type 0} (maps : M → ℕ → Map) (spare : M → ℕ → ℕ) (li
           subst (λ os. numbered os o.change.key.0 ≡ Some (table t)) h.stored.objects
           (in_schema core.store.catalog o.change.key.0 t (ap (λ (c : RowChange). table_of core.store.catalog c.key.0) (sym last.change) ∙ e))
 
+  -- it is counted
+  pub is_counted : HasChange core.store.pending.entries (last.kept.change.table, last.kept.change.key)
+  is_counted = subst (λ (c : RowChange). HasChange core.store.pending.entries c.key) (sym last.change)
+      (latest_counted core.store.row_versions.versions core.store.delta_versions.versions core.store.pending.entries s h.past i o.is_open.of_session o.change o.owed o.earlier o.kept_is)
+
   -- the book has it as the latest of the open transaction there
   pub there_latest : (t : BookOpen) → open_at core.book.opens i ≡ Some t → reverse t.kept.items ≡ step.Put last.kept last.txn_bytes last.history_bytes last.number ∷ last.steps
   there_latest t there =
@@ -167,11 +178,11 @@ module _ {M : Type 0} (maps : M → ℕ → Map) (spare : M → ℕ → ℕ) (li
           small = back_of.1;
         }
 
-    pub undone_holds : (a : Act) → TakesRoom (spare core.store.tables) (spare tables) last.kept.made last.kept.gone → IsHeld core.store.catalog (maps tables) core.store.views (without_put (contents_of s) i (row_change last.kept.change) o.earlier) → Changes core.book after i t_after
-        → Holds maps spare limit (record core { store = record core.store { tables = tables }; book = after; next = core.next + 1 }) (does the_views s i Undoes) (logs s i a Undoes l) texts
-    undone_holds a takes stored changes =
-        subst (λ u. Holds maps spare limit (record core { store = record core.store { tables = tables }; book = after; next = core.next + 1 }) u (logs s i a Undoes l) texts) (sym does_is)
-        (subst (λ m. Holds maps spare limit (record core { store = record core.store { tables = tables }; book = after; next = core.next + 1 }) store_after m texts) (sym (logs_is a))
+    pub undone_holds : (a : Act) (pending : Spared Pending) → ChangesAt (last.kept.change.table, last.kept.change.key) one_less core.store.pending.entries pending.entries → TakesRoom (spare core.store.tables) (spare tables) last.kept.made last.kept.gone → IsHeld core.store.catalog (maps tables) core.store.views (without_put (contents_of s) i (row_change last.kept.change) o.earlier) → Changes core.book after i t_after
+        → Holds maps spare limit (record core { store = record core.store { tables = tables; pending = pending }; book = after; next = core.next + 1 }) (does the_views s i Undoes) (logs s i a Undoes l) texts
+    undone_holds a pending forgot takes stored changes =
+        subst (λ u. Holds maps spare limit (record core { store = record core.store { tables = tables; pending = pending }; book = after; next = core.next + 1 }) u (logs s i a Undoes l) texts) (sym does_is)
+        (subst (λ m. Holds maps spare limit (record core { store = record core.store { tables = tables; pending = pending }; book = after; next = core.next + 1 }) store_after m texts) (sym (logs_is a))
         (record {
           stored = subst (IsHeld core.store.catalog (maps tables) core.store.views)
               (contents_as (without_put (contents_of s) i o.change o.earlier) (contents_of store_after) refl refl refl (λ j. sym (kept_of s.open_of i (Some undone_one) j)))
@@ -185,6 +196,9 @@ module _ {M : Type 0} (maps : M → ℕ → Map) (spare : M → ℕ → ℕ) (li
           next = ap (λ n. n + 1) h.next;
           row_mark = h.row_mark;
           delta_mark = h.delta_mark;
+          past = subst (IsPast core.store.row_versions.versions core.store.delta_versions.versions pending.entries) does_is
+              (past_unput core.store.row_versions.versions core.store.delta_versions.versions core.store.pending.entries s h.past i o.is_open.of_session pending.entries o.change o.owed o.earlier o.kept_is
+              (subst (λ (c : RowChange). ChangesAt c.key one_less core.store.pending.entries pending.entries) last.change forgot));
           rooms = rooms_changed (spare core.store.tables) (spare tables) (limit core.store.tables) (limit tables) core.store.catalog core.store.views core.store.views core.book after core.locks core.locks core.wants core.wants i
               t_after good o.is_open.of_session h.rooms same_limit changes
               (λ index. let here = gone_here index in let room = takes index in omega (arith, here, room))

@@ -33,7 +33,15 @@ use Rattle.txn_book.specs.declared.open_table.Open.{Open as BookOpen}
 use Rattle.txn_book.proofs.Holding.{changed_holds, put_is}
 use Rattle.data_store.specs.Contents.{contents_of}
 use Rattle.data_store.specs.Held.{IsHeld}
+use Rattle.data_store.specs.Machine.{IsPast}
+use Rattle.data_store.specs.declared.store.Pending.{Pending}
 use Rattle.data_changes.specs.Effects as effect
+use Rattle.data_past.specs.Moves.{one_more, ChangesAt, CanCount}
+use Rattle.data_past.proofs.Committing.{can_count}
+use Rattle.data_past.proofs.Effects.{past_writes}
+use Rattle.spare_map.specs.Spared.{Spared}
+use Rattle.table_laws.specs.Place.{Place}
+use Rattle.core_state.proofs.Few.{session_few}
 use Rattle.core_state.specs.Rooms.{AreWanted, IsCovered, CanBeTakenBack, all_gone, gone_if, gone_of, paid}
 use Rattle.core_state.specs.Stands.{Holds}
 use Rattle.core_state.specs.declared.state.CoreState.{CoreState}
@@ -95,13 +103,18 @@ module _ {M : Type 0} (maps : M → ℕ → Map) (spare : M → ℕ → ℕ) (li
         small = subst (λ (t : BookOpen). t.txn_bytes + w.txn_bytes ≤ most_of_transaction) (same_open can.small.0 can.small.1) can.small.2;
       }
 
-  pub written_holds : (a : Act) (tables : M) (after : Books) (wants : List (List (List Want))) → limit tables ≡ limit core.store.tables → IsBook core.book
+  -- one more change of its row can be counted
+  pub counted_once : CanCount core.store.pending.entries (w.noting.index, w.noting.key)
+  counted_once = can_count core.store.row_versions.versions core.store.delta_versions.versions core.store.pending.entries s h.past i can.is_open.of_session (w.noting.index, w.noting.key)
+      (λ j js. let few = session_few maps spare limit core s l texts h j js in omega (arith, few))
+
+  pub written_holds : (a : Act) (tables : M) (pending : Spared Pending) (after : Books) (wants : List (List (List Want))) → ChangesAt (w.noting.index, w.noting.key) (one_more w.noting.committed) core.store.pending.entries pending.entries → limit tables ≡ limit core.store.tables → IsBook core.book
       → TakesRoom (spare core.store.tables) (spare tables) kept.gone kept.made
       → IsHeld core.store.catalog (maps tables) core.store.views (effect.with_put (contents_of s) i c owed)
       → Changes core.book after i t_after → wants_at wants i ≡ w.wants.items → ((j : ℕ) → j ≢ i → wants_at wants j ≡ wants_at core.wants j)
-      → Holds maps spare limit (record core { store = record core.store { tables = tables }; book = after; wants = wants; next = core.next + 1 }) (does the_views s i (Writes c.key c.after)) (logs s i a (Writes c.key c.after) l) texts
-  written_holds a tables after wants same_limit good takes stored changes set others =
-      subst (λ u. Holds maps spare limit (record core { store = record core.store { tables = tables }; book = after; wants = wants; next = core.next + 1 }) u (logs s i a (Writes c.key c.after) l) texts) (sym does_is)
+      → Holds maps spare limit (record core { store = record core.store { tables = tables; pending = pending }; book = after; wants = wants; next = core.next + 1 }) (does the_views s i (Writes c.key c.after)) (logs s i a (Writes c.key c.after) l) texts
+  written_holds a tables pending after wants counts same_limit good takes stored changes set others =
+      subst (λ u. Holds maps spare limit (record core { store = record core.store { tables = tables; pending = pending }; book = after; wants = wants; next = core.next + 1 }) u (logs s i a (Writes c.key c.after) l) texts) (sym does_is)
       (record {
         stored = subst (IsHeld core.store.catalog (maps tables) core.store.views)
             (contents_as (effect.with_put (contents_of s) i c owed) (contents_of store_after) refl refl refl (λ j. sym (kept_of s.open_of i (Some written) j))) stored;
@@ -114,6 +127,9 @@ module _ {M : Type 0} (maps : M → ℕ → Map) (spare : M → ℕ → ℕ) (li
         next = ap (λ n. n + 1) h.next;
         row_mark = h.row_mark;
         delta_mark = h.delta_mark;
+        past = subst (IsPast core.store.row_versions.versions core.store.delta_versions.versions pending.entries) does_is
+            (past_writes core.store.row_versions.versions core.store.delta_versions.versions core.store.pending.entries s h.past i can.is_open.of_session c.key pending.entries c.after w.noting.committed can.noted.committed
+            (subst (λ (p : Place). ChangesAt p (one_more w.noting.committed) core.store.pending.entries pending.entries) can.noted.is_of counts));
         rooms = rooms_moved (spare core.store.tables) (spare tables) (limit core.store.tables) (limit tables) core.store.catalog core.store.views core.store.views core.book after core.locks core.locks core.wants wants i
             t_after good can.is_open.of_session h.rooms same_limit changes
             (λ index. let here : gone_if index (open_at core.book.opens i) ≡ gone_of index (txn_of mine.txn).kept = ap (gone_if index) mine.there in let room = takes index in let undo = can.undo index in omega (arith, here, room, undo))

@@ -3,10 +3,12 @@
 -- A change that can be made.
 use Rattle.std.specs.Prelude.{◌≡◌, ◌*◌, ◌+◌, ◌≤◌, ℕ, List, [], ◌∷◌, map, length, reverse, Option}
 use Rattle.std.specs.List.{Contains}
+use Rattle.std.specs.FinMap.{get}
 use Rattle.iv_types.specs.Maps.{Map}
 use Rattle.iv_types.specs.declared.lock.GroupDelta.{GroupDelta}
 use Rattle.ghost_rows.specs.State.{HasSeat, room_of}
 use Rattle.lock_manager.specs.Table as table
+use Rattle.table_laws.specs.Place.{Place}
 use Rattle.table_store.specs.Changes.{how_many}
 use Rattle.table_store.specs.Readying.{IsReady}
 use Rattle.table_store.specs.Stored.{IsTableAnd}
@@ -16,7 +18,9 @@ use Rattle.txn_machine.specs.Deltas.{place_of}
 use Rattle.txn_machine.specs.May.{IsOpen}
 use Rattle.txn_machine.specs.RowChanges.{row_change}
 use Rattle.txn_machine.specs.Steps.{put_owed, group_want}
-use Rattle.txn_machine.specs.Store.{Store, change_at, now, schema_of, notes_before}
+use Rattle.txn_machine.specs.Store.{Store, change_at, now, schema_of, committed, notes_before}
+use Rattle.data_store.specs.Machine.{bytes_of}
+use Rattle.data_past.specs.declared.noting.Noting.{Noting}
 use Rattle.core_state.specs.Rooms.{all_gone, paid}
 use Rattle.core_state.specs.declared.limits.TheConstants.{MOST_OF_TRANSACTION}
 use Rattle.core_state.specs.declared.state.CoreState.{CoreState}
@@ -27,6 +31,11 @@ pub record CanOwe {M : Type 0} (core : CoreState M) (session : ℕ) (owed : List
   pub locks : length owed ≤ table.room_of core.locks session
   pub buffers : IsOpenAnd core.book session (λ o. 2 * length owed + length (paid (reverse o.kept.items)) ≤ room_of core.store.views session)
   pub seats : (d : GroupDelta) → Contains owed d → HasSeat core.store.views (place_of d) session
+
+-- what noting a change takes is of this row, with the bytes that are committed under its key
+pub record IsNoting (s : Store) (n : Noting) (place : Place) : Type 0 where
+  pub is_of : ◌≡◌ {A = Place} (n.index, n.key) place
+  pub committed : n.committed ≡ bytes_of (schema_of s) place (get (committed s).rows place)
 
 -- A session's transaction, which owes nothing, can make the change: it is one of the row that is there, with what it owes and counts,
 -- and there is room for all of it and for taking it back.
@@ -43,4 +52,5 @@ pub record CanWrite {M : Type 0} (maps : M → ℕ → Map) (spare : M → ℕ �
   pub ready : IsTableAnd core.store.catalog w.ready.kept.change.table (IsReady core.store.catalog w.ready (maps core.store.tables) (spare core.store.tables) (limit core.store.tables))
   pub undo : (index : ℕ) → all_gone index core.book.opens + how_many index w.ready.kept.made ≤ spare core.store.tables index
   pub owes : CanOwe core session w.owed.items
+  pub noted : IsNoting s w.noting (w.ready.kept.change.table, w.ready.kept.change.key)
   pub wants : w.wants.items ≡ map (λ d. group_want d ∷ []) w.owed.items

@@ -14,6 +14,7 @@ ghost use Rattle.core_effects.specs.Undoing.{KeepsPay, KeepsPut, KeepsOne, IsPay
 
 use core_state::CoreState;
 use data_changes::{take_back_pay, take_back_put};
+use data_past::forget_change;
 use iv_types::{GroupDelta, Kept, KeptStep, PrefixList, SortedMaps};
 use txn_book::Open;
 
@@ -64,7 +65,11 @@ fn undo_put<M: SortedMaps>(core: &mut CoreState<M>, session: u32)
     core.book.book_law();
     core.store.catalog.number_law();
     match core.book.undo(session) {
-        Some(kept) => take_back_put(&mut core.store, kept),
+        Some(kept) => {
+            let change = &kept.change;
+            forget_change(&mut core.store, change.table, change.key.as_slice());
+            take_back_put(&mut core.store, kept);
+        }
         None => unreachable!(),
     }
     core.next += 1;

@@ -10,6 +10,7 @@ ghost use Rattle.core_effects.specs.Writing.{CanWrite};
 
 use core_state::CoreState;
 use data_changes::put;
+use data_past::{Noting, note_change};
 use iv_types::{GroupDelta, SortedMaps, WantList};
 use table_store::Ready;
 use txn_book::Owing;
@@ -18,6 +19,8 @@ use txn_book::Owing;
 #[derive(Drop)]
 pub struct Writing {
     pub ready: Ready,
+    /// What noting it takes.
+    pub noting: Noting,
     /// What it owes.
     pub owed: Vec<GroupDelta>,
     /// The wants of their pays.
@@ -36,11 +39,12 @@ pub fn write<M: SortedMaps>(core: &mut CoreState<M>, session: u32, writing: Writ
     ensures holds { (s : Store) (l : Log) (texts : List (List ℕ)) (a : Act) → Holds M.maps M.spare M.limit core.old s l texts → CanWrite M.maps M.spare M.limit s core.old session writing
         → Holds M.maps M.spare M.limit core.new (does the_views s session (Writes (writing.ready.kept.change.table, writing.ready.kept.change.key) writing.ready.kept.change.after))
         (logs s session a (Writes (writing.ready.kept.change.table, writing.ready.kept.change.key) writing.ready.kept.change.after) l) texts }
-    ensures rest { core.new ≡ record core.old { store = record core.old.store { tables = core.new.store.tables }; book = core.new.book; wants = core.new.wants; next = core.new.next } }
+    ensures rest { core.new ≡ record core.old { store = record core.old.store { tables = core.new.store.tables; pending = core.new.store.pending }; book = core.new.book; wants = core.new.wants; next = core.new.next } }
 {
     core.book.book_law();
     let Writing {
         ready,
+        noting,
         owed,
         wants,
         txn_bytes,
@@ -48,6 +52,7 @@ pub fn write<M: SortedMaps>(core: &mut CoreState<M>, session: u32, writing: Writ
     } = writing;
     let number = core.next;
     let kept = put(&mut core.store, ready);
+    note_change(&mut core.store, noting);
     core.book.keep(
         session,
         kept,

@@ -18,7 +18,7 @@ use Rattle.txn_machine.specs.Answers.{Answer}
 use Rattle.txn_machine.specs.Locks.{with_one}
 use Rattle.txn_machine.specs.Keeping.{Open, idle}
 use Rattle.txn_machine.specs.Records.{Record, Abort}
-use Rattle.txn_machine.specs.Store.{Store, Effect, committed, schema_of, changes_by, with_txn, with_entry, entry_changes, now, locks_of, Ends, Commits, run}
+use Rattle.txn_machine.specs.Store.{Store, Effect, committed, schema_of, changes_by, with_txn, with_entry, entry_changes, now, locks_of, Ends, Commits, does, run}
 use Rattle.txn_machine.specs.Counts.{definition_sizes}
 use Rattle.txn_machine.specs.Ghosts.{the_views}
 use Rattle.txn_machine.specs.Fresh.{fresh}
@@ -39,6 +39,7 @@ use Rattle.txn_book.proofs.Holding.{seated_holds}
 use Rattle.txn_book.proofs.Entering.{committed_holds}
 use Rattle.data_store.specs.Contents.{Contents, contents_of}
 use Rattle.data_store.specs.Held.{IsHeld}
+use Rattle.data_store.specs.Machine.{IsPast}
 use Rattle.data_changes.specs.Effects.{keeping}
 use Rattle.core_state.specs.Seats.{machine_seat, machine_cleaner, seat_at}
 use Rattle.core_state.specs.Stands.{Began, Told, Holds, Counts, is_blocked}
@@ -73,7 +74,7 @@ module _ {M : Type 0} (maps : M → ℕ → Map) (spare : M → ℕ → ℕ) (li
     (stored : (c : Contents) → IsHeld core.store.catalog (maps core.store.tables) core.store.views c → IsHeld new.store.catalog (maps new.store.tables) new.store.views (keeping c i []))
     (rows : (q : Place) → row_at new.store.views.rows q ≡ settled_at i (row_at core.store.views.rows q)) (rooms : (j : ℕ) → j ≢ i → room_of new.store.views j ≡ room_of core.store.views j)
     (tables : new.store.tables ≡ core.store.tables) (catalog : new.store.catalog ≡ core.store.catalog) (wants : new.wants ≡ core.wants)
-    (row_versions : new.store.row_versions ≡ core.store.row_versions) (delta_versions : new.store.delta_versions ≡ core.store.delta_versions) (begun : new.begun ≡ core.begun) (steps : new.steps ≡ core.steps) (seats : new.seats ≡ core.seats) (cleaner : new.cleaner ≡ core.cleaner) (stop : new.stop ≡ core.stop) where
+    (row_mark : new.store.row_versions.pruned ≡ core.store.row_versions.pruned) (delta_mark : new.store.delta_versions.pruned ≡ core.store.delta_versions.pruned) (begun : new.begun ≡ core.begun) (steps : new.steps ≡ core.steps) (seats : new.seats ≡ core.seats) (cleaner : new.cleaner ≡ core.cleaner) (stop : new.stop ≡ core.stop) where
   left_locks : (u : Store) → ((j : ℕ) → u.open_of j ≡ with_one s.store.open_of i None j) → (j : ℕ) → IsSession j → HasLocks (table.locks_of new.locks j) (locks_of u j)
   left_locks u opens j js =
       subst (λ o. HasLocks (table.locks_of new.locks j) (unwrap_or o idle).locks) (sym (opens j))
@@ -117,8 +118,9 @@ module _ {M : Type 0} (maps : M → ℕ → Map) (spare : M → ℕ → ℕ) (li
       (stored (contents_of s.store) h.holds.stored)
 
   -- without an entry
-  pub ended : (o : IsOpen s.store i) → Seats core.book new.book i None → new.next ≡ cond (s.log.logged i).wrote (core.next + 1) core.next → Left maps spare limit s i Ends core new
-  ended o seated next = record {
+  pub ended : (o : IsOpen s.store i) → Seats core.book new.book i None → new.next ≡ cond (s.log.logged i).wrote (core.next + 1) core.next
+      → IsPast new.store.row_versions.versions new.store.delta_versions.versions new.store.pending.entries (does the_views s.store i Ends) → Left maps spare limit s i Ends core new
+  ended o seated next past = record {
     holds = λ a. record {
       stored = left_stored (with_txn s.store i None) refl refl refl (λ j. refl);
       book = subst (λ l. book.Holds new.book (schema_of s.store) (with_one s.store.open_of i None) l s.store.history (committed s.store).number (definition_sizes s.definitions)) (sym (logs_logged s.store i a Ends s.log))
@@ -128,8 +130,9 @@ module _ {M : Type 0} (maps : M → ℕ → Map) (spare : M → ℕ → ℕ) (li
       locks = left_locks (with_txn s.store i None) (λ j. refl);
       begun = begun ∙ h.holds.begun;
       next = next ∙ (ap (λ n. cond (s.log.logged i).wrote (n + 1) n) h.holds.next ∙ sym (appended_next (schema_of s.store) (Abort (s.log.logged i).transaction) (with_logged s.log i not_logged) (s.log.logged i).wrote));
-      row_mark = ap (λ x. x.pruned) row_versions ∙ h.holds.row_mark;
-      delta_mark = ap (λ x. x.pruned) delta_versions ∙ h.holds.delta_mark;
+      row_mark = row_mark ∙ h.holds.row_mark;
+      delta_mark = delta_mark ∙ h.holds.delta_mark;
+      past = past;
       rooms = left_rooms seated.opens;
     };
     own = ap (λ (y : SessionLocks). y.waiting) released.changed;
@@ -140,8 +143,8 @@ module _ {M : Type 0} (maps : M → ℕ → Map) (spare : M → ℕ → ℕ) (li
 
   -- with one
   pub entered : (r : IsReady s.store i Serial) (own : HasTxn (schema_of s.store) (open_at core.book.opens i) r.goes_on.transaction (s.log.logged i)) → Committed core.book new.book i (txn_of own.txn) → new.next ≡ core.next + 1
-      → Left maps spare limit s i Commits core new
-  entered r own did next =
+      → IsPast new.store.row_versions.versions new.store.delta_versions.versions new.store.pending.entries (does the_views s.store i Commits) → Left maps spare limit s i Commits core new
+  entered r own did next past =
       let o : IsOpen s.store i = record { of_session = is; transaction = r.goes_on.transaction; is_open = r.goes_on.is_open } in
       let u : Store = with_txn (with_entry s.store i (entry_changes (now s.store i).kept)) i None in
       let after : committed u ≡ record (committed s.store) { number = (committed s.store).number + 1; rows = redo (changes_by s.store i) (committed s.store).rows } = committed_after the_views fresh view_laws s.store i in
@@ -159,8 +162,9 @@ module _ {M : Type 0} (maps : M → ℕ → Map) (spare : M → ℕ → ℕ) (li
           locks = left_locks u (λ j. refl);
           begun = begun ∙ h.holds.begun;
           next = next ∙ ap (λ n. n + 1) h.holds.next;
-          row_mark = ap (λ x. x.pruned) row_versions ∙ h.holds.row_mark;
-          delta_mark = ap (λ x. x.pruned) delta_versions ∙ h.holds.delta_mark;
+          row_mark = row_mark ∙ h.holds.row_mark;
+          delta_mark = delta_mark ∙ h.holds.delta_mark;
+          past = past;
           rooms = left_rooms did.opens;
         };
         own = ap (λ (y : SessionLocks). y.waiting) released.changed;

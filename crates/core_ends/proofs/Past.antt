@@ -1,6 +1,6 @@
 -- A commit of changes, with the versions that it leaves.
 use Rattle.std.specs.Prelude.{◌≡◌, ℕ, ◌+◌, List, [], ◌∷◌, reverse, Option, Some, None}
-use mathlib.Core.Path.{refl, sym, ap, subst, ◌∙◌}
+use mathlib.Core.Path.{sym, ap, subst, ◌∙◌}
 use Rattle.std.proofs.lemmas.List.{reverse-reverse}
 use Rattle.std.specs.FinMap.{get}
 use Rattle.table_laws.specs.Place.{Place}
@@ -14,31 +14,24 @@ use Rattle.iv_types.specs.declared.lock.KeptStep.TheVariants as step
 use Rattle.iv_types.specs.declared.statement.Mode.TheVariants.{Serial}
 use Rattle.txn_machine.specs.Ghosts.{the_views}
 use Rattle.txn_machine.specs.Keeping.{KeptStep, Put, Pay, Open}
-use Rattle.txn_machine.specs.Log.{Log}
 use Rattle.txn_machine.specs.May.{IsOpen, IsReady}
 use Rattle.txn_machine.specs.State.{State}
-use Rattle.txn_machine.specs.Store.{Store, Effect, schema_of, committed, now, Commits, Ends, does, changes_by}
+use Rattle.txn_machine.specs.Store.{schema_of, committed, now, Commits, Ends, does, changes_by}
 use Rattle.txn_machine.proofs.Reached.{reached}
 use Rattle.txn_book.specs.declared.open_table.Open.{Open as BookOpen}
 use Rattle.txn_book.specs.Opens.{open_at}
 use Rattle.txn_book.specs.Txns.{txn_of}
 use Rattle.txn_book.specs.Holding.{AreKept}
-use Rattle.version_chain.specs.Chains.{Chains}
-use Rattle.version_chain.specs.declared.deltas.Delta.{Delta}
 use Rattle.version_chain.specs.declared.rows.Version as row
-use Rattle.spare_map.specs.Spared.{Spared}
 use Rattle.data_store.specs.Past.{Pendings, RowVersions}
 use Rattle.data_store.specs.ViewPast.{DeltaVersions}
 use Rattle.data_store.specs.Machine.{changes_on, IsPast}
-use Rattle.data_store.specs.declared.store.Pending.{Pending}
 use Rattle.data_past.specs.Moves.{fewer, CanForget, puts_in, versions_in, deltas_in, version_at, delta_at, pushed_all, AreSteps}
 use Rattle.data_past.proofs.Committing.{can_forget, committed_past}
 use Rattle.data_past.proofs.Effects.{past_txn}
-use Rattle.lock_manager.specs.Table as table
-use Rattle.core_state.specs.Stands.{Began, Holds}
+use Rattle.core_state.specs.Stands.{Began}
 use Rattle.core_state.specs.declared.state.CoreState.{CoreState}
 use Rattle.core_state.proofs.Sessions.{HasTxn, own_txn, now_is}
-use Rattle.core_ends.specs.Ends.{Left}
 
 -- kept steps without the numbers of their records
 steps_of : (bs : List BookStep) (ks : List KeptStep) (ns : List ℕ) → AreKept bs ks ns → AreSteps bs ks
@@ -54,45 +47,7 @@ steps_of (step.Put k a b n ∷ bs) [] ns h = absurd h
 steps_of (step.Pay d before n ∷ bs) [] ns h = absurd h
 
 module _ {M : Type 0} (maps : M → ℕ → Map) (spare : M → ℕ → ℕ) (limit : M → Option ℕ) where
-  -- a core with other pending rows and versions
-  abbrev pub with_past : CoreState M → Chains (Option (List ℕ)) → Chains Delta → Spared Pending → CoreState M
-  with_past core r d p = record core { store = record core.store { row_versions = r; delta_versions = d; pending = p } }
-
-  holds_past : (core : CoreState M) (s : Store) (l : Log) (texts : List (List ℕ)) → Holds maps spare limit core s l texts → (r : Chains (Option (List ℕ))) (d : Chains Delta) (p : Spared Pending)
-      → r.pruned ≡ core.store.row_versions.pruned → d.pruned ≡ core.store.delta_versions.pruned → Holds maps spare limit (with_past core r d p) s l texts
-  holds_past core s l texts h r d p rows deltas = record {
-    stored = h.stored;
-    book = h.book;
-    locks = h.locks;
-    begun = h.begun;
-    next = h.next;
-    row_mark = rows ∙ h.row_mark;
-    delta_mark = deltas ∙ h.delta_mark;
-    rooms = h.rooms;
-  }
-
-  pub began_past : (core : CoreState M) (s : State) (i : ℕ) → Began maps spare limit core s i → (p : Spared Pending) → Began maps spare limit (with_past core core.store.row_versions core.store.delta_versions p) s i
-  began_past core s i h p = record {
-    reached = h.reached;
-    opening = h.opening;
-    runs = h.runs;
-    holds = holds_past core s.store s.log s.definitions h.holds core.store.row_versions core.store.delta_versions p refl refl;
-    own = h.own;
-    waiting = h.waiting;
-    counts = record { steps = h.counts.steps; seats = h.counts.seats; few = h.counts.few; cleaner = h.counts.cleaner; removed = h.counts.removed; running = h.counts.running; begun = h.counts.begun; next = h.counts.next; stop = h.counts.stop };
-  }
-
-  pub left_past : (old mid new : CoreState M) (s : State) (i : ℕ) (e : Effect) → Left maps spare limit s i e mid new → ((j : ℕ) → mid.locks ≡ old.locks) → (r : Chains (Option (List ℕ))) (d : Chains Delta)
-      → r.pruned ≡ new.store.row_versions.pruned → d.pruned ≡ new.store.delta_versions.pruned → Left maps spare limit s i e old (with_past new r d new.store.pending)
-  left_past old mid new s i e left same r d rows deltas = record {
-    holds = λ a. holds_past new _ _ s.definitions (left.holds a) r d new.store.pending rows deltas;
-    own = left.own;
-    others = λ j n. left.others j n ∙ ap (λ ls. table.waiting_of ls j) (same j);
-    counts = record { steps = left.counts.steps; seats = left.counts.seats; few = left.counts.few; cleaner = left.counts.cleaner; removed = left.counts.removed; running = left.counts.running; begun = left.counts.begun; next = left.counts.next; stop = left.counts.stop };
-    appends_one = left.appends_one;
-  }
-
-  module _ (core : CoreState M) (s : State) (i : ℕ) (h : Began maps spare limit core s i) (past : IsPast core.store.row_versions.versions core.store.delta_versions.versions core.store.pending.entries s.store) (r : IsReady s.store i Serial) where
+  module _ (core : CoreState M) (s : State) (i : ℕ) (h : Began maps spare limit core s i) (r : IsReady s.store i Serial) where
     abbrev pub opened : IsOpen s.store i
     opened = record { of_session = r.goes_on.of_session; transaction = r.goes_on.transaction; is_open = r.goes_on.is_open }
 
@@ -109,7 +64,7 @@ module _ {M : Type 0} (maps : M → ℕ → Map) (spare : M → ℕ → ℕ) (li
 
       pub forgets : CanForget core.store.pending.entries (puts_in b.kept.items)
       forgets = subst (λ (l : List BookStep). CanForget core.store.pending.entries (puts_in l)) (reverse-reverse b.kept.items)
-          (can_forget core.store.row_versions.versions core.store.delta_versions.versions core.store.pending.entries s.store past i r.goes_on.of_session (reverse b.kept.items) steps)
+          (can_forget core.store.row_versions.versions core.store.delta_versions.versions core.store.pending.entries s.store h.holds.past i r.goes_on.of_session (reverse b.kept.items) steps)
 
       pub left_versions : (number : ℕ) → number ≡ (committed s.store).number + 1 → (versions : List row.Version) (paid : List GroupDelta) → versions ≡ versions_in core.store.catalog b.kept.items → paid ≡ deltas_in b.kept.items
           → (R : RowVersions) (D : DeltaVersions) (P : Pendings) → R ≡ pushed_all (version_at number) versions core.store.row_versions.pruned core.store.row_versions.versions
@@ -117,7 +72,7 @@ module _ {M : Type 0} (maps : M → ℕ → Map) (spare : M → ℕ → ℕ) (li
           → ((place : Place) → get P place ≡ fewer (changes_on place (puts_in b.kept.items)) (get core.store.pending.entries place)) → IsPast R D P (does the_views s.store i Commits)
       left_versions number number_is versions paid versions_are paid_are R D P rows deltas pending =
           let back : reverse (reverse b.kept.items) ≡ b.kept.items = reverse-reverse b.kept.items in
-          committed_past core.store.row_versions.versions core.store.delta_versions.versions core.store.pending.entries s.store past i r.goes_on.of_session (reached s h.reached)
+          committed_past core.store.row_versions.versions core.store.delta_versions.versions core.store.pending.entries s.store h.holds.past i r.goes_on.of_session (reached s h.reached)
           (ap (λ (t : Open). t.owed) (now_is maps spare limit core s i h opened) ∙ r.owes_nothing) core.store.catalog h.holds.stored.objects (reverse b.kept.items) steps versions paid R D P
           (versions_are ∙ ap (versions_in core.store.catalog) (sym back)) (paid_are ∙ ap deltas_in (sym back))
           (rows ∙ (λ j. pushed_all (version_at (number_is j)) versions (h.holds.row_mark j) core.store.row_versions.versions))
@@ -125,8 +80,8 @@ module _ {M : Type 0} (maps : M → ℕ → Map) (spare : M → ℕ → ℕ) (li
           (λ place. pending place ∙ ap (λ (l : List BookStep). fewer (changes_on place (puts_in l)) (get core.store.pending.entries place)) (sym back))
 
   -- a transaction that has changed nothing ends
-  pub past_ended : (core new : CoreState M) (s : State) (i : ℕ) → IsPast core.store.row_versions.versions core.store.delta_versions.versions core.store.pending.entries s.store → IsSession i → changes_by s.store i ≡ []
+  pub past_ended : (core new : CoreState M) (s : State) (i : ℕ) → Began maps spare limit core s i → IsSession i → changes_by s.store i ≡ []
       → (views : ViewRows) → new.store ≡ record core.store { views = views } → IsPast new.store.row_versions.versions new.store.delta_versions.versions new.store.pending.entries (does the_views s.store i Ends)
-  past_ended core new s i past is none views same =
+  past_ended core new s i h is none views same =
       subst (λ (store : DataStore M). IsPast store.row_versions.versions store.delta_versions.versions store.pending.entries (does the_views s.store i Ends)) (sym same)
-      (past_txn core.store.row_versions.versions core.store.delta_versions.versions core.store.pending.entries s.store past i None is (sym none))
+      (past_txn core.store.row_versions.versions core.store.delta_versions.versions core.store.pending.entries s.store h.holds.past i None is (sym none))

@@ -1,22 +1,19 @@
 //! End and Commit.
-ghost use Rattle.std.specs.Prelude.{◌≡◌, ◌≢◌, ◌+◌, ℕ, [], Some, IsSome};
+ghost use Rattle.std.specs.Prelude.{◌≡◌, ◌≢◌, ℕ, [], IsSome};
 ghost use Rattle.table_laws.specs.Place.{Place};
 ghost use Rattle.ghost_rows.specs.Rows.{row_at, settled_at};
 ghost use Rattle.ghost_rows.specs.State.{room_of};
-ghost use Rattle.iv_types.specs.declared.statement.Mode.TheVariants.{Serial};
 ghost use Rattle.iv_meaning.specs.Escrow.{IsSession};
 ghost use Rattle.lock_manager.specs.Table.{IsReleased};
 ghost use Rattle.txn_machine.specs.Acts as act;
-ghost use Rattle.txn_machine.specs.Ghosts.{the_views};
-ghost use Rattle.txn_machine.specs.May.{IsOpen, IsReady, MayAct};
-ghost use Rattle.txn_machine.specs.Store.{changes_by, committed, now, Ends, Commits, does};
+ghost use Rattle.txn_machine.specs.May.{IsOpen, MayAct};
+ghost use Rattle.txn_machine.specs.Store.{changes_by, now, Ends};
 ghost use Rattle.txn_machine.specs.Steps.{number_unchanged};
 ghost use Rattle.txn_machine.specs.State.{State};
 ghost use Rattle.txn_book.specs.Acts.{answer_of};
 ghost use Rattle.txn_book.specs.Opens.{open_at};
 ghost use Rattle.data_store.specs.Contents.{Contents};
 ghost use Rattle.data_store.specs.Held.{IsHeld};
-ghost use Rattle.data_store.specs.Machine.{IsPast};
 ghost use Rattle.data_changes.specs.Effects.{keeping};
 ghost use Rattle.core_state.specs.Stands.{Began, Told};
 ghost use Rattle.core_ends.specs.Ends.{Left};
@@ -26,8 +23,8 @@ use data_changes::settle;
 use iv_types::{Mode, SortedMaps};
 use txn_book::Answer;
 
-// What a transaction held goes: its locks, and what was made for its pays.
-fn let_go<M: SortedMaps>(core: &mut CoreState<M>, session: u32)
+/// What a transaction held goes: its locks, and what was made for its pays.
+pub(crate) fn let_go<M: SortedMaps>(core: &mut CoreState<M>, session: u32)
     requires { IsSession session }
     ensures store { (c : Contents) → IsHeld core.old.store.catalog (M.maps core.old.store.tables) core.old.store.views c → IsHeld core.new.store.catalog (M.maps core.new.store.tables) core.new.store.views (keeping c session []) }
     ensures rows { (q : Place) → row_at core.new.store.views.rows q ≡ settled_at session (row_at core.old.store.views.rows q) }
@@ -39,11 +36,10 @@ fn let_go<M: SortedMaps>(core: &mut CoreState<M>, session: u32)
     settle(&mut core.store, session);
 }
 
-// Ends a transaction without an entry.
+// Ends a transaction that keeps no change, without an entry.
 fn end_it<M: SortedMaps>(core: &mut CoreState<M>, session: u32)
     requires { (s : State) × Began M.maps M.spare M.limit core.old s session × IsOpen s.store session }
-    ensures left { (s : State) → Began M.maps M.spare M.limit core.old s session → IsOpen s.store session → Left M.maps M.spare M.limit s session Ends core.old core.new }
-    ensures store { core.new.store ≡ record core.old.store { views = core.new.store.views } }
+    ensures { (s : State) → Began M.maps M.spare M.limit core.old s session → IsOpen s.store session → changes_by s.store session ≡ [] → Left M.maps M.spare M.limit s session Ends core.old core.new }
 {
     core.book.book_law();
     let wrote = core.open_of(session).has_written;
@@ -57,25 +53,10 @@ fn end_it<M: SortedMaps>(core: &mut CoreState<M>, session: u32)
 /// Ends a transaction that keeps no change, without an entry. Takes no memory.
 pub fn end<M: SortedMaps>(core: &mut CoreState<M>, session: u32) -> Answer
     requires { (s : State) × Began M.maps M.spare M.limit core.old s session × MayAct s.store session act.End }
-    ensures told { (s : State) → Began M.maps M.spare M.limit core.old s session → MayAct s.store session act.End → Told M.maps M.spare M.limit s session act.End (answer_of result) core.new }
-    ensures past { (s : State) → Began M.maps M.spare M.limit core.old s session → MayAct s.store session act.End → IsPast core.old.store.row_versions.versions core.old.store.delta_versions.versions core.old.store.pending.entries s.store → IsPast core.new.store.row_versions.versions core.new.store.delta_versions.versions core.new.store.pending.entries (does the_views s.store session Ends) }
+    ensures { (s : State) → Began M.maps M.spare M.limit core.old s session → MayAct s.store session act.End → Told M.maps M.spare M.limit s session act.End (answer_of result) core.new }
 {
     end_it(core, session);
     Answer::Ended
-}
-
-/// Enters the changes that a transaction keeps, and gives the entry's number.
-pub(crate) fn enter_it<M: SortedMaps>(core: &mut CoreState<M>, session: u32) -> u64
-    requires { (s : State) × Began M.maps M.spare M.limit core.old s session × IsReady s.store session Serial × (changes_by s.store session ≢ []) }
-    ensures number { (s : State) → Began M.maps M.spare M.limit core.old s session → result ≡ (committed s.store).number + 1 }
-    ensures left { (s : State) → Began M.maps M.spare M.limit core.old s session → IsReady s.store session Serial → changes_by s.store session ≢ [] → Left M.maps M.spare M.limit s session Commits core.old core.new }
-    ensures store { core.new.store ≡ record core.old.store { views = core.new.store.views } }
-{
-    core.book.book_law();
-    let number = core.book.commit(session);
-    let_go(core, session);
-    core.next += 1;
-    number
 }
 
 // The number that a commit of no change answers: the greatest, or a snapshot's own.
@@ -90,16 +71,11 @@ fn own_number<M: SortedMaps>(core: &CoreState<M>, session: u32) -> u64
     }
 }
 
-/// Commits a transaction that owes nothing: its changes are an entry of the next number, where it keeps some. Takes no memory.
+/// Commits a transaction that keeps no change and owes nothing, without an entry. Takes no memory.
 pub fn commit<M: SortedMaps>(core: &mut CoreState<M>, session: u32) -> Answer
-    requires { (s : State) × Began M.maps M.spare M.limit core.old s session × MayAct s.store session act.Commit }
-    ensures told { (s : State) → Began M.maps M.spare M.limit core.old s session → MayAct s.store session act.Commit → Told M.maps M.spare M.limit s session act.Commit (answer_of result) core.new }
-    ensures past { (s : State) → Began M.maps M.spare M.limit core.old s session → MayAct s.store session act.Commit → changes_by s.store session ≡ [] → IsPast core.old.store.row_versions.versions core.old.store.delta_versions.versions core.old.store.pending.entries s.store → IsPast core.new.store.row_versions.versions core.new.store.delta_versions.versions core.new.store.pending.entries (does the_views s.store session Ends) }
+    requires { (s : State) × Began M.maps M.spare M.limit core.old s session × MayAct s.store session act.Commit × (changes_by s.store session ≡ []) }
+    ensures { (s : State) → Began M.maps M.spare M.limit core.old s session → MayAct s.store session act.Commit → changes_by s.store session ≡ [] → Told M.maps M.spare M.limit s session act.Commit (answer_of result) core.new }
 {
-    core.book.book_law();
-    if core.open_of(session).puts > 0 {
-        return Answer::Committed(enter_it(core, session));
-    }
     let number = own_number(core, session);
     end_it(core, session);
     Answer::Committed(number)

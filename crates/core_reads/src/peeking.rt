@@ -6,7 +6,6 @@ ghost use Rattle.txn_machine.specs.State.{State};
 ghost use Rattle.txn_machine.specs.Store.{now};
 ghost use Rattle.txn_book.specs.Acts.{answer_of};
 ghost use Rattle.txn_book.specs.Opens.{open_at};
-ghost use Rattle.data_store.specs.Machine.{IsPast};
 ghost use Rattle.core_state.specs.Stands.{Began, Told};
 
 use core_state::CoreState;
@@ -35,9 +34,8 @@ pub fn peek<M: SortedMaps>(
     index: u32,
     interval: &Interval,
 ) -> Result<Answer, NoMemory>
-    requires { (s : State) × Began M.maps M.spare M.limit core.now s session × IsPast core.now.store.row_versions.versions core.now.store.delta_versions.versions core.now.store.pending.entries s.store × MayAct s.store session (act.Peek index interval.now) }
-    ensures { IfOk result (λ said. (s : State) → Began M.maps M.spare M.limit core.now s session → IsPast core.now.store.row_versions.versions core.now.store.delta_versions.versions core.now.store.pending.entries s.store
-        → MayAct s.store session (act.Peek index interval.now) → Told M.maps M.spare M.limit s session (act.Peek index interval.now) (answer_of said) core.now) }
+    requires { (s : State) × Began M.maps M.spare M.limit core.now s session × MayAct s.store session (act.Peek index interval.now) }
+    ensures { IfOk result (λ said. (s : State) → Began M.maps M.spare M.limit core.now s session → MayAct s.store session (act.Peek index interval.now) → Told M.maps M.spare M.limit s session (act.Peek index interval.now) (answer_of said) core.now) }
 {
     let number = own_number(core, session);
     Ok(Answer::Rows(core.store.found_at(number, index, interval)?))

@@ -4,3 +4,4 @@ pub mod Sessions
 pub mod Opened
 pub mod Closed
 pub mod Counted
+pub mod Few

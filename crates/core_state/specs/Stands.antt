@@ -20,6 +20,7 @@ use Rattle.txn_machine.specs.Laws.{IsReached}
 use Rattle.txn_book.specs.Holding as book
 use Rattle.data_store.specs.Contents.{contents_of}
 use Rattle.data_store.specs.Held.{IsHeld}
+use Rattle.data_store.specs.Machine.{IsPast}
 use Rattle.core_state.specs.Rooms.{HasRooms}
 use Rattle.core_state.specs.Seats.{machine_seat, machine_cleaner, seat_at}
 use Rattle.core_state.specs.declared.state.CoreState.{CoreState}
@@ -40,6 +41,8 @@ module _ {M : Type 0} (maps : M → ℕ → Map) (spare : M → ℕ → ℕ) (li
     -- versions are kept above the machine's mark
     pub row_mark : core.store.row_versions.pruned ≡ store.mark
     pub delta_mark : core.store.delta_versions.pruned ≡ store.mark
+    -- the versions and the pending rows are those of the store
+    pub past : IsPast core.store.row_versions.versions core.store.delta_versions.versions core.store.pending.entries store
     -- what open transactions need stands ready
     pub rooms : HasRooms (spare core.store.tables) (limit core.store.tables) core.store.catalog core.store.views core.book.opens core.locks core.wants
 

@@ -49,6 +49,7 @@ fn new_store<M: SortedMaps>(alloc: Global, maps: M, number: u64) -> Result<DataS
     ensures maps { IfOk result (λ store. store.tables ≡ maps) }
     ensures held { IfOk result (λ store. IsHeld store.catalog (M.maps store.tables) store.views no_contents) }
     ensures marks { IfOk result (λ store. (store.row_versions.pruned ≡ number) × (store.delta_versions.pruned ≡ number)) }
+    ensures past { IfOk result (λ store. (store.row_versions.versions ≡ []) × (store.delta_versions.versions ≡ []) × (store.pending.entries ≡ empty)) }
 {
     let mut store = DataStore::new(alloc, maps)?;
     store.row_versions.prune(alloc, number);

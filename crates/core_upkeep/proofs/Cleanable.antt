@@ -40,8 +40,9 @@ use Rattle.data_store.proofs.NoVersions.{no_version_law}
 use Rattle.data_store.proofs.PastEntries.{view_defined, is_some_view}
 use Rattle.iv_meaning.specs.Objects.{object_of, view_tree}
 use Rattle.data_changes.proofs.Accounts.{increments_as, account_as, fresh_at}
+use Rattle.core_state.specs.Stands.{Began}
 use Rattle.core_state.specs.declared.state.CoreState.{CoreState}
-use Rattle.core_upkeep.specs.Cleaning.{IsUnlocked, HasPast}
+use Rattle.core_upkeep.specs.Cleaning.{IsUnlocked}
 
 -- ---- kept pays
 
@@ -92,7 +93,7 @@ versions_as false b is = (λ e. absurd (true≢false e), λ t. absurd (true≢fa
 
 -- ---- the row at a place of a view
 
-module _ {M : Type 0} (maps : M → ℕ → Map) (spare : M → ℕ → ℕ) (limit : M → Option ℕ) (core : CoreState M) (s : State) (h : HasPast maps spare limit core s) (place : Place) where
+module _ {M : Type 0} (maps : M → ℕ → Map) (spare : M → ℕ → ℕ) (limit : M → Option ℕ) (core : CoreState M) (s : State) (h : Began maps spare limit core s 0) (place : Place) where
   abbrev pub its_pays : Pays
   its_pays = λ j. pays_on place (now s.store j).kept
 
@@ -100,7 +101,7 @@ module _ {M : Type 0} (maps : M → ℕ → Map) (spare : M → ℕ → ℕ) (li
   count = fresh_at s.store place 0
 
   pub all_count : AllCount its_pays
-  all_count j js = counts_all (schema_of s.store) place (now s.store j).kept (delta_law s h.began.reached j js).1
+  all_count j js = counts_all (schema_of s.store) place (now s.store j).kept (delta_law s h.reached j js).1
 
   unpaid_so : ((j : ℕ) → IsSession j → increments place 0 (now s.store j).kept ≡ []) → IsUnpaid its_pays
   unpaid_so none j js = map_nil (worth 0) (its_pays j) (increments_as place 0 (now s.store j).kept ∙ none j js)
@@ -110,10 +111,10 @@ module _ {M : Type 0} (maps : M → ℕ → Map) (spare : M → ℕ → ℕ) (li
 
   -- a row that may be removed is one of a view
   pub of_view : (c : IsCleanable s.store place) → IsStoredRow (schema_of s.store) place (some_of (get s.store.view place) c.ghost.stored).0
-  of_view c = let there = some_of (get s.store.view place) c.ghost.stored in stored_row_law s h.began.reached place there.0 there.1
+  of_view c = let there = some_of (get s.store.view place) c.ghost.stored in stored_row_law s h.reached place there.0 there.1
 
   abbrev readable : CanBeRead core.store.catalog (maps core.store.tables) core.store.views (contents_of s.store)
-  readable = record { held = h.began.holds.stored; stored = stored_row_law s h.began.reached }
+  readable = record { held = h.holds.stored; stored = stored_row_law s h.reached }
 
   pub is_of_view : IsCleanable s.store place → IsSome (view_of core.store.catalog place.0)
   is_of_view c = let row = of_view c in is_some_view core.store.catalog (maps core.store.tables) core.store.views (contents_of s.store) readable place.0 row.of row.view_is
@@ -121,14 +122,14 @@ module _ {M : Type 0} (maps : M → ℕ → Map) (spare : M → ℕ → ℕ) (li
   pub of_number : IsSome (view_of core.store.catalog place.0) → (u : ViewTree) × (numbered (schema_of s.store) place.0 ≡ Some (view u))
   of_number some =
       let d = some_of (view_of core.store.catalog place.0) some in
-      (view_tree d.0, ap (λ os. numbered os place.0) (sym h.began.holds.stored.objects) ∙ (alike core.store.catalog place.0 ∙ ap (option_map object_of) (view_defined core.store.catalog place.0 d.0 d.1)))
+      (view_tree d.0, ap (λ os. numbered os place.0) (sym h.holds.stored.objects) ∙ (alike core.store.catalog place.0 ∙ ap (option_map object_of) (view_defined core.store.catalog place.0 d.0 d.1)))
 
   module _ (u : ViewTree) (is_view : numbered (schema_of s.store) place.0 ≡ Some (view u)) where
     pub kept_here : AreKept core.store.views (maps core.store.tables) place (suc (length u.sums)) its_pays
-    kept_here = h.began.holds.stored.pays place.0 u is_view place.1
+    kept_here = h.holds.stored.pays place.0 u is_view place.1
 
     bytes_here : stored_at (maps core.store.tables) place ≡ option_map numbers_bytes (get s.store.view place)
-    bytes_here = h.began.holds.stored.views place.0 u is_view place.1
+    bytes_here = h.holds.stored.views place.0 u is_view place.1
 
     pub stored_so : IsSome (get s.store.view place) → IsSome (stored_at (maps core.store.tables) place)
     stored_so some = let there = some_of (get s.store.view place) some in subst IsSome (sym (bytes_here ∙ ap (option_map numbers_bytes) there.1)) refl
@@ -142,15 +143,15 @@ module _ {M : Type 0} (maps : M → ℕ → Map) (spare : M → ℕ → ℕ) (li
         let there = there_so some in
         let numbers = there.0 in
         let stored : stored_at (maps core.store.tables) place ≡ Some (numbers_bytes numbers) = bytes_here ∙ ap (option_map numbers_bytes) there.1 in
-        let same : kept_here.numbers ≡ numbers = numbers_same kept_here.numbers numbers (huge_fit kept_here.numbers kept_here.has.huge) (huge_fit numbers (h.began.holds.stored.in_range place.0 u is_view place.1 numbers there.1))
+        let same : kept_here.numbers ≡ numbers = numbers_same kept_here.numbers numbers (huge_fit kept_here.numbers kept_here.has.huge) (huge_fit numbers (h.holds.stored.in_range place.0 u is_view place.1 numbers there.1))
         (sym (subst (λ o. IfSome o (λ bytes. bytes ≡ numbers_bytes kept_here.numbers)) stored kept_here.has.bytes)) in
-        ap value (account_as s.store (contents_of s.store) (λ j. refl) refl place 0) ∙ (sym (stored_law s h.began.reached place 0) ∙ (ap (number_in_row 0) there.1 ∙ sym (ap (λ ns. get_or ns 0 (pos 0)) same)))
+        ap value (account_as s.store (contents_of s.store) (λ j. refl) refl place 0) ∙ (sym (stored_law s h.reached place 0) ∙ (ap (number_in_row 0) there.1 ∙ sym (ap (λ ns. get_or ns 0 (pos 0)) same)))
 
     -- a row that may be removed is a candidate
     pub among : IsCleanable s.store place → IsAmong core.store.views.candidates place
     among c =
         let some = stored_so c.ghost.stored in
-        h.began.holds.stored.ghosts place.0 u is_view place.1 (record {
+        h.holds.stored.ghosts place.0 u is_view place.1 (record {
           many = length u.sums;
           pays = its_pays;
           kept = kept_here;
@@ -170,15 +171,15 @@ module _ {M : Type 0} (maps : M → ℕ → Map) (spare : M → ℕ → ℕ) (li
           record {
             ghost = record { stored = subst IsSome (sym there.1) refl; count = both.0 };
             no_pays = none_so both.1;
-            no_versions = (no_version_law s h.began.reached core.store.row_versions.versions core.store.delta_versions.versions core.store.pending.entries h.past place).0 (versions_are.0 free.1);
-            not_locked = λ j js held. locked_is.0 free.0 j js (held.lock, (h.began.holds.locks j js held.lock).1 held.held, record { on_index = held.index_is; has_key = held.covers; has_mode = held.mode_is });
+            no_versions = (no_version_law s h.reached core.store.row_versions.versions core.store.delta_versions.versions core.store.pending.entries h.holds.past place).0 (versions_are.0 free.1);
+            not_locked = λ j js held. locked_is.0 free.0 j js (held.lock, (h.holds.locks j js held.lock).1 held.held, record { on_index = held.index_is; has_key = held.covers; has_mode = held.mode_is });
           }
 
       pub is_removed : IsCleanable s.store place → result ≡ true
       is_removed c =
           let some = stored_so c.ghost.stored in
-          let free : locked ≡ false = locked_is.1 (λ j js found. c.not_locked j js (record { lock = found.0; held = (h.began.holds.locks j js found.0).0 found.1; mode_is = found.2.has_mode; index_is = found.2.on_index; covers = found.2.has_key })) in
-          let none : versions ≡ false = versions_are.1 ((no_version_law s h.began.reached core.store.row_versions.versions core.store.delta_versions.versions core.store.pending.entries h.past place).1 c.no_versions) in
+          let free : locked ≡ false = locked_is.1 (λ j js found. c.not_locked j js (record { lock = found.0; held = (h.holds.locks j js found.0).0 found.1; mode_is = found.2.has_mode; index_is = found.2.on_index; covers = found.2.has_key })) in
+          let none : versions ≡ false = versions_are.1 ((no_version_law s h.reached core.store.row_versions.versions core.store.delta_versions.versions core.store.pending.entries h.holds.past place).1 c.no_versions) in
           (exact free none (length u.sums) its_pays kept_here count (count_is some) some all_count).1 (c.ghost.count, unpaid_so c.no_pays)
 
   -- so it is looked at

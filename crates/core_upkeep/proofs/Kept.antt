@@ -5,7 +5,8 @@ use Rattle.std.proofs.Common.{arith}
 use Rattle.iv_types.specs.Maps.{Map}
 use Rattle.txn_machine.specs.Acts as act
 use Rattle.txn_machine.specs.Answers as answer
-use Rattle.txn_machine.specs.Store.{Prunes, schema_of, committed, least_snapshot}
+use Rattle.txn_machine.specs.Ghosts.{the_views}
+use Rattle.txn_machine.specs.Store.{Prunes, does, schema_of, committed, least_snapshot}
 use Rattle.txn_machine.specs.Counts.{definition_sizes}
 use Rattle.txn_machine.specs.Locks.{with_one}
 use Rattle.table_laws.proofs.Stored.{by_session}
@@ -18,6 +19,9 @@ use Rattle.txn_book.specs.Books.{number_of}
 use Rattle.txn_book.specs.Holding as book
 use Rattle.txn_book.proofs.Least.{least_above, least_in_book}
 use Rattle.version_chain.specs.Chains.{Chains}
+use Rattle.version_chain.specs.Versions.{above}
+use Rattle.data_store.specs.Machine.{IsPast}
+use Rattle.data_past.proofs.Effects.{past_prunes}
 use Rattle.version_chain.specs.declared.deltas.Delta.{Delta}
 use Rattle.core_state.specs.Stands.{Began, Told}
 use Rattle.core_state.specs.declared.state.CoreState.{CoreState}
@@ -39,9 +43,9 @@ module _ {M : Type 0} (maps : M → ℕ → Map) (spare : M → ℕ → ℕ) (li
       (λ j low high o e snap. mark_law s h.reached j (record { of_session = (low, high); transaction = o; is_open = e }) snap)
 
   pub pruned_told : (rows : Chains (Option (List ℕ))) (deltas : Chains Delta) (least : ℕ) → least ≡ books.least_snapshot core.book.opens 64 (number_of core.book)
-      → rows.pruned ≡ max core.store.row_versions.pruned least → deltas.pruned ≡ max core.store.delta_versions.pruned least
+      → rows.versions ≡ above least core.store.row_versions.versions → deltas.versions ≡ above least core.store.delta_versions.versions → rows.pruned ≡ max core.store.row_versions.pruned least → deltas.pruned ≡ max core.store.delta_versions.pruned least
       → Told maps spare limit s 0 act.Prune answer.Pruned (record core { store = record core.store { row_versions = rows; delta_versions = deltas } })
-  pruned_told rows deltas least least_is rows_are deltas_are = record {
+  pruned_told rows deltas least least_is rows_left deltas_left rows_are deltas_are = record {
     reached = h.reached;
     opening = h.opening;
     runs = h.runs;
@@ -55,6 +59,7 @@ module _ {M : Type 0} (maps : M → ℕ → Map) (spare : M → ℕ → ℕ) (li
       next = h.holds.next;
       row_mark = rows_are ∙ marked core.store.row_versions.pruned h.holds.row_mark;
       delta_mark = deltas_are ∙ marked core.store.delta_versions.pruned h.holds.delta_mark;
+      past = past;
       rooms = h.holds.rooms;
     };
     own = λ sessions e. absurd (cc);
@@ -66,6 +71,13 @@ module _ {M : Type 0} (maps : M → ℕ → Map) (spare : M → ℕ → ℕ) (li
     appends_one = omega arith;
   }
     where
+      past : IsPast rows.versions deltas.versions core.store.pending.entries (does the_views s.store 0 Prunes)
+      past =
+          let least_here : least ≡ oldest = least_is ∙ in_book in
+          subst (λ r. IsPast r deltas.versions core.store.pending.entries (does the_views s.store 0 Prunes)) (sym (rows_left ∙ ap (λ (n : ℕ). above n core.store.row_versions.versions) least_here))
+          (subst (λ d. IsPast (above oldest core.store.row_versions.versions) d core.store.pending.entries (does the_views s.store 0 Prunes)) (sym (deltas_left ∙ ap (λ (n : ℕ). above n core.store.delta_versions.versions) least_here))
+          (past_prunes core.store.row_versions.versions core.store.delta_versions.versions core.store.pending.entries s.store h.holds.past 0 above_mark))
+
       marked : (old : ℕ) → old ≡ s.store.mark → max old least ≡ oldest
       marked old e = max_above old least (subst (λ n. n ≤ least) (sym e) (subst (λ n. s.store.mark ≤ n) (sym (least_is ∙ in_book)) above_mark)) ∙ (least_is ∙ in_book)
 
@@ -90,6 +102,7 @@ module _ {M : Type 0} (maps : M → ℕ → Map) (spare : M → ℕ → ℕ) (li
       next = h.holds.next;
       row_mark = h.holds.row_mark;
       delta_mark = h.holds.delta_mark;
+      past = h.holds.past;
       rooms = h.holds.rooms;
     };
     own = λ sessions e. absurd (cc);

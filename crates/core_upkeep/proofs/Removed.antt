@@ -41,12 +41,12 @@ use Rattle.data_store.specs.Held.{IsHeld}
 use Rattle.data_changes.specs.Effects.{without_ghost}
 use Rattle.data_changes.specs.Ghosts.{HasGhost}
 use Rattle.data_changes.proofs.Accounts.{increments_as}
+use Rattle.data_past.proofs.Effects.{past_cleans}
 use Rattle.core_state.specs.Rooms.{HasRooms}
 use Rattle.core_state.specs.Stands.{Told, Holds}
 use Rattle.core_state.specs.declared.state.CoreState.{CoreState}
 use Rattle.core_state.proofs.Unchanged.{unchanged_told}
 use Rattle.core_effects.proofs.Done.{AreUncounted, done_told}
-use Rattle.core_upkeep.specs.Cleaning.{HasPast}
 use Rattle.core_upkeep.proofs.Cleanable.{some_of, map_nil}
 
 -- numbers that are all 0 are a row of zeros
@@ -54,7 +54,7 @@ all_zeros : (ns : List ℤ) → ((at : ℕ) → get_or ns at (pos 0) ≡ pos 0) 
 all_zeros [] h = refl
 all_zeros (n ∷ ns) h = λ i. h 0 i ∷ all_zeros ns (λ at. h (suc at)) i
 
-module _ {M : Type 0} (maps : M → ℕ → Map) (spare : M → ℕ → ℕ) (limit : M → Option ℕ) (core : CoreState M) (s : State) (h : HasPast maps spare limit core s) (place : Place) (c : IsCleanable s.store place) where
+module _ {M : Type 0} (maps : M → ℕ → Map) (spare : M → ℕ → ℕ) (limit : M → Option ℕ) (core : CoreState M) (s : State) (h : Began maps spare limit core s 0) (place : Place) (c : IsCleanable s.store place) where
   abbrev numbers : List ℤ
   numbers = (some_of (get s.store.view place) c.ghost.stored).0
 
@@ -62,19 +62,19 @@ module _ {M : Type 0} (maps : M → ℕ → Map) (spare : M → ℕ → ℕ) (li
   there = (some_of (get s.store.view place) c.ghost.stored).1
 
   pub row_is : IsStoredRow (schema_of s.store) place numbers
-  row_is = stored_row_law s h.began.reached place numbers there
+  row_is = stored_row_law s h.reached place numbers there
 
   -- no session keeps a pay on it
   unpaid : (j : ℕ) → pays_on place (now s.store j).kept ≡ []
   unpaid j = elim (session_or j) [
     | inl js ↦ map_nil (worth 0) (pays_on place (now s.store j).kept) (increments_as place 0 (now s.store j).kept ∙ c.no_pays j js)
-    | inr n ↦ ap (λ o. pays_on place (Rattle.std.specs.Option.unwrap_or o idle).kept) (nobody_open s h.began.reached j n)
+    | inr n ↦ ap (λ o. pays_on place (Rattle.std.specs.Option.unwrap_or o idle).kept) (nobody_open s h.reached j n)
   ]
 
   -- its numbers are all 0
   number_is : (column : ℕ) → get_or numbers column (pos 0) ≡ pos 0
   number_is column =
-      let stored : stored_number s.store.view place column ≡ value (account_of s.store place column) = stored_law s h.began.reached place column in
+      let stored : stored_number s.store.view place column ≡ value (account_of s.store place column) = stored_law s h.reached place column in
       let fresh_is : fresh (schema_of s.store) (committed s.store).rows place column ≡ pos 0 = view_laws.none (schema_of s.store) (committed s.store).rows place c.ghost.count column in
       let kept : over_sessions (λ j. paid (increments place column (now s.store j).kept)) ≡ pos 0 =
       over_zero (λ j. paid (increments place column (now s.store j).kept)) (λ j js. ap paid (sym (increments_as place column (now s.store j).kept) ∙ ap (map (worth column)) (unpaid j))) in
@@ -83,7 +83,7 @@ module _ {M : Type 0} (maps : M → ℕ → Map) (spare : M → ℕ → ℕ) (li
 
   pub has_ghost : HasGhost core.store.catalog (maps core.store.tables) core.store.views place (contents_of s.store)
   has_ghost = record {
-    held = h.began.holds.stored;
+    held = h.holds.stored;
     of = row_is.of;
     is = row_is.view_is;
     zero = there ∙ ap Some (all_zeros numbers number_is ∙ ap zeros row_is.width);
@@ -93,7 +93,7 @@ module _ {M : Type 0} (maps : M → ℕ → Map) (spare : M → ℕ → ℕ) (li
   -- its key is short
   pub key_fits : length place.1 ≤ 1024
   key_fits =
-      let limited : IsLimited (schema_of s.store) = subst IsLimited h.began.holds.stored.objects h.began.holds.rooms.limited in
+      let limited : IsLimited (schema_of s.store) = subst IsLimited h.holds.stored.objects h.holds.rooms.limited in
       let most = (limited.narrow place.0 (view row_is.of) row_is.view_is).0 in
       let bytes = (width_law _ row_is.group row_is.fits).1 in
       let same : length place.1 ≡ length (Rattle.iv_types.specs.Encoding.key_bytes _ row_is.group) = ap length row_is.key in
@@ -102,10 +102,10 @@ module _ {M : Type 0} (maps : M → ℕ → Map) (spare : M → ℕ → ℕ) (li
   module _ (tables : M) (views : ViewState) (same_limit : limit tables ≡ limit core.store.tables) (rows : views.rows ≡ core.store.views.rows) (rooms : views.rooms ≡ core.store.views.rooms) (spares : (n : ℕ) → spare core.store.tables n ≤ spare tables n) where
     rooms_left : HasRooms (spare tables) (limit tables) core.store.catalog views core.book.opens core.locks core.wants
     rooms_left = record {
-      unlimited = same_limit ∙ h.began.holds.rooms.unlimited;
-      limited = h.began.holds.rooms.limited;
-      undo = λ n. let had = h.began.holds.rooms.undo n in let more = spares n in omega (arith, had, more);
-      each = λ j js t at. let r = h.began.holds.rooms.each j js t at in record {
+      unlimited = same_limit ∙ h.holds.rooms.unlimited;
+      limited = h.holds.rooms.limited;
+      undo = λ n. let had = h.holds.rooms.undo n in let more = spares n in omega (arith, had, more);
+      each = λ j js t at. let r = h.holds.rooms.each j js t at in record {
         wanted = r.wanted;
         buffers = let same : room_of views j ≡ room_of core.store.views j = ap (λ rs. get_or rs j 0) rooms in omega (arith, r.buffers, same);
         seats = λ d has. subst (λ rs. HasSeat (record views { rows = rs }) (Rattle.txn_machine.specs.Deltas.place_of d) j) (sym rows) (r.seats d has);
@@ -121,24 +121,25 @@ module _ {M : Type 0} (maps : M → ℕ → Map) (spare : M → ℕ → ℕ) (li
         → Holds maps spare limit (record core { store = record core.store { tables = tables; views = views }; next = core.next + 1 }) (does the_views s.store 0 (Cleans place)) (logs s.store 0 act.Clean (Cleans place) s.log) s.definitions
     removed_holds stored = record {
       stored = stored;
-      book = subst (λ f. book.Holds core.book (schema_of s.store) s.store.open_of f s.store.history (committed s.store).number (definition_sizes s.definitions)) (sym (logs_logged s.store 0 act.Clean (Cleans place) s.log ∙ (λ x j. as_logged j x))) h.began.holds.book;
-      locks = h.began.holds.locks;
-      begun = h.began.holds.begun;
-      next = ap (λ n. n + 1) h.began.holds.next;
-      row_mark = h.began.holds.row_mark;
-      delta_mark = h.began.holds.delta_mark;
+      book = subst (λ f. book.Holds core.book (schema_of s.store) s.store.open_of f s.store.history (committed s.store).number (definition_sizes s.definitions)) (sym (logs_logged s.store 0 act.Clean (Cleans place) s.log ∙ (λ x j. as_logged j x))) h.holds.book;
+      locks = h.holds.locks;
+      begun = h.holds.begun;
+      next = ap (λ n. n + 1) h.holds.next;
+      row_mark = h.holds.row_mark;
+      delta_mark = h.holds.delta_mark;
+      past = past_cleans core.store.row_versions.versions core.store.delta_versions.versions core.store.pending.entries s.store h.holds.past 0 place c.no_versions;
       rooms = rooms_left;
     }
 
 -- ---- what is told
 
-module _ {M : Type 0} (maps : M → ℕ → Map) (spare : M → ℕ → ℕ) (limit : M → Option ℕ) (core : CoreState M) (s : State) (h : HasPast maps spare limit core s) where
+module _ {M : Type 0} (maps : M → ℕ → Map) (spare : M → ℕ → ℕ) (limit : M → Option ℕ) (core : CoreState M) (s : State) (h : Began maps spare limit core s 0) where
   pub none_told : ((place : Place) → IsCleanable s.store place → ⊥) → Told maps spare limit s 0 act.Clean (answer.Cleaned 0) core
-  none_told none = unchanged_told maps spare limit core s 0 act.Clean (answer.Cleaned 0) h.began (none, refl) refl refl refl refl
+  none_told none = unchanged_told maps spare limit core s 0 act.Clean (answer.Cleaned 0) h (none, refl) refl refl refl refl
 
   pub removed_told : (new : CoreState M) (place : Place) → IsFirstCleanable s.store place → Holds maps spare limit new (does the_views s.store 0 (Cleans place)) (logs s.store 0 act.Clean (Cleans place) s.log) s.definitions
       → AreUncounted core new → ((j : ℕ) → table.waiting_of new.locks j ≡ table.waiting_of core.locks j) → Told maps spare limit s 0 act.Clean (answer.Cleaned 1) new
   removed_told new place first holds same others =
-      done_told maps spare limit core new s 0 h.began act.Clean (answer.Cleaned 1) (Cleans place ∷ [])
-      (place, first, refl, subst (λ o. Within o.log_limit (s.log.used + reserved s.store s.log + group_bytes place)) (sym h.began.opening) tt)
-      holds same (λ js. others 0 ∙ h.began.own js) (λ j js n. others j ∙ h.began.waiting j js n) refl refl (omega arith) (omega arith)
+      done_told maps spare limit core new s 0 h act.Clean (answer.Cleaned 1) (Cleans place ∷ [])
+      (place, first, refl, subst (λ o. Within o.log_limit (s.log.used + reserved s.store s.log + group_bytes place)) (sym h.opening) tt)
+      holds same (λ js. others 0 ∙ h.own js) (λ j js n. others j ∙ h.waiting j js n) refl refl (omega arith) (omega arith)

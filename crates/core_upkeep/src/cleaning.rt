@@ -9,8 +9,8 @@ ghost use Rattle.txn_machine.specs.State.{State};
 ghost use Rattle.txn_machine.specs.Store.{Cleans, does};
 ghost use Rattle.txn_book.specs.Acts.{answer_of};
 ghost use Rattle.data_store.specs.ViewPast.{view_of};
-ghost use Rattle.core_state.specs.Stands.{Holds, Told};
-ghost use Rattle.core_upkeep.specs.Cleaning.{IsUnlocked, HasPast};
+ghost use Rattle.core_state.specs.Stands.{Began, Holds, Told};
+ghost use Rattle.core_upkeep.specs.Cleaning.{IsUnlocked};
 
 use core_state::CoreState;
 use data_changes::remove_ghost;
@@ -42,8 +42,8 @@ fn is_view(catalog: &Catalog, number: u32) -> bool
 
 // Whether the row at a place may be removed.
 fn is_cleanable<M: SortedMaps>(core: &CoreState<M>, view: u32, group: &[u8]) -> bool
-    requires { (s : State) × HasPast M.maps M.spare M.limit core.now s }
-    ensures { (s : State) → HasPast M.maps M.spare M.limit core.now s → (result ≡ true) ↔ IsCleanable s.store (view, group.now) }
+    requires { (s : State) × Began M.maps M.spare M.limit core.now s 0 }
+    ensures { (s : State) → Began M.maps M.spare M.limit core.now s 0 → (result ≡ true) ↔ IsCleanable s.store (view, group.now) }
 {
     if !is_view(&core.store.catalog, view) {
         return false;
@@ -61,9 +61,9 @@ fn is_cleanable<M: SortedMaps>(core: &CoreState<M>, view: u32, group: &[u8]) -> 
 
 // The first place whose row may be removed, if there is one. Only ghosts are looked at.
 fn first_cleanable<M: SortedMaps>(core: &CoreState<M>) -> Option<(u32, &[u8])>
-    requires { (s : State) × HasPast M.maps M.spare M.limit core.now s }
-    ensures some { IfSome result (λ place. (s : State) → HasPast M.maps M.spare M.limit core.now s → IsFirstCleanable s.store (place.0, place.1.now)) }
-    ensures none { result ≡ None → (s : State) → HasPast M.maps M.spare M.limit core.now s → (place : Place) → IsCleanable s.store place → ⊥ }
+    requires { (s : State) × Began M.maps M.spare M.limit core.now s 0 }
+    ensures some { IfSome result (λ place. (s : State) → Began M.maps M.spare M.limit core.now s 0 → IsFirstCleanable s.store (place.0, place.1.now)) }
+    ensures none { result ≡ None → (s : State) → Began M.maps M.spare M.limit core.now s 0 → (place : Place) → IsCleanable s.store place → ⊥ }
 {
     let mut next = core.store.views.first_candidate(0, &[]);
     while let Some((view, group)) = next {
@@ -77,8 +77,8 @@ fn first_cleanable<M: SortedMaps>(core: &CoreState<M>) -> Option<(u32, &[u8])>
 
 // Takes away the row of a place that may be removed.
 fn remove<M: SortedMaps>(core: &mut CoreState<M>, view: u32, group: &[u8])
-    requires { (s : State) × HasPast M.maps M.spare M.limit core.old s × IsCleanable s.store (view, group.now) }
-    ensures holds { (s : State) → HasPast M.maps M.spare M.limit core.old s → IsCleanable s.store (view, group.now)
+    requires { (s : State) × Began M.maps M.spare M.limit core.old s 0 × IsCleanable s.store (view, group.now) }
+    ensures holds { (s : State) → Began M.maps M.spare M.limit core.old s 0 → IsCleanable s.store (view, group.now)
         → Holds M.maps M.spare M.limit core.new (does the_views s.store 0 (Cleans (view, group.now))) (logs s.store 0 act.Clean (Cleans (view, group.now)) s.log) s.definitions }
     ensures rest { core.new ≡ record core.old { store = core.new.store; next = core.new.next } }
 {
@@ -99,8 +99,8 @@ fn key_of(bytes: &[u8]) -> [u8; MOST_KEY_WIDTH as usize]
 /// Removes the first ghost, by its view's number and the bytes of its group, on which no pay is kept, which no session has locked and
 /// of which no version is kept, if there is one. Takes no memory.
 pub fn clean<M: SortedMaps>(core: &mut CoreState<M>) -> Answer
-    requires { (s : State) × HasPast M.maps M.spare M.limit core.old s }
-    ensures told { (s : State) → HasPast M.maps M.spare M.limit core.old s → Told M.maps M.spare M.limit s 0 act.Clean (answer_of result) core.new }
+    requires { (s : State) × Began M.maps M.spare M.limit core.old s 0 }
+    ensures told { (s : State) → Began M.maps M.spare M.limit core.old s 0 → Told M.maps M.spare M.limit s 0 act.Clean (answer_of result) core.new }
 {
     let (view, width, key) = match first_cleanable(core) {
         Some((view, group)) => (view, group.len(), key_of(group)),

@@ -1,12 +1,9 @@
 //! Prune.
 ghost use Rattle.std.specs.Prelude.{◌≡◌};
 ghost use Rattle.txn_machine.specs.Acts as act;
-ghost use Rattle.txn_machine.specs.Ghosts.{the_views};
 ghost use Rattle.txn_machine.specs.State.{State};
-ghost use Rattle.txn_machine.specs.Store.{Prunes, does};
 ghost use Rattle.txn_book.specs.Acts.{answer_of};
 ghost use Rattle.version_chain.specs.Versions.{above};
-ghost use Rattle.data_store.specs.Machine.{IsPast};
 ghost use Rattle.core_state.specs.Stands.{Began, Told};
 ghost use Rattle.core_upkeep.specs.Oldest.{oldest};
 
@@ -20,8 +17,6 @@ pub fn prune<M: SortedMaps>(core: &mut CoreState<M>) -> Answer
     ensures told { (s : State) → Began M.maps M.spare M.limit core.old s 0 → Told M.maps M.spare M.limit s 0 act.Prune (answer_of result) core.new }
     ensures rows { core.new.store.row_versions.versions ≡ above (oldest core.old.book) core.old.store.row_versions.versions }
     ensures deltas { core.new.store.delta_versions.versions ≡ above (oldest core.old.book) core.old.store.delta_versions.versions }
-    ensures past { (s : State) → Began M.maps M.spare M.limit core.old s 0 → IsPast core.old.store.row_versions.versions core.old.store.delta_versions.versions core.old.store.pending.entries s.store
-        → IsPast core.new.store.row_versions.versions core.new.store.delta_versions.versions core.new.store.pending.entries (does the_views s.store 0 Prunes) }
 {
     let oldest = core.book.least_snapshot();
     let alloc = core.alloc;

@@ -1,7 +1,7 @@
 -- A store after a change is put or taken back, and after a commit, by what the calls did.
-use Rattle.std.specs.Prelude.{◌≡◌, ◌≤◌, ◌+◌, ℕ, zero, suc, List, [], ◌∷◌, ◌++◌, map, reverse, Option, Some, None}
+use Rattle.std.specs.Prelude.{◌≡◌, ◌≤◌, ◌<◌, ◌+◌, ◌-◌, ◌^◌, ℕ, zero, suc, List, [], ◌∷◌, ◌++◌, map, reverse, length, Option, Some, None, IfSome}
 use Rattle.std.specs.Option.{option_map, option_and_then}
-use mathlib.Core.Path.{refl, sym, ap, ◌∙◌}
+use mathlib.Core.Path.{refl, sym, ap, subst, ◌∙◌}
 use mathlib.Core.Logic.{inl, inr}
 use Rattle.std.proofs.Common.{arith}
 use Rattle.std.proofs.lemmas.List.{append-nil}
@@ -41,12 +41,17 @@ use Rattle.data_store.specs.Contents.{contents_of}
 use Rattle.data_store.specs.Held.{IsHeld}
 use Rattle.data_store.specs.Past.{Pendings, RowVersions, committed_value}
 use Rattle.data_store.specs.ViewPast.{DeltaVersions}
-use Rattle.data_store.specs.Machine.{bytes_by, bytes_of, changes_on, kept_up_to, kept_on, version_by, delta_by, IsPast}
+use Rattle.data_store.specs.declared.store.Pending.{Pending}
+use Rattle.data_store.specs.Machine.{bytes_by, bytes_of, changes_on, kept_up_to, kept_on, pending_of, version_by, delta_by, IsPast}
 use Rattle.data_store.proofs.Finding.{alike}
 use Rattle.data_store.proofs.RowsThen.{committed_is}
-use Rattle.data_past.specs.Moves.{one_more, fewer, ChangesAt, CanForget, put_in, puts_in, delta_in, deltas_in, bytes_in, versions_in, version_at, delta_at, pushed_all, pays_of, AreSteps}
+use Rattle.iv_types.specs.declared.lock.Change.{Change}
+use Rattle.txn_machine.specs.RowChanges.{row_change}
+use Rattle.data_past.specs.Ahead.{made_of}
+use Rattle.data_past.specs.Moves.{version_of, one_more, fewer, ChangesAt, CanCount, HasChange, CanForget, put_in, puts_in, delta_in, deltas_in, bytes_in, versions_in, version_at, delta_at, pushed_all, pays_of, AreSteps}
 use Rattle.data_past.proofs.Effects.{past_writes, past_commits}
-use Rattle.data_past.proofs.Pendings.{on_both}
+use Rattle.data_past.proofs.Counting.{kept_few, on_itself}
+use Rattle.data_past.proofs.Pendings.{on_both, pending_has}
 use Rattle.data_past.proofs.Entering.{sets_in, all_owed, paid_owed}
 
 -- ---- kept steps
@@ -97,6 +102,10 @@ same_bytes ds n key before = by (definitions.numbered ds n) ∙ ap (λ o. bytes_
     by (Some (Index i)) = refl
     by (Some (View v)) = refl
 
+-- the version that code makes of a change is that of the machine's
+pub made_as : (ds : Definitions) (change : Change) → version_of ds change ≡ made_of (schema_of ds) (row_change change)
+made_as ds change = ap (λ b. record { index = change.table; key = change.key; before = b }) (same_bytes ds change.table change.key change.before)
+
 -- the versions that code makes are those of the entry
 pub same_versions : (ds : Definitions) (m : ℕ) (bs : List KeptStep) (ks : List machine.KeptStep) → AreSteps bs ks
     → map (version_at m) (versions_in ds (reverse bs)) ≡ map (version_by (schema_of ds)) (commits_in m (entry_changes ks))
@@ -107,7 +116,7 @@ same_versions ds m bs ks h = each (reverse bs) ∙ ap (map (version_by (schema_o
     each (Put kept txn_bytes history_bytes number ∷ bs) = λ i. (((kept.change.table, kept.change.key), m), same_bytes ds kept.change.table kept.change.key kept.change.before i) ∷ each bs i
     each (Pay delta before number ∷ bs) = each bs
 
-same_count : (p : Place) (cs : List RowChange) → changes_on p (reverse cs) ≡ changes_on p cs
+pub same_count : (p : Place) (cs : List RowChange) → changes_on p (reverse cs) ≡ changes_on p cs
 same_count p [] = refl
 same_count p (c ∷ cs) = ap (changes_on p) (reversed c cs) ∙ (on_both p (reverse cs) (c ∷ []) ∙ (let rest = same_count p cs in omega (arith, rest)))
 
@@ -130,6 +139,25 @@ module _ (R : RowVersions) (D : DeltaVersions) (P : Pendings) (s : Store) (past 
       let all = part_of (changes_by s) p 64 i is.0 is.1 in
       let same : changes_on p (puts_in (reverse bs)) ≡ changes_on p (changes_by s i) = ap (changes_on p) (same_puts bs (now s i).kept h) ∙ same_count p (changes_by s i) in
       (kept_on s p, bytes_of (store.schema_of s) p (get (committed s).rows p), past.pending p, omega (arith, all, same))
+
+  -- the latest change that a session keeps is counted
+  pub latest_counted : (c : RowChange) (owed : List GroupDelta) (ks : List machine.KeptStep) → (now s i).kept ≡ machine.Put c owed ∷ ks → HasChange P c.key
+  latest_counted c owed ks kept =
+      let all = part_of (changes_by s) c.key 64 i is.0 is.1 in
+      let own : changes_on c.key (changes_by s i) ≡ changes_on c.key (c ∷ changes_of ks) = ap (λ (l : List machine.KeptStep). changes_on c.key (changes_of l)) kept in
+      let one = on_itself c (changes_of ks) in
+      let found = pending_has (kept_on s c.key) (bytes_of (store.schema_of s) c.key (get (committed s).rows c.key)) (omega (arith, all, own, one)) in
+      (found.0, past.pending c.key ∙ found.1, found.2)
+
+  -- one more can be counted, where each session keeps few
+  pub can_count : (p : Place) → ((j : ℕ) → IsSession j → length (changes_by s j) ≤ 2 ^ 32) → CanCount P p
+  can_count p few =
+      let all = kept_few (changes_by s) p (2 ^ 32) 64 (λ j low high. few j (low, high)) in
+      subst (λ (o : Option Pending). IfSome o (λ x. x.changes < 2 ^ 64 - 1)) (sym (past.pending p)) (by (kept_on s p) (omega (arith, all)))
+    where
+      by : (n : ℕ) → n < 2 ^ 64 - 1 → IfSome (pending_of n (bytes_of (store.schema_of s) p (get (committed s).rows p))) (λ x. x.changes < 2 ^ 64 - 1)
+      by zero lt = tt
+      by (suc n) lt = lt
 
   -- ---- what the calls make
 

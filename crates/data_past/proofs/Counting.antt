@@ -1,5 +1,5 @@
 -- How many changes of a row are kept, after one session's transaction is another.
-use Rattle.std.specs.Prelude.{◌≡◌, ◌≢◌, ◌≤◌, ◌<◌, ◌+◌, ℕ, zero, suc, true, false, cond, List, [], ◌∷◌, Option}
+use Rattle.std.specs.Prelude.{◌≡◌, ◌≢◌, ◌≤◌, ◌<◌, ◌+◌, ◌*◌, ℕ, zero, suc, true, false, cond, List, [], ◌∷◌, length, Option}
 use mathlib.Core.Path.{refl, sym, ap, ◌∙◌}
 use mathlib.Core.Logic.{inl, inr}
 use Rattle.std.proofs.Common.{arith}
@@ -49,6 +49,19 @@ kept_with open_of i o p (suc n) low high = by_session i (suc n)
 pub kept_after : (s : Store) (i : ℕ) (o : Option Open) (p : Place) → IsSession i
     → kept_up_to (changes_in (with_one s.open_of i o)) p 64 + changes_on p (changes_by s i) ≡ kept_on s p + changes_on p (changes_of (the_open o).kept)
 kept_after s i o p is = kept_with s.open_of i o p 64 is.0 is.1
+
+-- no more than so many times the most of one session
+pub kept_few : (changes : ℕ → List RowChange) (p : Place) (most n : ℕ) → ((j : ℕ) → 1 ≤ j → j ≤ n → length (changes j) ≤ most) → kept_up_to changes p n ≤ most * n
+kept_few changes p most zero each = omega arith
+kept_few changes p most (suc n) each =
+    let rest : kept_up_to changes p n ≤ most * n = kept_few changes p most n (λ j low high. each j low (omega (arith, high))) in
+    let here = on_few p (changes (suc n)) in
+    let few = each (suc n) (omega arith) (omega arith) in
+    omega (arith, rest, here, few)
+  where
+    on_few : (p : Place) (cs : List RowChange) → changes_on p cs ≤ length cs
+    on_few p [] = omega arith
+    on_few p (c ∷ cs) = elim (eq_by_cmp place_cmp p c.key) as (λ b. cond b 1 0 + changes_on p cs ≤ suc (length cs)) [ true ↦ omega (arith, on_few p cs) | false ↦ omega (arith, on_few p cs) ]
 
 -- ---- one change
 

@@ -5,3 +5,4 @@ pub mod Pendings
 pub mod Effects
 pub mod Committing
 pub mod Laws
+pub mod Aheads

@@ -96,7 +96,7 @@ one_change old new c changes p = changes p ∙ by (eq_by_cmp place_cmp p c.key)
     by true = refl
     by false = refl
 
-pending_has : (n : ℕ) (bytes : Option (List ℕ)) → 1 ≤ n → (p : Pending) × (pending_of n bytes ≡ Some p) × (1 ≤ p.changes)
+pub pending_has : (n : ℕ) (bytes : Option (List ℕ)) → 1 ≤ n → (p : Pending) × (pending_of n bytes ≡ Some p) × (1 ≤ p.changes)
 pending_has zero bytes le = absurd (omega (arith, le))
 pending_has (suc n) bytes le = (record { changes = suc n; committed = bytes }, refl, le)
 

@@ -12,7 +12,7 @@ with_long : {V : Type 0} (v : Version V) (vs : List (Version V)) → length (wit
 with_long v [] = refl
 with_long v (w ∷ ws) = elim (is_lt (moment_cmp v.0 w.0)) as (λ b. length (cond b (v ∷ w ∷ ws) (w ∷ with_version v ws)) ≡ suc (suc (length ws))) [ true ↦ refl | false ↦ ap suc (with_long v ws) ]
 
-pushed_long : {V : Type 0} (v : Version V) (mark : ℕ) (vs : List (Version V)) → length (pushed v mark vs) ≤ suc (length vs)
+pub pushed_long : {V : Type 0} (v : Version V) (mark : ℕ) (vs : List (Version V)) → length (pushed v mark vs) ≤ suc (length vs)
 pushed_long v mark vs = elim (nat_lt mark (number v)) as (λ b. length (cond b (with_version v vs) vs) ≤ suc (length vs)) [ true ↦ (let e = with_long v vs in omega (arith, e)) | false ↦ omega arith ]
 
 module _ {A V : Type 0} (f : A → Version V) where

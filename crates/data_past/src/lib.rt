@@ -10,7 +10,7 @@ mod law;
 mod noting;
 mod versions;
 
-pub use ahead::copied_deltas;
+pub use ahead::{VersionsAhead, copied_deltas};
 pub use law::past_law;
 pub use noting::{Noting, forget_change, forget_changes, note_change, ready_note};
 pub use versions::{Versions, push_versions, ready_versions, reserve_versions, version_of};

@@ -1,5 +1,5 @@
 //! The versions that a commit leaves.
-ghost use Rattle.std.specs.Prelude.{◌≡◌, ◌≤◌, ◌++◌, length, reverse, IfOk, OnOk};
+ghost use Rattle.std.specs.Prelude.{◌≡◌, ◌≤◌, ◌+◌, ◌++◌, length, reverse, IfOk, OnOk};
 ghost use Rattle.std.specs.Option.{option_to_list};
 ghost use Rattle.data_past.specs.Moves.{pushed_all, version_at, delta_at, HasFitting, IsFitting, AreFitting, version_of, version_in, versions_in, delta_in, deltas_in};
 
@@ -127,6 +127,7 @@ pub fn reserve_versions<M: SortedMaps>(
 ) -> Result<(), NoMemory>
     ensures rows { store.new.row_versions ≡ record store.old.row_versions { room = store.new.row_versions.room } }
     ensures deltas { store.new.delta_versions ≡ record store.old.delta_versions { room = store.new.delta_versions.room } }
+    ensures more { (store.old.row_versions.room ≤ store.new.row_versions.room) × (store.old.delta_versions.room ≤ store.new.delta_versions.room) }
     ensures room { OnOk result (rows ≤ store.new.row_versions.room) }
     ensures deltas_room { OnOk result (deltas ≤ store.new.delta_versions.room) }
     ensures rest { store.new ≡ record store.old { row_versions = store.new.row_versions; delta_versions = store.new.delta_versions } }
@@ -140,6 +141,7 @@ fn push_rows(chains: &mut RowChains, number: u64, mut versions: Vec<Version>)
     requires room { length versions.items ≤ chains.old.room }
     ensures versions { chains.new.versions ≡ pushed_all (version_at number) (reverse versions.items) chains.old.pruned chains.old.versions }
     ensures pruned { chains.new.pruned ≡ chains.old.pruned }
+    ensures left { chains.old.room ≤ chains.new.room + length versions.items }
 {
     while let Some(version) = versions.pop() {
         chains.push(number, version);
@@ -151,6 +153,7 @@ fn push_deltas(chains: &mut DeltaChains, number: u64, mut deltas: Vec<GroupDelta
     requires room { length deltas.items ≤ chains.old.room }
     ensures versions { chains.new.versions ≡ pushed_all (delta_at number) (reverse deltas.items) chains.old.pruned chains.old.versions }
     ensures pruned { chains.new.pruned ≡ chains.old.pruned }
+    ensures left { chains.old.room ≤ chains.new.room + length deltas.items }
 {
     while let Some(delta) = deltas.pop() {
         chains.push(number, delta);
@@ -165,6 +168,8 @@ pub fn push_versions<M: SortedMaps>(store: &mut DataStore<M>, number: u64, versi
     ensures deltas { store.new.delta_versions.versions ≡ pushed_all (delta_at number) versions.deltas.items store.old.delta_versions.pruned store.old.delta_versions.versions }
     ensures pruned { store.new.row_versions.pruned ≡ store.old.row_versions.pruned }
     ensures deltas_pruned { store.new.delta_versions.pruned ≡ store.old.delta_versions.pruned }
+    ensures left { store.old.row_versions.room ≤ store.new.row_versions.room + length versions.rows.items }
+    ensures deltas_left { store.old.delta_versions.room ≤ store.new.delta_versions.room + length versions.deltas.items }
     ensures rest { store.new ≡ record store.old { row_versions = store.new.row_versions; delta_versions = store.new.delta_versions } }
 {
     let Versions {

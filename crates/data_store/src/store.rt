@@ -1,5 +1,6 @@
 //! The store.
 ghost use Rattle.std.specs.Prelude.{◌≡◌, ℕ, List, [], IfOk};
+ghost use Rattle.std.specs.FinMap.{empty};
 ghost use Rattle.iv_types.specs.Maps.{Map};
 ghost use Rattle.data_store.specs.Contents.{Contents, no_contents};
 ghost use Rattle.data_store.specs.Held.{IsHeld, AreEmpty};
@@ -57,6 +58,7 @@ impl<M: SortedMaps> DataStore<M> {
         ensures maps { IfOk result (λ store. store.tables ≡ maps) }
         ensures held { IfOk result (λ store. IsHeld store.catalog (M.maps store.tables) store.views no_contents) }
         ensures pruned { IfOk result (λ store. (store.row_versions.pruned ≡ 0) × (store.delta_versions.pruned ≡ 0)) }
+        ensures past { IfOk result (λ store. (store.row_versions.versions ≡ []) × (store.delta_versions.versions ≡ []) × (store.pending.entries ≡ empty)) }
     {
         Ok(DataStore {
             alloc,

@@ -4,6 +4,7 @@ use Rattle.lock_manager.specs.Table as lock
 use Rattle.txn_machine.specs.Answers as answer
 use Rattle.txn_machine.specs.Ghosts.{the_views}
 use Rattle.txn_machine.specs.Steps.{group_want}
+use Rattle.data_store.specs.Past.{committed_value}
 use Rattle.core_state.specs.Stands.{Holds, Told}
 use Rattle.core_effects.specs.Writing.{CanWrite}
 use Rattle.core_effects.specs.declared.writing.Writing.{Writing}
@@ -70,6 +71,14 @@ prepare-requires-after_bounds g c κs within =
     let can1 = can_still g.M.SortedMaps.maps g.M.SortedMaps.spare g.M.SortedMaps.limit core one s i ch c.args.wants c.args.owed c.args.bytes c.args.entry_bytes can b1 in
     rows_fit g.M.SortedMaps.maps g.M.SortedMaps.spare g.M.SortedMaps.limit one s i ch c.args.wants can1.puts
 
+pub returns-in_err-noting-clause-err : goal.returns-in_err-noting-clause-err
+returns-in_err-noting-clause-err g c = on_err_of c.from_residual-in_err-noting.result (λ s can.
+    let core = c.args.core.now in
+    let i = c.args.session in
+    let ch = c.args.change in
+    c.make_room.ensures.began s can.puts.began (open_here g.M.SortedMaps.maps g.M.SortedMaps.spare g.M.SortedMaps.limit core s i ch c.args.wants can.puts)
+    (subst (AreDeltas s.store) (sym c.as_slice-4.ensures) (are_deltas g.M.SortedMaps.maps g.M.SortedMaps.spare g.M.SortedMaps.limit core s i ch c.args.wants can.puts c.args.owed can.owed_is)))
+
 pub returns-in_err-ready-clause-err : goal.returns-in_err-ready-clause-err
 returns-in_err-ready-clause-err g c = on_err_of c.from_residual-in_err-ready.result (λ s can.
     let core = c.args.core.now in
@@ -106,14 +115,15 @@ write-requires-clause-can g c κs within =
     (subst (AreDeltas s.store) (sym c.as_slice-4.ensures) (are_deltas g.M.SortedMaps.maps g.M.SortedMaps.spare g.M.SortedMaps.limit core s i ch c.args.wants can.puts c.args.owed can.owed_is)) in
     let can1 = can_still g.M.SortedMaps.maps g.M.SortedMaps.spare g.M.SortedMaps.limit core one s i ch c.args.wants c.args.owed c.args.bytes c.args.entry_bytes can b1 in
     let room = subst (λ ws. HasRoom g.M.SortedMaps.spare one i ch.table (length ws) c.args.owed) c.as_slice-3.ensures (subst (λ ds. HasRoom g.M.SortedMaps.spare one i ch.table (length c.as_slice-3.result.now) ds) c.as_slice-4.ensures c.in_ok-make_room.ensures.room) in
-    let w : Writing = record { ready = c.in_ok-ready.ready; owed = c.into_vec.result; wants = c.in_ok-pays.pays; txn_bytes = c.args.bytes; history_bytes = c.args.entry_bytes } in
+    let w : Writing = record { ready = c.in_ok-ready.ready; noting = c.in_ok-noting.noting; owed = c.into_vec.result; wants = c.in_ok-pays.pays; txn_bytes = c.args.bytes; history_bytes = c.args.entry_bytes } in
     let two = c.take.new.core in
     let a = act.Put ch.table ch.key ch.after in
     let took = c.take.ensures.holds s.store s.log s.definitions a b1.holds (open_here g.M.SortedMaps.maps g.M.SortedMaps.spare g.M.SortedMaps.limit one s i ch c.args.wants can1.puts) (owes_none g.M.SortedMaps.maps g.M.SortedMaps.spare g.M.SortedMaps.limit one s i b1 can1.puts.may.0) in
     let mid = between g.M.SortedMaps.maps g.M.SortedMaps.spare g.M.SortedMaps.limit one s i ch c.args.wants c.args.owed c.args.bytes c.args.entry_bytes can1 in
     let writes = subst (λ x. CanWrite g.M.SortedMaps.maps g.M.SortedMaps.spare g.M.SortedMaps.limit mid x i w) (sym c.take.ensures.rest)
     (can_write g.M.SortedMaps.maps g.M.SortedMaps.spare g.M.SortedMaps.limit one s i ch c.args.wants c.args.owed c.args.bytes c.args.entry_bytes can1 c.book_law.ensures c.number_law.ensures room two.locks w c.take.ensures.room
-    c.into_vec.ensures (c.in_ok-pays.ensures ∙ ap (map (λ d. group_want d ∷ [])) c.as_slice-2.ensures) refl refl c.in_ok-ready.ensures.kept c.in_ok-ready.ensures.coming) in
+    c.into_vec.ensures (c.in_ok-pays.ensures ∙ ap (map (λ d. group_want d ∷ [])) c.as_slice-2.ensures) refl refl c.in_ok-ready.ensures.kept c.in_ok-ready.ensures.coming
+    c.in_ok-noting.ensures.place.0 (c.in_ok-noting.ensures.place.1 ∙ c.as_slice-5.ensures) (c.in_ok-noting.ensures.committed ∙ ap (λ k. committed_value one.store.pending.entries (g.M.SortedMaps.maps one.store.tables) (ch.table, k)) c.as_slice-5.ensures)) in
     (mid, logs s.store i a (Takes c.args.wants) s.log, s.definitions, took, writes)
 
 pub returns-clause-told : goal.returns-clause-told
@@ -126,17 +136,19 @@ returns-clause-told g c = λ s can.
     (subst (AreDeltas s.store) (sym c.as_slice-4.ensures) (are_deltas g.M.SortedMaps.maps g.M.SortedMaps.spare g.M.SortedMaps.limit core s i ch c.args.wants can.puts c.args.owed can.owed_is)) in
     let can1 = can_still g.M.SortedMaps.maps g.M.SortedMaps.spare g.M.SortedMaps.limit core one s i ch c.args.wants c.args.owed c.args.bytes c.args.entry_bytes can b1 in
     let room = subst (λ ws. HasRoom g.M.SortedMaps.spare one i ch.table (length ws) c.args.owed) c.as_slice-3.ensures (subst (λ ds. HasRoom g.M.SortedMaps.spare one i ch.table (length c.as_slice-3.result.now) ds) c.as_slice-4.ensures c.in_ok-make_room.ensures.room) in
-    let w : Writing = record { ready = c.in_ok-ready.ready; owed = c.into_vec.result; wants = c.in_ok-pays.pays; txn_bytes = c.args.bytes; history_bytes = c.args.entry_bytes } in
+    let w : Writing = record { ready = c.in_ok-ready.ready; noting = c.in_ok-noting.noting; owed = c.into_vec.result; wants = c.in_ok-pays.pays; txn_bytes = c.args.bytes; history_bytes = c.args.entry_bytes } in
     let two = c.take.new.core in
     let a = act.Put ch.table ch.key ch.after in
     let took = c.take.ensures.holds s.store s.log s.definitions a b1.holds (open_here g.M.SortedMaps.maps g.M.SortedMaps.spare g.M.SortedMaps.limit one s i ch c.args.wants can1.puts) (owes_none g.M.SortedMaps.maps g.M.SortedMaps.spare g.M.SortedMaps.limit one s i b1 can1.puts.may.0) in
     let mid = between g.M.SortedMaps.maps g.M.SortedMaps.spare g.M.SortedMaps.limit one s i ch c.args.wants c.args.owed c.args.bytes c.args.entry_bytes can1 in
     let writes = subst (λ x. CanWrite g.M.SortedMaps.maps g.M.SortedMaps.spare g.M.SortedMaps.limit mid x i w) (sym c.take.ensures.rest)
     (can_write g.M.SortedMaps.maps g.M.SortedMaps.spare g.M.SortedMaps.limit one s i ch c.args.wants c.args.owed c.args.bytes c.args.entry_bytes can1 c.book_law.ensures c.number_law.ensures room two.locks w c.take.ensures.room
-    c.into_vec.ensures (c.in_ok-pays.ensures ∙ ap (map (λ d. group_want d ∷ [])) c.as_slice-2.ensures) refl refl c.in_ok-ready.ensures.kept c.in_ok-ready.ensures.coming) in
+    c.into_vec.ensures (c.in_ok-pays.ensures ∙ ap (map (λ d. group_want d ∷ [])) c.as_slice-2.ensures) refl refl c.in_ok-ready.ensures.kept c.in_ok-ready.ensures.coming
+    c.in_ok-noting.ensures.place.0 (c.in_ok-noting.ensures.place.1 ∙ c.as_slice-5.ensures) (c.in_ok-noting.ensures.committed ∙ ap (λ k. committed_value one.store.pending.entries (g.M.SortedMaps.maps one.store.tables) (ch.table, k)) c.as_slice-5.ensures)) in
     let new = c.write.new.core in
     let kept = same g.M.SortedMaps.maps g.M.SortedMaps.spare g.M.SortedMaps.limit one s i ch c.args.wants c.args.owed c.args.bytes c.args.entry_bytes can1 c.book_law.ensures c.number_law.ensures room two.locks w c.take.ensures.room
-    c.into_vec.ensures (c.in_ok-pays.ensures ∙ ap (map (λ d. group_want d ∷ [])) c.as_slice-2.ensures) refl refl c.in_ok-ready.ensures.kept c.in_ok-ready.ensures.coming in
+    c.into_vec.ensures (c.in_ok-pays.ensures ∙ ap (map (λ d. group_want d ∷ [])) c.as_slice-2.ensures) refl refl c.in_ok-ready.ensures.kept c.in_ok-ready.ensures.coming
+    c.in_ok-noting.ensures.place.0 (c.in_ok-noting.ensures.place.1 ∙ c.as_slice-5.ensures) (c.in_ok-noting.ensures.committed ∙ ap (λ k. committed_value one.store.pending.entries (g.M.SortedMaps.maps one.store.tables) (ch.table, k)) c.as_slice-5.ensures) in
     let wrote = subst (λ (x : Change). Holds g.M.SortedMaps.maps g.M.SortedMaps.spare g.M.SortedMaps.limit new (does the_views mid i (Writes (x.table, x.key) x.after)) (logs mid i a (Writes (x.table, x.key) x.after) (logs s.store i a (Takes c.args.wants) s.log)) s.definitions) kept
     (c.write.ensures.holds mid (logs s.store i a (Takes c.args.wants) s.log) s.definitions a took writes) in
     let e2 = c.take.ensures.rest in

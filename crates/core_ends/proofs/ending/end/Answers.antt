@@ -4,16 +4,10 @@ use Rattle.txn_machine.specs.Answers as answer
 use Rattle.txn_machine.specs.Store.{Ends}
 use Rattle.txn_machine.specs.Keeping.{Open, changes_of}
 use Rattle.core_state.proofs.Sessions.{now_is}
-use Rattle.core_ends.proofs.Past.{past_ended}
 use Rattle.core_ends.proofs.Leaves.{left_told}
 use Rattle.core_ends.proofs.ending.end.Goals as goal
 
-pub returns-clause-told : goal.returns-clause-told
-returns-clause-told g c = λ s h may.
-    left_told g.M.SortedMaps.maps g.M.SortedMaps.spare g.M.SortedMaps.limit c.args.core.now c.end_it.new.core s c.args.session act.End answer.Ended Ends h may.0.of_session (c.end_it.ensures.left s h may.0) refl refl refl refl refl (omega arith)
-
-pub returns-clause-past : goal.returns-clause-past
-returns-clause-past g c = λ s h may past.
-    past_ended g.M.SortedMaps.maps g.M.SortedMaps.spare g.M.SortedMaps.limit c.args.core.now c.end_it.new.core s c.args.session past may.0.of_session
-    (ap (λ (t : Open). changes_of t.kept) (now_is g.M.SortedMaps.maps g.M.SortedMaps.spare g.M.SortedMaps.limit c.args.core.now s c.args.session h may.0) ∙ ap changes_of may.1)
-    c.end_it.new.core.store.views c.end_it.ensures.store
+pub returns : goal.returns
+returns g c = λ s h may.
+    let none = ap (λ (t : Open). changes_of t.kept) (now_is g.M.SortedMaps.maps g.M.SortedMaps.spare g.M.SortedMaps.limit c.args.core.now s c.args.session h may.0) ∙ ap changes_of may.1 in
+    left_told g.M.SortedMaps.maps g.M.SortedMaps.spare g.M.SortedMaps.limit c.args.core.now c.end_it.new.core s c.args.session act.End answer.Ended Ends h may.0.of_session (c.end_it.ensures s h may.0 none) refl refl refl refl refl (omega arith)

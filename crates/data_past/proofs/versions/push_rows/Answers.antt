@@ -1,11 +1,12 @@
 use Rattle.std.proofs.Common.{rules, ◌≡◌, ◌+◌, ℕ, List, [], ◌∷◌, ◌++◌, length, reverse, arith, refl, sym, ap, ◌∙◌, length-append}
 use Rattle.version_chain.specs.declared.rows.Version as row
 use Rattle.data_past.specs.Moves.{pushed_all, version_at}
-use Rattle.data_past.proofs.Pushing.{push_next, room_next}
+use Rattle.version_chain.specs.Chains.{pushed}
+use Rattle.data_past.proofs.Pushing.{pushed_long, push_next, room_next}
 use Rattle.data_past.proofs.versions.push_rows.Goals as goal
 
 pub loop-version-init : goal.loop-version-init
-loop-version-init c = record { told = refl; pruned = refl; room = c.requires.room }
+loop-version-init c = record { told = refl; pruned = refl; room = c.requires.room; left = omega arith }
 
 pub push-requires : goal.push-requires
 push-requires c =
@@ -26,6 +27,12 @@ loop-version-preserved c =
       pruned = c.push.ensures.pruned ∙ c.loop-version.invariant.pruned;
       room = room_next (version_at c.args.number) c.loop-version.versions.items c.pop.new.self.items c.in-Some.version c.loop-version.chains.pruned c.loop-version.chains.room c.push.new.self.room c.loop-version.chains.versions c.push.new.self.versions
           c.in-Some.ensures.items c.push.ensures.versions fits (omega (arith, more, count)) c.push.ensures.room;
+      left =
+          let had = c.loop-version.invariant.left in
+          let long = pushed_long ((version_at c.args.number) c.in-Some.version) c.loop-version.chains.pruned c.loop-version.chains.versions in
+          let all : length c.push.new.self.versions ≡ length (pushed ((version_at c.args.number) c.in-Some.version) c.loop-version.chains.pruned c.loop-version.chains.versions) = ap length c.push.ensures.versions in
+          let same = c.push.ensures.room in
+          omega (arith, had, long, all, same, more, count);
     }
 
 pub returns-clause-versions : goal.returns-clause-versions
@@ -35,3 +42,6 @@ returns-clause-versions c =
 
 pub returns-clause-pruned : goal.returns-clause-pruned
 returns-clause-pruned c = c.loop-version.invariant.pruned
+
+pub returns-clause-left : goal.returns-clause-left
+returns-clause-left c = let had = c.loop-version.invariant.left in omega (arith, had)

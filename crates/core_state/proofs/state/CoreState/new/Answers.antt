@@ -18,5 +18,5 @@ returns g c =
       cleaner = record { pruned = 0; found_none = 0; removed = 0; saved = 0 };
       stop = None;
     })
-    c.args.number c.empty_law.ensures c.in_ok-new_store.ensures.held c.in_ok-new_store.ensures.marks c.in_ok-new.ensures.number c.in_ok-new.ensures.history.0 c.in_ok-new.ensures.history.1 c.in_ok-new.ensures.opens c.in_ok-new-2.ensures (ap g.M.SortedMaps.limit c.in_ok-new_store.ensures.maps ∙ c.requires.unlimited) refl refl refl
+    c.args.number c.empty_law.ensures c.in_ok-new_store.ensures.held c.in_ok-new_store.ensures.marks c.in_ok-new_store.ensures.past c.in_ok-new.ensures.number c.in_ok-new.ensures.history.0 c.in_ok-new.ensures.history.1 c.in_ok-new.ensures.opens c.in_ok-new-2.ensures (ap g.M.SortedMaps.limit c.in_ok-new_store.ensures.maps ∙ c.requires.unlimited) refl refl refl
     c.in_ok-new-4.ensures refl refl
