@@ -109,6 +109,13 @@ impl ViewRows {
     ghost use Rattle.iv_meaning.specs.Escrow.{value};
     ghost use Rattle.ghost_rows.specs.Kept.{account, Pays, with_pays, ArePrefixes, IsAllowedIn, IsPaidLast, committed_at, AllCount, IsUnpaid, StandsFor};
 
+    /// Lets all rows in memory go, where no session has a kept pay. It takes no memory.
+    pub fn forget_rows(&mut self)
+        ensures { self.new ≡ record self.old { rows = no_rows } }
+    {
+        self.rows = Table::new(self.alloc);
+    }
+
     /// Adds a delta to its stored row, as a kept pay of the session, and answers the session's prefixes before it. The
     /// session has room for it.
     ///

@@ -67,8 +67,12 @@ fn kept_row(alloc: Global, kinds: &[Kind], width: usize, row: &[Value]) -> Resul
     })
 }
 
-// The rows of a view as they are kept.
-fn kept_rows(
+/// The rows of a view that may still be without a place in the catalog, as `recompute` gives them.
+///
+/// # Errors
+///
+/// Those of `recompute`.
+pub fn kept_rows(
     alloc: Global,
     catalog: &Catalog,
     view: &ViewDef,

@@ -12,6 +12,7 @@ mod stored;
 mod tables;
 
 pub use exchange::make_room;
+pub use filling::put_all;
 pub use lengths::index_key_len;
 pub use list_maps::ListMaps;
 pub use row_entries::{index_key, key_at, own_entries};

@@ -1,0 +1,4 @@
+pub mod Names
+pub mod Made
+pub mod Roomier
+pub mod Entered

@@ -1,0 +1,43 @@
+-- No clause of `run` rests on this module: it serves contracts between crates.
+--
+-- When a definition can be made, and the change that its entry in the history has.
+use Rattle.std.specs.Prelude.{◌≡◌, ℕ, ◌+◌, ◌≤◌, List, [], ◌∷◌, Option, None, Some}
+use Rattle.iv_types.specs.Maps.{Map}
+use Rattle.iv_types.specs.Printing.{statement_text}
+use Rattle.iv_types.specs.Syntax.{StatementTree}
+use Rattle.iv_types.specs.declared.catalog.Definition.{Definition}
+use Rattle.iv_types.specs.declared.lock.Change.{Change}
+use Rattle.iv_types.specs.declared.lock.IndexEntry.{IndexEntry}
+use Rattle.iv_types.specs.declared.value.Value.TheVariants.{Word}
+use Rattle.iv_meaning.specs.Objects.{object_of}
+use Rattle.txn_machine.specs.Acts as act
+use Rattle.txn_machine.specs.Counts.{entry_size, definition_size, most_of_history}
+use Rattle.txn_machine.specs.May.{MayAct}
+use Rattle.txn_machine.specs.State.{State}
+use Rattle.txn_machine.specs.Steps.{Makes, NoneIsOpen, history_bytes}
+use Rattle.data_store.specs.Contents.{contents_of}
+use Rattle.data_defining.specs.Defining.{AreFirst}
+use Rattle.core_state.specs.Stands.{Began}
+use Rattle.core_state.specs.declared.state.CoreState.{CoreState}
+
+module _ {M : Type 0} (maps : M → ℕ → Map) (spare : M → ℕ → ℕ) (limit : M → Option ℕ) where
+  -- the step began, a statement makes this definition, and no transaction is open
+  pub record MayMake (s : State) (core : CoreState M) (session : ℕ) (statement : StatementTree) (definition : Definition) : Type 0 where
+    pub began : Began maps spare limit core s session
+    pub may : MayAct s.store session (act.Schema statement)
+    pub none : NoneIsOpen s.store
+    pub makes : Makes s.store statement (object_of definition)
+
+  -- it begins with these entries, and the history has room for its text
+  pub record MayEnter (s : State) (core : CoreState M) (session : ℕ) (statement : StatementTree) (definition : Definition) (first : List IndexEntry) (text : List ℕ) (need : ℕ) : Type 0 where
+    pub may : MayMake s core session statement definition
+    pub first_are : AreFirst core.store.catalog (maps core.store.tables) (contents_of s.store) definition first
+    pub text_is : text ≡ statement_text statement
+    pub need_is : need ≡ entry_size + definition_size statement
+    pub room : history_bytes s + need ≤ most_of_history
+
+-- a definition's text is the row of its one change
+pub record IsTextOf (text : List ℕ) (c : Change) : Type 0 where
+  pub table : c.table ≡ 0
+  pub before : c.before ≡ None
+  pub after : c.after ≡ Some (Word text ∷ [])

@@ -1,0 +1,4 @@
+pub mod NewRows
+pub mod Defined
+pub mod Adding
+pub mod TableReads
