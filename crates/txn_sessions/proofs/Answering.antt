@@ -1,5 +1,5 @@
 -- Which answers a stage's step has.
-use Rattle.std.specs.Prelude.{◌≡◌, Bool, true, Option}
+use Rattle.std.specs.Prelude.{◌≡◌, Bool, true, List, Option, Result, Ok, Err, IfErr}
 use mathlib.Core.Path.{refl, sym, subst}
 use Rattle.iv_types.specs.declared.statement.Mode.{Mode}
 use Rattle.txn_machine.specs.Acts as act
@@ -13,7 +13,11 @@ use Rattle.txn_sessions.specs.declared.line.Stage.{Stage}
 use Rattle.txn_sessions.specs.declared.line.Stage.TheVariants as stage
 use Rattle.txn_sessions.specs.declared.session.Session.{Session}
 use Rattle.txn_sessions.specs.Sessions.{Comes}
-use Rattle.txn_sessions.specs.Fits.{fits, IsOwn, IsOf, IsAnswered, IsBegun, IsDefs, IsRows, IsChanged, IsPaid, IsGhosted, IsUndone, IsEnded, IsCommitted, IsCreated}
+use Rattle.iv_types.specs.declared.lock.GroupDelta.{GroupDelta}
+use Rattle.iv_types.specs.declared.refusal.EngineRefusal.{EngineRefusal}
+use Rattle.iv_meaning.specs.Database.{Row}
+use Rattle.txn_sessions.specs.Answers.{WasChanged}
+use Rattle.txn_sessions.specs.Fits.{fits, IsRefused, IsOwn, IsOf, IsAnswered, IsBegun, IsDefs, IsRows, IsChanged, IsPaid, IsGhosted, IsUndone, IsEnded, IsCommitted, IsCreated}
 use Rattle.txn_sessions.specs.Left.{follows, asked_as}
 
 begun_own : (mode : Mode) (said : Answer) → IsOwn (event (act.Begin mode) said) → IsBegun said
@@ -164,3 +168,8 @@ answered_as m st new a s x said e p f own came =
     let fit : fits a x ≡ true = subst (λ y. fits a y ≡ true) e f in
     let its : IsOf x said = subst (λ y. IsOf y said) e own in
     (came.0, subst (λ y. Comes new (lines.next_of (asked_as m st a y) said came.0)) (sym e) (subst (λ t. Comes new t) (plainly m st a x said came.0 p fit its) came.1))
+
+-- a change that was refused is no change
+pub changed_refused : {P : Type 0} (r : Result (Option Row × List GroupDelta) EngineRefusal) (said : Answer) → WasChanged r said → IsRefused said → IfErr r (λ why. P) → P
+changed_refused (Ok x) said is refused h = absurd (subst IsRefused is refused)
+changed_refused (Err why) said is refused h = h

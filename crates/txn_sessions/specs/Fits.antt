@@ -52,6 +52,11 @@ abbrev pub IsAnswered : Option Act → Answer → Type 0
 IsAnswered None said = ⊥
 IsAnswered (Some a) said = IsOwn (event a said)
 
+-- the engine refused it
+abbrev pub IsRefused : Answer → Type 0
+IsRefused (answer.Refused why) = Unit {0}
+IsRefused _ = ⊥
+
 abbrev pub IsBegun : Answer → Type 0
 IsBegun (answer.Begun number defs) = Unit {0}
 IsBegun (answer.Refused why) = Unit {0}

@@ -8,7 +8,7 @@ ghost use Rattle.script_law.specs.Programs.{outside_with, says, asks, ghosts};
 ghost use Rattle.script_law.specs.RunLines as lines;
 ghost use Rattle.txn_book.specs.Acts.{act_of, answer_of};
 ghost use Rattle.txn_sessions.specs.Standings.{replies_of};
-ghost use Rattle.txn_sessions.specs.Fits.{fits, IsOf, IsAnswered, IsPaid, IsGhosted, is_owing, is_right};
+ghost use Rattle.txn_sessions.specs.Fits.{fits, IsOf, IsAnswered, IsPaid, IsGhosted, IsRefused, is_owing, is_right};
 ghost use Rattle.txn_sessions.specs.Left.{asked_as, owing_follows};
 ghost use Rattle.txn_sessions.specs.Within.{StageWithin, StandsWithin, IsWithin};
 ghost use Rattle.txn_sessions.specs.Sessions.{stands, todo_of, made_at, IsIdle, Comes, IsStarted};
@@ -39,6 +39,13 @@ impl Session {
             standing: Standing::new(alloc),
             line: Line::Idle,
         }
+    }
+
+    /// Its number.
+    pub fn number(&self) -> u32
+        ensures { result ≡ self.now.number }
+    {
+        self.number
     }
 
     /// A statement starts: it asks for its first step, or has ended without one.
@@ -78,6 +85,7 @@ impl Session {
         ensures comes { (memory : Bool) × Comes self.new (lines.next_of (asks act.Pay (owing_follows self.old.standing.mode (stands self.old) owing)) (answer_of answer) memory) }
         ensures number { self.new.number ≡ self.old.number }
         ensures within { (n : ℕ) → StandsWithin n self.old.standing → owing.made + 1 + self.old.standing.kept ≤ n → IsWithin n self.new }
+        ensures refused { (n : ℕ) → StandsWithin n self.old.standing → IsRefused (answer_of answer) → IsWithin n self.new }
     {
         match pay_told(answer) {
             Paid::Done => self.paid(owing),
@@ -93,7 +101,7 @@ impl Session {
         requires answer { IsGhosted (answer_of answer) }
         ensures comes { (memory : Bool) × Comes self.new (lines.next_of (ghosts (owing_follows self.old.standing.mode (stands self.old) owing)) (answer_of answer) memory) }
         ensures number { self.new.number ≡ self.old.number }
-        ensures within { (n : ℕ) → StandsWithin n self.old.standing → owing.made + 1 + self.old.standing.kept ≤ n → IsWithin n self.new }
+        ensures within { (n : ℕ) → StandsWithin n self.old.standing → owing.made + self.old.standing.kept ≤ n → IsWithin n self.new }
     {
         match ghosted(answer) {
             Ok(()) => self.pay(owing),
@@ -109,6 +117,7 @@ impl Session {
         ensures comes { (a : AnyAct) → fits a stage ≡ true → (memory : Bool) × Comes self.new (lines.next_of (asked_as self.old.standing.mode (stands self.old) a stage) (answer_of answer) memory) }
         ensures number { self.new.number ≡ self.old.number }
         ensures within { (n : ℕ) → StandsWithin n self.old.standing → StageWithin n self.old.standing.kept stage → IsWithin (n + 1) self.new }
+        ensures refused { (n : ℕ) → StandsWithin n self.old.standing → StageWithin n self.old.standing.kept stage → IsRefused (answer_of answer) → IsWithin n self.new }
     {
         match stage {
             Stage::Opening(opening) => self.opened(opening, begun(answer)),
@@ -125,13 +134,14 @@ impl Session {
     }
 
     /// The step was done and answered so, and not blocked. Where memory runs out here, the statement goes on as its program
-    /// does then: it is refused and taken back.
+    /// does then: it is refused and taken back. A step that is refused leaves no more to take back than there was.
     pub fn next(&mut self, answer: Answer)
         requires answered { IsAnswered (lines.act_of (todo_of self.old)) (answer_of answer) }
         requires room { IsWithin (2 ^ 64 - 2) self.old }
         ensures comes { (memory : Bool) × Comes self.new (lines.next_of (todo_of self.old) (answer_of answer) memory) }
         ensures number { self.new.number ≡ self.old.number }
         ensures within { (n : ℕ) → IsWithin n self.old → IsWithin (n + 1) self.new }
+        ensures refused { (n : ℕ) → IsWithin n self.old → IsRefused (answer_of answer) → IsWithin n self.new }
     {
         match replace(&mut self.line, Line::Idle) {
             Line::Under(asked) => self.answered(asked.into_stage(), answer),

@@ -141,6 +141,7 @@ impl Session {
         ensures comes { (said : AnyAnswer) → WasChanged change said → (memory : Bool) × Comes self.new (follows self.old.standing.mode (stands self.old) (stage.Changing task made) said memory) }
         ensures number { self.new.number ≡ self.old.number }
         ensures within { (n : ℕ) → StandsWithin n self.old.standing → made + 1 + self.old.standing.kept ≤ n → IsWithin n self.new }
+        ensures refused { (n : ℕ) → StandsWithin n self.old.standing → IfErr change (λ why. IsWithin n self.new) }
     {
         match change {
             Ok((before, owed)) => self.owe(Owing {

@@ -7,7 +7,7 @@ use Rattle.std.proofs.Common.{true}
 use Rattle.txn_book.specs.Acts.{answer_of}
 use Rattle.txn_sessions.specs.declared.line.Stage.TheVariants as stage
 use Rattle.txn_sessions.specs.Sessions.{stands}
-use Rattle.txn_sessions.proofs.Answering.{answered_as}
+use Rattle.txn_sessions.proofs.Answering.{answered_as, changed_refused}
 use Rattle.txn_sessions.proofs.session.Session.answered.Goals as goal
 
 pub returns-in-Undoing-clause-comes : goal.returns-in-Undoing-clause-comes
@@ -59,3 +59,33 @@ returns-in-Lacking-clause-within c = λ n h at. let s = more n c.args.self.now.s
 
 pub returns-in-Undoing-clause-within : goal.returns-in-Undoing-clause-within
 returns-in-Undoing-clause-within c = λ n h at. let s = more n c.args.self.now.standing h in let a = subst (StageWithin n c.args.self.now.standing.kept) c.in-Undoing.is at in c.undone-in-Undoing.ensures.within (n + 1) s (after_more n c.in-Undoing.last a)
+
+pub returns-in-Opening-clause-refused : goal.returns-in-Opening-clause-refused
+returns-in-Opening-clause-refused c = λ n h at r. c.opened.ensures.within n h
+
+pub returns-in-Learning-clause-refused : goal.returns-in-Learning-clause-refused
+returns-in-Learning-clause-refused c = λ n h at r. c.learned.ensures.within n h
+
+pub returns-in-Ending-clause-refused : goal.returns-in-Ending-clause-refused
+returns-in-Ending-clause-refused c = λ n h at r. c.ended-in-Ending.ensures.within n h
+
+pub returns-in-Committing-clause-refused : goal.returns-in-Committing-clause-refused
+returns-in-Committing-clause-refused c = λ n h at r. c.committed-in-Committing.ensures.within n h
+
+pub returns-in-Creating-clause-refused : goal.returns-in-Creating-clause-refused
+returns-in-Creating-clause-refused c = λ n h at r. c.created.ensures.within n h
+
+pub returns-in-Fetching-clause-refused : goal.returns-in-Fetching-clause-refused
+returns-in-Fetching-clause-refused c = λ n h at r. c.fetched.ensures.within n h (subst (StageWithin n c.args.self.now.standing.kept) c.in-Fetching.is at)
+
+pub returns-in-Changing-clause-refused : goal.returns-in-Changing-clause-refused
+returns-in-Changing-clause-refused c = λ n h at r. changed_refused c.changed.result (answer_of c.args.answer) c.changed.ensures r (c.changed-in-Changing.ensures.refused n h)
+
+pub returns-in-Paying-clause-refused : goal.returns-in-Paying-clause-refused
+returns-in-Paying-clause-refused c = λ n h at r. c.pay_answered.ensures.refused n h r
+
+pub returns-in-Lacking-clause-refused : goal.returns-in-Lacking-clause-refused
+returns-in-Lacking-clause-refused c = λ n h at r. c.ghost_answered.ensures.within n h (subst (StageWithin n c.args.self.now.standing.kept) c.in-Lacking.is at)
+
+pub returns-in-Undoing-clause-refused : goal.returns-in-Undoing-clause-refused
+returns-in-Undoing-clause-refused c = λ n h at r. c.undone-in-Undoing.ensures.within n h (subst (StageWithin n c.args.self.now.standing.kept) c.in-Undoing.is at)

@@ -1,4 +1,5 @@
-use Rattle.std.proofs.Common.{◌≡◌, true}
+use Rattle.std.proofs.Common.{◌≡◌, true, IfErr}
+use Rattle.txn_sessions.specs.Within.{IsWithin}
 use mathlib.Core.Path.{sym, subst}
 use Rattle.txn_machine.specs.Answers as answer
 use Rattle.script_law.specs.Sessions.{refused_so}
@@ -22,3 +23,9 @@ returns-in-Err-clause-comes c = λ said is.
 
 pub returns-in-Err-clause-within : goal.returns-in-Err-clause-within
 returns-in-Err-clause-within c = λ n h le. c.refuse.ensures.within n h
+
+pub returns-in-Ok-clause-refused : goal.returns-in-Ok-clause-refused
+returns-in-Ok-clause-refused c = λ n h. subst (λ change. IfErr change (λ why. IsWithin n c.owe.new.self)) (sym c.in-Ok.is) tt
+
+pub returns-in-Err-clause-refused : goal.returns-in-Err-clause-refused
+returns-in-Err-clause-refused c = λ n h. subst (λ change. IfErr change (λ why. IsWithin n c.refuse.new.self)) (sym c.in-Err.is) (c.refuse.ensures.within n h)

@@ -18,3 +18,6 @@ answered-requires-clause-answer c =
 
 pub returns-clause-within : goal.returns-clause-within
 returns-clause-within c = λ n h. c.answered.ensures.within n h.stands (subst (StageWithin n c.args.self.now.standing.kept) (sym c.into_stage.ensures) (subst (LineWithin n c.args.self.now.standing.kept) (sym c.replace.ensures.value ∙ c.in-Under.is) h.line))
+
+pub returns-clause-refused : goal.returns-clause-refused
+returns-clause-refused c = λ n h r. c.answered.ensures.refused n h.stands (subst (StageWithin n c.args.self.now.standing.kept) (sym c.into_stage.ensures) (subst (LineWithin n c.args.self.now.standing.kept) (sym c.replace.ensures.value ∙ c.in-Under.is) h.line)) r
