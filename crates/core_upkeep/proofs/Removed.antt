@@ -43,7 +43,7 @@ use Rattle.data_changes.specs.Ghosts.{HasGhost}
 use Rattle.data_changes.proofs.Accounts.{increments_as}
 use Rattle.data_past.proofs.Effects.{past_cleans}
 use Rattle.core_state.specs.Rooms.{HasRooms}
-use Rattle.core_state.specs.Stands.{Told, Holds}
+use Rattle.core_state.specs.Stands.{Began, Told, Holds}
 use Rattle.core_state.specs.declared.state.CoreState.{CoreState}
 use Rattle.core_state.proofs.Unchanged.{unchanged_told}
 use Rattle.core_effects.proofs.Done.{AreUncounted, done_told}
