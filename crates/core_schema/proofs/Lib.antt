@@ -2,3 +2,4 @@ pub mod Names
 pub mod Made
 pub mod Roomier
 pub mod Entered
+pub mod Fitting

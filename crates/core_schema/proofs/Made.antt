@@ -1,5 +1,5 @@
 -- What a CREATE statement makes of a core, and why it is refused.
-use Rattle.std.specs.Prelude.{◌≡◌, ◌≢◌, ◌⊎◌, ℕ, suc, ◌+◌, ◌-◌, ◌^◌, ◌≤◌, ◌<◌, min, List, [], ◌∷◌, ◌++◌, map, length, is_some, Option, None, Some, IsSome, Result, Ok, Err, false, true}
+use Rattle.std.specs.Prelude.{◌≡◌, ◌≢◌, ◌⊎◌, ℕ, suc, ◌+◌, ◌-◌, ◌^◌, ◌≤◌, ◌<◌, min, List, [], ◌∷◌, ◌++◌, map, length, is_some, Option, None, Some, IsSome, IfOk, Result, Ok, Err, false, true}
 use Rattle.std.specs.List.{sum}
 use Rattle.std.specs.FinMap.{get}
 use mathlib.Core.Path.{refl, sym, ap, subst, ◌∙◌}
@@ -46,6 +46,8 @@ use Rattle.txn_book.specs.Books.{IsBook, IsLeastOpen, total_bytes}
 use Rattle.txn_book.specs.Holding as book
 use Rattle.txn_book.specs.Opens.{open_at}
 use Rattle.txn_book.specs.declared.open_table.Open.{Open as BookOpen}
+use Rattle.txn_book.specs.declared.step.Answer.{Answer}
+use Rattle.txn_book.specs.declared.step.Answer.TheVariants.{Denied}
 use Rattle.data_store.specs.Contents.{contents_of}
 use Rattle.data_defining.specs.Defining.{AreFirst, CanEvaluate, CanDefine}
 use Rattle.core_state.specs.Stands.{Began, Told}
@@ -172,3 +174,8 @@ module _ {M : Type 0} (maps : M → ℕ → Map) (spare : M → ℕ → ℕ) (li
           },
           refl,
         ) refl refl refl refl
+
+-- what is told of a statement that is refused for what it means holds of its answer
+pub denied_as : {E : Type 0} (why : Refusal) (r : Result Answer E) (P : Answer → Type 0) → IfOk r (λ said. (said ≡ Denied why) × (why ≢ refused.NoMemory)) → ((why ≡ refused.NoMemory → ⊥) → P (Denied why)) → IfOk r P
+denied_as why (Ok said) P (e, other) h = subst P (sym e) (h other)
+denied_as why (Err error) P d h = tt

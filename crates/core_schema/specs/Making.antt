@@ -21,12 +21,29 @@ use Rattle.core_state.specs.Stands.{Began}
 use Rattle.core_state.specs.declared.state.CoreState.{CoreState}
 
 module _ {M : Type 0} (maps : M → ℕ → Map) (spare : M → ℕ → ℕ) (limit : M → Option ℕ) where
+  -- the step began, and a statement makes this definition
+  pub record IsMade (s : State) (core : CoreState M) (session : ℕ) (statement : StatementTree) (definition : Definition) : Type 0 where
+    pub began : Began maps spare limit core s session
+    pub may : MayAct s.store session (act.Schema statement)
+    pub makes : Makes s.store statement (object_of definition)
+
   -- the step began, a statement makes this definition, and no transaction is open
   pub record MayMake (s : State) (core : CoreState M) (session : ℕ) (statement : StatementTree) (definition : Definition) : Type 0 where
     pub began : Began maps spare limit core s session
     pub may : MayAct s.store session (act.Schema statement)
     pub none : NoneIsOpen s.store
     pub makes : Makes s.store statement (object_of definition)
+
+  -- it begins with these entries
+  pub record MayBegin (s : State) (core : CoreState M) (session : ℕ) (statement : StatementTree) (definition : Definition) (first : List IndexEntry) : Type 0 where
+    pub may : MayMake s core session statement definition
+    pub first_are : AreFirst core.store.catalog (maps core.store.tables) (contents_of s.store) definition first
+
+  -- it begins with these entries, and this is its text
+  pub record MayFit (s : State) (core : CoreState M) (session : ℕ) (statement : StatementTree) (definition : Definition) (first : List IndexEntry) (text : List ℕ) : Type 0 where
+    pub may : MayMake s core session statement definition
+    pub first_are : AreFirst core.store.catalog (maps core.store.tables) (contents_of s.store) definition first
+    pub text_is : text ≡ statement_text statement
 
   -- it begins with these entries, and the history has room for its text
   pub record MayEnter (s : State) (core : CoreState M) (session : ℕ) (statement : StatementTree) (definition : Definition) (first : List IndexEntry) (text : List ℕ) (need : ℕ) : Type 0 where

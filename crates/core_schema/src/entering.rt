@@ -21,7 +21,7 @@ use std::alloc::Global;
 use txn_book::{Answer, ENTRY_BYTES};
 
 /// What a definition of this text counts in the history, with its entry.
-pub fn entry_need(text: &[u8]) -> u64
+pub(crate) fn entry_need(text: &[u8]) -> u64
     ensures { result ≡ min (entry_size + text_size text.now) (2 ^ 64 - 1) }
 {
     ENTRY_BYTES.saturating_add(definition_size(text))
@@ -75,7 +75,7 @@ fn reserve<M: SortedMaps>(
 /// # Errors
 ///
 /// Where there is no memory for it. Nothing is changed then but room.
-pub fn enter<M: SortedMaps>(
+pub(crate) fn enter<M: SortedMaps>(
     core: &mut CoreState<M>,
     session: u32,
     definition: Definition,

@@ -1,6 +1,7 @@
-//! CREATE statements of the core: what one makes is entered, in the store and in the history.
+//! CREATE statements of the core: why one is refused, and how what one makes is entered, in the store and in the history.
 #![tactic(auto)]
 
+mod defining;
 mod entering;
 
-pub use entering::{enter, entry_need};
+pub use defining::define;

@@ -52,7 +52,7 @@ bound_create objects (create_index name target columns) _ size is alike passed =
 bound_create objects (create_view name query) _ size is alike passed = absurd alike
 bound_create objects _ to size is alike passed = absurd is
 
-creates : (objects : Schema) (s : StatementTree) (what : BoundTree) → IsCreate s → bind objects s ≡ Ok what → (o : Object) × (what ≡ create o)
+pub creates : (objects : Schema) (s : StatementTree) (what : BoundTree) → IsCreate s → bind objects s ≡ Ok what → (o : Object) × (what ≡ create o)
 creates objects s what is e =
     let b = is_bound objects s what e in
     let o = bound_create objects s b.to b.size is b.alike b.passed in

@@ -1,0 +1,155 @@
+//! CREATE statements.
+ghost use Rattle.std.specs.Prelude.{◌≡◌, ◌≢◌, IfOk, OnErr};
+ghost use Rattle.iv_types.specs.Syntax.{StatementTree};
+ghost use Rattle.iv_types.specs.Trees.{statement_tree};
+ghost use Rattle.iv_types.specs.declared.refusal.Refusal.TheVariants as refused;
+ghost use Rattle.iv_meaning.specs.Bound.{bound_tree};
+ghost use Rattle.iv_meaning.specs.Objects.{object_of};
+ghost use Rattle.iv_meaning.specs.Schema.{Object};
+ghost use Rattle.iv_meaning.specs.Statement as meaning;
+ghost use Rattle.txn_machine.specs.Acts as act;
+ghost use Rattle.txn_machine.specs.May.{MayAct};
+ghost use Rattle.txn_machine.specs.State.{State};
+ghost use Rattle.txn_book.specs.Acts.{answer_of};
+ghost use Rattle.txn_book.specs.declared.step.Answer.TheVariants as answer;
+ghost use Rattle.core_state.specs.Stands.{Began, Told};
+ghost use Rattle.core_schema.specs.Making.{IsMade, MayMake, MayBegin, MayFit};
+
+use crate::entering::{enter, entry_need};
+use core_state::{CoreState, MOST_OF_HISTORY, fits};
+use data_defining::first_entries;
+use iv_types::{
+    Bound, Bytes, Definition, EngineRefusal, IndexEntryList, NoMemory, Refusal, SortedMaps,
+    Statement,
+};
+use sql_bind::bind;
+use sql_print::statement_text;
+use txn_book::Answer;
+
+// What a CREATE statement was bound to.
+fn definition_of(bound: Bound) -> Definition
+    requires { (o : Object) × (bound_tree bound ≡ meaning.create o) }
+    ensures { bound_tree bound ≡ meaning.create (object_of result) }
+{
+    match bound {
+        Bound::Table(table) => Definition::Table(table),
+        Bound::Index(index) => Definition::Index(index),
+        Bound::View(view) => Definition::View(view),
+        _ => unreachable!(),
+    }
+}
+
+// The answer of a statement that is refused for what it means.
+fn denied(refusal: Refusal) -> Result<Answer, NoMemory>
+    ensures { IfOk result (λ said. (said ≡ answer.Denied refusal) × (refusal ≢ refused.NoMemory)) }
+{
+    match refusal {
+        Refusal::NoMemory => Err(NoMemory),
+        why => Ok(Answer::Denied(why)),
+    }
+}
+
+// Enters a definition of this text, where the history has room for it.
+fn enter_fitting<M: SortedMaps>(
+    core: &mut CoreState<M>,
+    session: u32,
+    definition: Definition,
+    first: IndexEntryList,
+    text: Bytes,
+) -> Result<Answer, NoMemory>
+    requires { (s : State) × (statement : StatementTree) × MayFit M.maps M.spare M.limit s core.old session statement definition first text }
+    ensures told { IfOk result (λ said. (s : State) (statement : StatementTree) → MayFit M.maps M.spare M.limit s core.old session statement definition first text
+        → Told M.maps M.spare M.limit s session (act.Schema statement) (answer_of said) core.new) }
+    ensures err { OnErr result ((s : State) → Began M.maps M.spare M.limit core.old s session → Began M.maps M.spare M.limit core.new s session) }
+{
+    core.book.book_law();
+    let need = entry_need(text.as_slice());
+    let kept = core.book.history_bytes();
+    if fits(kept, need, MOST_OF_HISTORY) {
+        return enter(core, session, definition, first, text, need);
+    }
+    definition.let_go();
+    Ok(Answer::Refused(EngineRefusal::HistoryFull { kept, need }))
+}
+
+// Makes an object that begins with these entries.
+fn make_with<M: SortedMaps>(
+    core: &mut CoreState<M>,
+    session: u32,
+    statement: &Statement,
+    definition: Definition,
+    first: IndexEntryList,
+) -> Result<Answer, NoMemory>
+    requires { (s : State) × MayBegin M.maps M.spare M.limit s core.old session (statement_tree statement.now) definition first }
+    ensures told { IfOk result (λ said. (s : State) → MayBegin M.maps M.spare M.limit s core.old session (statement_tree statement.now) definition first
+        → Told M.maps M.spare M.limit s session (act.Schema (statement_tree statement.now)) (answer_of said) core.new) }
+    ensures err { OnErr result ((s : State) → Began M.maps M.spare M.limit core.old s session → Began M.maps M.spare M.limit core.new s session) }
+{
+    let text = statement_text(core.alloc, statement)?;
+    enter_fitting(core, session, definition, first, text)
+}
+
+// Makes an object where no transaction is open.
+fn make_alone<M: SortedMaps>(
+    core: &mut CoreState<M>,
+    session: u32,
+    statement: &Statement,
+    definition: Definition,
+) -> Result<Answer, NoMemory>
+    requires { (s : State) × MayMake M.maps M.spare M.limit s core.old session (statement_tree statement.now) definition }
+    ensures told { IfOk result (λ said. (s : State) → MayMake M.maps M.spare M.limit s core.old session (statement_tree statement.now) definition
+        → Told M.maps M.spare M.limit s session (act.Schema (statement_tree statement.now)) (answer_of said) core.new) }
+    ensures err { OnErr result ((s : State) → Began M.maps M.spare M.limit core.old s session → Began M.maps M.spare M.limit core.new s session) }
+{
+    match first_entries(&core.store, &definition) {
+        Ok(first) => make_with(core, session, statement, definition, first),
+        Err(refusal) => {
+            definition.let_go();
+            denied(refusal)
+        }
+    }
+}
+
+// Makes what a statement was bound to, where no transaction is open.
+fn make<M: SortedMaps>(
+    core: &mut CoreState<M>,
+    session: u32,
+    statement: &Statement,
+    definition: Definition,
+) -> Result<Answer, NoMemory>
+    requires { (s : State) × IsMade M.maps M.spare M.limit s core.old session (statement_tree statement.now) definition }
+    ensures told { IfOk result (λ said. (s : State) → IsMade M.maps M.spare M.limit s core.old session (statement_tree statement.now) definition
+        → Told M.maps M.spare M.limit s session (act.Schema (statement_tree statement.now)) (answer_of said) core.new) }
+    ensures err { OnErr result ((s : State) → Began M.maps M.spare M.limit core.old s session → Began M.maps M.spare M.limit core.new s session) }
+{
+    match core.book.least_open() {
+        Some(least) => {
+            definition.let_go();
+            Ok(Answer::Refused(EngineRefusal::SchemaBusy(least)))
+        }
+        None => make_alone(core, session, statement, definition),
+    }
+}
+
+/// Runs a CREATE statement: it is refused for what it means where that can be told without rows, then where a transaction is
+/// open, then where a view's rows can't be evaluated, and where the history has no room for it. Else the object is defined, as an
+/// entry of the next number, with the entries of its index or the rows of its view.
+///
+/// # Errors
+///
+/// Where there is no memory for it. Nothing is changed then but room.
+pub fn define<M: SortedMaps>(
+    core: &mut CoreState<M>,
+    session: u32,
+    statement: &Statement,
+) -> Result<Answer, NoMemory>
+    requires { (s : State) × Began M.maps M.spare M.limit core.old s session × MayAct s.store session (act.Schema (statement_tree statement.now)) }
+    ensures told { IfOk result (λ said. (s : State) → Began M.maps M.spare M.limit core.old s session → MayAct s.store session (act.Schema (statement_tree statement.now))
+        → Told M.maps M.spare M.limit s session (act.Schema (statement_tree statement.now)) (answer_of said) core.new) }
+    ensures err { OnErr result ((s : State) → Began M.maps M.spare M.limit core.old s session → Began M.maps M.spare M.limit core.new s session) }
+{
+    match bind(core.alloc, &core.store.catalog, statement) {
+        Ok(bound) => make(core, session, statement, definition_of(bound)),
+        Err(refusal) => denied(refusal),
+    }
+}
