@@ -1,6 +1,6 @@
 -- A commit of changes, with the versions that it leaves.
 use Rattle.std.specs.Prelude.{◌≡◌, ℕ, ◌+◌, List, [], ◌∷◌, reverse, Option, Some, None}
-use mathlib.Core.Path.{refl, sym, ap, subst, ◌∙◌}
+use mathlib.Core.Path.{sym, ap, subst, ◌∙◌}
 use Rattle.std.proofs.lemmas.List.{reverse-reverse}
 use Rattle.std.specs.FinMap.{get}
 use Rattle.table_laws.specs.Place.{Place}
@@ -14,33 +14,26 @@ use Rattle.iv_types.specs.declared.lock.KeptStep.TheVariants as step
 use Rattle.iv_types.specs.declared.statement.Mode.TheVariants.{Serial}
 use Rattle.txn_machine.specs.Ghosts.{the_views}
 use Rattle.txn_machine.specs.Keeping.{KeptStep, Put, Pay, Open}
-use Rattle.txn_machine.specs.Log.{Log}
 use Rattle.txn_machine.specs.May.{IsOpen, IsReady}
 use Rattle.txn_machine.specs.State.{State}
-use Rattle.txn_machine.specs.Store.{Store, Effect, schema_of, committed, now, Commits, Ends, does, changes_by}
+use Rattle.txn_machine.specs.Store.{schema_of, committed, now, Commits, Ends, does, changes_by}
 use Rattle.txn_machine.proofs.Reached.{reached}
 use Rattle.txn_book.specs.declared.open_table.Open.{Open as BookOpen}
 use Rattle.txn_book.specs.Opens.{open_at}
 use Rattle.txn_book.specs.Txns.{txn_of}
 use Rattle.txn_book.specs.Holding.{AreKept}
-use Rattle.version_chain.specs.Chains.{Chains}
-use Rattle.version_chain.specs.declared.deltas.Delta.{Delta}
 use Rattle.version_chain.specs.declared.rows.Version as row
-use Rattle.spare_map.specs.Spared.{Spared}
 use Rattle.data_store.specs.Past.{Pendings, RowVersions}
 use Rattle.data_store.specs.ViewPast.{DeltaVersions}
 use Rattle.data_store.specs.Machine.{changes_on, IsPast}
-use Rattle.data_store.specs.declared.store.Pending.{Pending}
 use Rattle.data_past.specs.Moves.{fewer, CanForget, puts_in, version_at, delta_at, pushed_all, AreSteps}
 use Rattle.data_past.specs.Ahead.{rows_at, deltas_at}
 use Rattle.data_past.proofs.Aheads.{ahead_commits}
 use Rattle.data_past.proofs.Committing.{can_forget, same_puts, same_count}
 use Rattle.data_past.proofs.Effects.{past_txn}
-use Rattle.lock_manager.specs.Table as table
-use Rattle.core_state.specs.Stands.{Began, Holds}
+use Rattle.core_state.specs.Stands.{Began}
 use Rattle.core_state.specs.declared.state.CoreState.{CoreState}
 use Rattle.core_state.proofs.Sessions.{HasTxn, own_txn, now_is}
-use Rattle.core_ends.specs.Ends.{Left}
 
 -- kept steps without the numbers of their records
 steps_of : (bs : List BookStep) (ks : List KeptStep) (ns : List ℕ) → AreKept bs ks ns → AreSteps bs ks

@@ -1,6 +1,4 @@
-use Rattle.std.proofs.Common.{◌≡◌, ◌+◌, ◌≤◌, ℕ, [], length, refl, arith, sym, ap, subst, ◌∙◌}
-use Rattle.std.specs.FinMap.{get}
-use Rattle.iv_meaning.specs.Escrow.{IsSession}
+use Rattle.std.proofs.Common.{◌≡◌, ◌+◌, [], length, refl, arith, sym, ap, subst, ◌∙◌}
 use Rattle.ghost_rows.specs.Rows.{row_at, settled_at}
 use Rattle.ghost_rows.specs.State.{room_of}
 use Rattle.lock_manager.specs.Table.{IsReleased}
@@ -9,7 +7,6 @@ use Rattle.txn_machine.specs.Store.{committed, Commits}
 use Rattle.txn_book.specs.Books.{Committed, number_of}
 use Rattle.txn_book.specs.Opens.{open_at}
 use Rattle.txn_book.specs.Txns.{txn_of}
-use Rattle.data_store.specs.Contents.{contents_of}
 use Rattle.data_store.specs.Held.{IsHeld}
 use Rattle.data_store.specs.declared.store.DataStore.{DataStore}
 use Rattle.data_changes.specs.Effects.{keeping}
