@@ -1,3 +1,4 @@
+pub mod Aheads
 pub mod Few
 pub mod Roomier
 pub mod Walked

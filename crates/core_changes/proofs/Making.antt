@@ -28,7 +28,8 @@ use Rattle.core_state.specs.Rooms.{IsCovered, paid}
 use Rattle.core_state.specs.Stands.{Began, Holds}
 use Rattle.core_state.specs.declared.state.CoreState.{CoreState}
 use Rattle.core_changes.specs.Room.{HasRoom}
-use Rattle.core_effects.proofs.Counted.{many_same, kept_few}
+use Rattle.core_state.proofs.Few.{kept_few}
+use Rattle.core_effects.proofs.Counted.{many_same}
 use Rattle.core_effects.proofs.Done.{begun_underway, still_underway}
 use Rattle.core_effects.proofs.Opened.{Has, own}
 

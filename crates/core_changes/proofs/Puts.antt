@@ -40,7 +40,7 @@ use Rattle.core_state.specs.Rooms.{CanBeTakenBack, all_gone, gone_if}
 use Rattle.core_state.specs.Stands.{Holds}
 use Rattle.core_state.specs.declared.state.CoreState.{CoreState}
 use Rattle.core_state.proofs.Sessions.{of_ready}
-use Rattle.core_effects.proofs.Counted.{many_deltas}
+use Rattle.core_state.proofs.Few.{many_deltas}
 use Rattle.core_effects.proofs.Gone.{steps_gone}
 use Rattle.core_changes.specs.Putting.{IsFreePut}
 use Rattle.core_changes.specs.Room.{AreDeltas}

@@ -43,6 +43,7 @@ module _ {M : Type 0} (maps : M → ℕ → Map) (spare : M → ℕ → ℕ) (li
     row_mark = h.row_mark;
     delta_mark = h.delta_mark;
     past = h.past;
+    ahead = h.ahead;
     rooms = record {
       unlimited = same_limit ∙ h.rooms.unlimited;
       limited = h.rooms.limited;
@@ -63,6 +64,7 @@ module _ {M : Type 0} (maps : M → ℕ → Map) (spare : M → ℕ → ℕ) (li
     row_mark = h.row_mark;
     delta_mark = h.delta_mark;
     past = h.past;
+    ahead = h.ahead;
     rooms = record {
       unlimited = h.rooms.unlimited;
       limited = h.rooms.limited;
@@ -95,6 +97,7 @@ module _ {M : Type 0} (maps : M → ℕ → Map) (spare : M → ℕ → ℕ) (li
           row_mark = h.row_mark;
           delta_mark = h.delta_mark;
           past = h.past;
+          ahead = h.ahead;
           rooms = rooms_changed (spare core.store.tables) (spare core.store.tables) (limit core.store.tables) (limit core.store.tables) core.store.catalog core.store.views core.store.views core.book after core.locks core.locks core.wants core.wants i
               (txn_of mine.txn) good o.of_session h.rooms refl changes (λ index. let here : gone_if index (open_at core.book.opens i) ≡ gone_if index (Some mine.txn) = ap (gone_if index) mine.there in omega (arith, here)) (elsewhere_same i core.store.views core.locks core.wants)
               (h.rooms.each i o.of_session mine.txn mine.there);

@@ -53,6 +53,8 @@ use Rattle.core_state.specs.Stands.{Told}
 use Rattle.core_state.proofs.Counted.{counted}
 use Rattle.core_effects.specs.Writing.{CanWrite, IsNoting}
 use Rattle.data_store.specs.Machine.{bytes_of}
+use Rattle.data_past.specs.Ahead.{CanAddAt, all_rows, all_deltas}
+use Rattle.data_past.specs.Moves.{version_of}
 use Rattle.data_store.specs.Past.{committed_value}
 use Rattle.data_store.proofs.RowsThen.{committed_is}
 use Rattle.core_effects.specs.declared.writing.Writing.{Writing}
@@ -119,7 +121,9 @@ module _ {M : Type 0} (maps : M → ℕ → Map) (spare : M → ℕ → ℕ) (li
     module _ (after : Table) (w : Writing) (left : lock.room_of core.locks i ≤ lock.room_of after i + length wants)
         (owed_are_it : w.owed.items ≡ deltas) (wants_are_it : w.wants.items ≡ map (λ d. group_want d ∷ []) deltas) (bytes_it : w.txn_bytes ≡ bytes) (entry_it : w.history_bytes ≡ entry_bytes)
         (kept_it : OfTable core.store.catalog change.table (IsKept core.store.catalog change w.ready.kept)) (coming_it : w.ready.coming ≡ w.ready.kept.made)
-        (noting_index : w.noting.index ≡ change.table) (noting_key : w.noting.key ≡ change.key) (noting_bytes : w.noting.committed ≡ committed_value core.store.pending.entries (maps core.store.tables) (change.table, change.key)) where
+        (noting_index : w.noting.index ≡ change.table) (noting_key : w.noting.key ≡ change.key) (noting_bytes : w.noting.committed ≡ committed_value core.store.pending.entries (maps core.store.tables) (change.table, change.key))
+        (version_it : w.version ≡ version_of core.store.catalog change) (copies_it : w.copies.items ≡ deltas) (ahead_room : CanAddAt core.ahead i (length deltas))
+        (row_room : all_rows core.ahead + 1 ≤ core.store.row_versions.room) (delta_room : all_deltas core.ahead + length deltas ≤ core.store.delta_versions.room) where
       abbrev k : Kept
       k = w.ready.kept
 
@@ -195,6 +199,13 @@ module _ {M : Type 0} (maps : M → ℕ → Map) (spare : M → ℕ → ℕ) (li
           locks = let had = room.locks in let many : length w.owed.items ≡ length deltas = ap length owed_are_it in omega (arith, had, many, left);
           buffers = subst (λ ds. IsOpenAnd core.book i (λ o. 2 * length ds + length (paid (reverse o.kept.items)) ≤ room_of core.store.views i)) (sym owed_are_it) room.owes.buffers;
           seats = λ d has. room.owes.seats d (subst (λ ds. Contains ds d) owed_are_it has);
+        };
+        ahead = record {
+          version = version_it ∙ ap (version_of core.store.catalog) (sym same);
+          copies = copies_it ∙ sym owed_are_it;
+          room = subst (λ ds. CanAddAt core.ahead i (length ds)) (sym copies_it) ahead_room;
+          row_room = row_room;
+          delta_room = subst (λ ds. all_deltas core.ahead + length ds ≤ core.store.delta_versions.room) (sym copies_it) delta_room;
         };
         noted = is_noting;
         wants = wants_are_it ∙ ap (map (λ d. group_want d ∷ [])) (sym owed_are_it);

@@ -1,6 +1,7 @@
 //! Changes of rows: the act Put of the core.
 #![tactic(auto)]
 
+mod ahead;
 mod putting;
 mod room;
 

@@ -16,11 +16,12 @@ ghost use Rattle.core_state.specs.declared.limits.TheConstants.{MOST_OF_TRANSACT
 ghost use Rattle.core_state.specs.Stands.{Began, Holds, Told};
 ghost use Rattle.core_changes.specs.Putting.{IsFreePut, CanPut, IsFull};
 
+use crate::ahead::reserve_ahead;
 use crate::room::make_room;
 use core_effects::{Writing, take, write};
 use core_locks::ask_for;
 use core_state::{CoreState, MOST_OF_HISTORY, MOST_OF_TRANSACTION, fits};
-use data_past::{copied_deltas, ready_note};
+use data_past::{copied_deltas, ready_note, version_of};
 use iv_types::{
     Bytes, Change, DeltaList, EngineRefusal, GroupDelta, LockMode, NoMemory, Row, SortedMaps, Want,
     WantList, copied_perhaps,
@@ -118,6 +119,7 @@ fn put_within<M: SortedMaps>(
     let before = copied_perhaps(core.alloc, change.before.as_ref())?;
     let told = DeltaList::from_vec(copied_deltas(core.alloc, owed.as_slice())?);
     let pays = wants_of(core.alloc, owed.as_slice())?;
+    reserve_ahead(core, session, owed.as_slice().len())?;
     make_room(
         core,
         session,
@@ -128,6 +130,8 @@ fn put_within<M: SortedMaps>(
     core.book.book_law();
     core.store.catalog.number_law();
     let noting = ready_note(&core.store, change.table, change.key.as_slice())?;
+    let version = version_of(core.alloc, &core.store.catalog, &change)?;
+    let copies = copied_deltas(core.alloc, owed.as_slice())?;
     let ready = core.store.tables.prepare(&core.store.catalog, change)?;
     take(core, session, wants);
     write(
@@ -136,6 +140,8 @@ fn put_within<M: SortedMaps>(
         Writing {
             ready,
             noting,
+            version,
+            copies,
             owed: owed.into_vec(),
             wants: pays,
             txn_bytes: bytes,

@@ -31,6 +31,7 @@ use Rattle.txn_book.proofs.Holding.{changed_holds, ghosted_is}
 use Rattle.data_store.specs.Contents.{contents_of}
 use Rattle.data_store.specs.Held.{IsHeld}
 use Rattle.data_changes.specs.Ghosts.{HasAbsent}
+use Rattle.data_past.proofs.Aheads.{ahead_ghosts}
 use Rattle.data_past.proofs.Effects.{past_ghosts}
 use Rattle.core_state.specs.Rooms.{HasRooms, CanBeTakenBack, gone_if, all_gone}
 use Rattle.txn_book.proofs.Booking.{has_place}
@@ -73,6 +74,7 @@ module _ {M : Type 0} (maps : M → ℕ → Map) (spare : M → ℕ → ℕ) (li
         row_mark = h.row_mark;
         delta_mark = h.delta_mark;
         past = h.past;
+        ahead = h.ahead;
         rooms = rooms_changed (spare core.store.tables) (spare core.store.tables) (limit core.store.tables) (limit core.store.tables) core.store.catalog core.store.views core.store.views core.book after core.locks core.locks core.wants core.wants i
             (ghosting (txn_of mine.txn)) good o.of_session h.rooms refl changes (λ n. let same : gone_if n (open_at core.book.opens i) ≡ gone_if n (Some mine.txn) = ap (gone_if n) mine.there in omega (arith, same)) (elsewhere_same i core.store.views core.locks core.wants)
             (covered_alike core.store.catalog core.store.views core.locks (wants_at core.wants i) i (txn_of mine.txn) (ghosting (txn_of mine.txn)) refl refl refl (h.rooms.each i o.of_session mine.txn mine.there).small (h.rooms.each i o.of_session mine.txn mine.there));
@@ -104,7 +106,7 @@ module _ {M : Type 0} (maps : M → ℕ → Map) (spare : M → ℕ → ℕ) (li
       each_back (suc k) t there = let lt = has_place core.book.opens (suc k) t there in (h.rooms.each (suc k) (omega arith, omega (arith, lt, good.places)) t there).kept
 
   pub unmade_holds : IsHeld core.store.catalog (maps tables) views (contents_of s) → Holds maps spare limit (record core { store = record core.store { tables = tables; views = views } }) s l texts
-  unmade_holds stored = record { stored = stored; book = h.book; locks = h.locks; begun = h.begun; next = h.next; row_mark = h.row_mark; delta_mark = h.delta_mark; past = h.past; rooms = rooms_made }
+  unmade_holds stored = record { stored = stored; book = h.book; locks = h.locks; begun = h.begun; next = h.next; row_mark = h.row_mark; delta_mark = h.delta_mark; past = h.past; ahead = h.ahead; rooms = rooms_made }
 
   as_logged : (j : ℕ) → with_one l.logged i (l.logged i) j ≡ l.logged j
   as_logged j = by_session j i (λ e. one_same l.logged i (l.logged i) j e ∙ ap l.logged (sym e)) (λ n. one_other l.logged i (l.logged i) j n)
@@ -120,5 +122,6 @@ module _ {M : Type 0} (maps : M → ℕ → Map) (spare : M → ℕ → ℕ) (li
     row_mark = h.row_mark;
     delta_mark = h.delta_mark;
     past = past_ghosts core.store.row_versions.versions core.store.delta_versions.versions core.store.pending.entries s h.past i (place_of o.first) (length (columns_of o.first));
+    ahead = ahead_ghosts core.ahead core.store.row_versions.room core.store.delta_versions.room s h.ahead i (place_of o.first) (length (columns_of o.first));
     rooms = rooms_made;
   }

@@ -39,6 +39,8 @@ use Rattle.data_store.specs.Contents.{contents_of, pays_on}
 use Rattle.data_store.specs.Held.{IsHeld}
 use Rattle.data_store.specs.Machine.{IsPast}
 use Rattle.data_changes.specs.Effects.{with_pay}
+use Rattle.data_past.specs.Ahead.{IsAhead}
+use Rattle.data_past.proofs.Aheads.{ahead_pays}
 use Rattle.data_past.proofs.Effects.{past_pays}
 use Rattle.core_state.specs.Rooms.{IsWanted, AreWanted, IsCovered, HasRooms, gone_if, still_owed, paid, paid_on}
 use Rattle.core_state.specs.Stands.{Holds}
@@ -85,6 +87,7 @@ module _ {M : Type 0} (maps : M → ℕ → Map) (spare : M → ℕ → ℕ) (li
     row_mark = h.row_mark;
     delta_mark = h.delta_mark;
     past = h.past;
+    ahead = h.ahead;
     rooms = record {
       unlimited = same_limit ∙ h.rooms.unlimited;
       limited = h.rooms.limited;
@@ -166,6 +169,7 @@ module _ {M : Type 0} (maps : M → ℕ → Map) (spare : M → ℕ → ℕ) (li
           row_mark = h.row_mark;
           delta_mark = h.delta_mark;
           past = subst (IsPast core.store.row_versions.versions core.store.delta_versions.versions core.store.pending.entries) does_is (past_pays core.store.row_versions.versions core.store.delta_versions.versions core.store.pending.entries s h.past i o.is_open.of_session);
+          ahead = subst (IsAhead core.ahead core.store.row_versions.room core.store.delta_versions.room) does_is (ahead_pays core.ahead core.store.row_versions.room core.store.delta_versions.room s h.ahead i d o.others o.owed_is);
           rooms = rooms_changed (spare core.store.tables) (spare tables) (limit core.store.tables) (limit tables) core.store.catalog core.store.views views core.book after core.locks core.locks core.wants wants i
               (paying t d o.others before core.next) good o.is_open.of_session h.rooms same_limit changes
               (λ index. let same : gone_if index (open_at core.book.opens i) ≡ gone_if index (Some (mine maps spare limit core s l texts i h o).txn) = ap (gone_if index) (mine maps spare limit core s l texts i h o).there in let more = spares index in omega (arith, same, more))

@@ -28,6 +28,7 @@ use Rattle.txn_book.specs.Txns.{txn_of}
 use Rattle.txn_book.specs.Holding as book
 use Rattle.data_store.specs.Contents.{contents_of}
 use Rattle.data_store.specs.Held.{IsHeld}
+use Rattle.data_past.proofs.Aheads.{ahead_takes}
 use Rattle.data_past.proofs.Effects.{past_takes}
 use Rattle.core_state.specs.Rooms.{HasRooms, AreWanted, still_owed}
 use Rattle.core_state.specs.Stands.{Holds}
@@ -83,6 +84,7 @@ module _ {M : Type 0} (maps : M → ℕ → Map) (spare : M → ℕ → ℕ) (li
     row_mark = h.row_mark;
     delta_mark = h.delta_mark;
     past = past_takes core.store.row_versions.versions core.store.delta_versions.versions core.store.pending.entries s h.past i wants o.of_session;
+    ahead = ahead_takes core.ahead core.store.row_versions.room core.store.delta_versions.room s h.ahead i wants;
     rooms = rooms;
   }
 

@@ -41,6 +41,8 @@ use Rattle.data_store.specs.Held.{IsHeld}
 use Rattle.data_store.specs.Machine.{IsPast}
 use Rattle.data_changes.specs.Effects.{without_pay}
 use Rattle.data_changes.specs.Paying.{HasFor}
+use Rattle.data_past.specs.Ahead.{IsAhead}
+use Rattle.data_past.proofs.Aheads.{ahead_unpaid}
 use Rattle.data_past.proofs.Effects.{past_unpaid}
 use Rattle.core_state.specs.Rooms.{AreWanted, IsCovered, CanBeTakenBack, gone_if, gone_of, still_owed, paid}
 use Rattle.core_state.specs.Stands.{Holds}
@@ -171,6 +173,7 @@ module _ {M : Type 0} (maps : M → ℕ → Map) (spare : M → ℕ → ℕ) (li
           row_mark = h.row_mark;
           delta_mark = h.delta_mark;
           past = subst (IsPast core.store.row_versions.versions core.store.delta_versions.versions core.store.pending.entries) does_is (past_unpaid core.store.row_versions.versions core.store.delta_versions.versions core.store.pending.entries s h.past i o.is_open.of_session d o.earlier o.kept_is);
+          ahead = subst (IsAhead core.ahead core.store.row_versions.room core.store.delta_versions.room) does_is (ahead_unpaid core.ahead core.store.row_versions.room core.store.delta_versions.room s h.ahead i d o.earlier o.kept_is);
           rooms = rooms_changed (spare core.store.tables) (spare tables) (limit core.store.tables) (limit tables) core.store.catalog core.store.views views core.book after core.locks core.locks core.wants core.wants i
               t_after good o.is_open.of_session h.rooms same_limit changes
               (λ index. let same : gone_if index (open_at core.book.opens i) ≡ gone_of index last.steps = ap (gone_if index) mine.there ∙ ap (gone_of index) last.is in let more = spares index in omega (arith, same, more))

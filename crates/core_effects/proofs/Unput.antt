@@ -1,9 +1,10 @@
 -- A session's latest change is taken back.
-use Rattle.std.specs.Prelude.{◌≡◌, ℕ, ◌+◌, ◌-◌, ◌≤◌, false, List, [], ◌∷◌, length, reverse, Option, None, Some, IfSome, refl}
+use Rattle.std.specs.Prelude.{◌≡◌, ℕ, ◌+◌, ◌-◌, ◌≤◌, false, List, [], ◌∷◌, length, reverse, take, Option, None, Some, IfSome, refl}
 use Rattle.std.specs.List.{Contains}
 use Rattle.std.specs.FinMap.{get}
 use mathlib.Core.Path.{sym, ap, subst, ◌∙◌}
 use Rattle.std.proofs.Common.{arith}
+use Rattle.std.proofs.lemmas.List.{length-reverse}
 use Rattle.std.proofs.lemmas.List.Elements.{Contains-append_right}
 use Rattle.iv_types.specs.Maps.{Map, IsWithin, used}
 use Rattle.iv_types.specs.Definitions.{AreNumbered}
@@ -24,13 +25,13 @@ use Rattle.txn_machine.specs.Acts.{Act}
 use Rattle.txn_machine.specs.Counts.{definition_sizes}
 use Rattle.txn_machine.specs.Deltas.{RowChange}
 use Rattle.txn_machine.specs.Ghosts.{the_views}
-use Rattle.txn_machine.specs.Keeping.{KeptStep, Put, Open}
+use Rattle.txn_machine.specs.Keeping.{KeptStep, Put, Open, changes_of}
 use Rattle.txn_machine.specs.Locks.{with_one}
 use Rattle.txn_machine.specs.Log.{Log, Logged, logs, undoes, undo_record, appended, with_logged, rest}
 use Rattle.txn_machine.specs.May.{FitsUnder}
 use Rattle.txn_machine.specs.Records.{Undo}
 use Rattle.txn_machine.specs.RowChanges.{row_change}
-use Rattle.txn_machine.specs.Store.{Store, now, schema_of, committed, does, Undoes, undone, notes_before}
+use Rattle.txn_machine.specs.Store.{Store, now, changes_by, schema_of, committed, does, Undoes, undone, notes_before}
 use Rattle.txn_machine.proofs.Basics.{one_same, one_other}
 use Rattle.table_laws.specs.Table.{write}
 use Rattle.txn_book.specs.Books.{Books, IsBook, Changes}
@@ -48,6 +49,9 @@ use Rattle.data_store.specs.declared.store.Pending.{Pending}
 use Rattle.data_changes.specs.Effects.{without_put}
 use Rattle.data_past.specs.Moves.{one_less, ChangesAt, HasChange}
 use Rattle.data_past.proofs.Committing.{latest_counted}
+use Rattle.data_past.specs.Ahead.{Becomes, IsAhead, rows_at, deltas_at}
+use Rattle.data_past.specs.declared.versions.Versions.{Versions}
+use Rattle.data_past.proofs.Aheads.{ahead_unput, rows_many, deltas_many}
 use Rattle.data_past.proofs.Effects.{past_unput}
 use Rattle.spare_map.specs.Spared.{Spared}
 use Rattle.core_state.specs.Rooms.{IsCovered, CanBeTakenBack, gone_if, gone_of, still_owed, paid}
@@ -137,6 +141,20 @@ module _ {M : Type 0} (maps : M → ℕ → Map) (spare : M → ℕ → ℕ) (li
   is_counted = subst (λ (c : RowChange). HasChange core.store.pending.entries c.key) (sym last.change)
       (latest_counted core.store.row_versions.versions core.store.delta_versions.versions core.store.pending.entries s h.past i o.is_open.of_session o.change o.owed o.earlier o.kept_is)
 
+  -- the book's transaction owes as much
+  owed_many : length mine.txn.owed.items ≡ length (now s i).owed
+  owed_many = sym (length-reverse mine.txn.owed.items) ∙ ap length mine.is.owed
+
+  -- its version is made, and so are the deltas that it owes
+  pub version_there : 1 ≤ length (rows_at core.ahead i)
+  version_there =
+      let many = rows_many core.ahead core.store.row_versions.room core.store.delta_versions.room s h.ahead i in
+      let some : length (changes_by s i) ≡ length (changes_of (Put o.change o.owed ∷ o.earlier)) = ap (λ (l : List KeptStep). length (changes_of l)) o.kept_is in
+      omega (arith, many, some)
+
+  pub owed_there : length mine.txn.owed.items ≤ length (deltas_at core.ahead i)
+  owed_there = let many = deltas_many core.ahead core.store.row_versions.room core.store.delta_versions.room s h.ahead i in let same = owed_many in omega (arith, many, same)
+
   -- the book has it as the latest of the open transaction there
   pub there_latest : (t : BookOpen) → open_at core.book.opens i ≡ Some t → reverse t.kept.items ≡ step.Put last.kept last.txn_bytes last.history_bytes last.number ∷ last.steps
   there_latest t there =
@@ -178,11 +196,12 @@ module _ {M : Type 0} (maps : M → ℕ → Map) (spare : M → ℕ → ℕ) (li
           small = back_of.1;
         }
 
-    pub undone_holds : (a : Act) (pending : Spared Pending) → ChangesAt (last.kept.change.table, last.kept.change.key) one_less core.store.pending.entries pending.entries → TakesRoom (spare core.store.tables) (spare tables) last.kept.made last.kept.gone → IsHeld core.store.catalog (maps tables) core.store.views (without_put (contents_of s) i (row_change last.kept.change) o.earlier) → Changes core.book after i t_after
-        → Holds maps spare limit (record core { store = record core.store { tables = tables; pending = pending }; book = after; next = core.next + 1 }) (does the_views s i Undoes) (logs s i a Undoes l) texts
-    undone_holds a pending forgot takes stored changes =
-        subst (λ u. Holds maps spare limit (record core { store = record core.store { tables = tables; pending = pending }; book = after; next = core.next + 1 }) u (logs s i a Undoes l) texts) (sym does_is)
-        (subst (λ m. Holds maps spare limit (record core { store = record core.store { tables = tables; pending = pending }; book = after; next = core.next + 1 }) store_after m texts) (sym (logs_is a))
+    pub undone_holds : (a : Act) (pending : Spared Pending) → ChangesAt (last.kept.change.table, last.kept.change.key) one_less core.store.pending.entries pending.entries
+        → (ahead : List Versions) (owed : ℕ) → owed ≡ length mine.txn.owed.items → Becomes core.ahead ahead i (take (length (rows_at core.ahead i) - 1) (rows_at core.ahead i)) (take (length (deltas_at core.ahead i) - owed) (deltas_at core.ahead i)) → TakesRoom (spare core.store.tables) (spare tables) last.kept.made last.kept.gone → IsHeld core.store.catalog (maps tables) core.store.views (without_put (contents_of s) i (row_change last.kept.change) o.earlier) → Changes core.book after i t_after
+        → Holds maps spare limit (record core { store = record core.store { tables = tables; pending = pending }; book = after; ahead = ahead; next = core.next + 1 }) (does the_views s i Undoes) (logs s i a Undoes l) texts
+    undone_holds a pending forgot ahead owed owed_is removed takes stored changes =
+        subst (λ u. Holds maps spare limit (record core { store = record core.store { tables = tables; pending = pending }; book = after; ahead = ahead; next = core.next + 1 }) u (logs s i a Undoes l) texts) (sym does_is)
+        (subst (λ m. Holds maps spare limit (record core { store = record core.store { tables = tables; pending = pending }; book = after; ahead = ahead; next = core.next + 1 }) store_after m texts) (sym (logs_is a))
         (record {
           stored = subst (IsHeld core.store.catalog (maps tables) core.store.views)
               (contents_as (without_put (contents_of s) i o.change o.earlier) (contents_of store_after) refl refl refl (λ j. sym (kept_of s.open_of i (Some undone_one) j)))
@@ -199,6 +218,8 @@ module _ {M : Type 0} (maps : M → ℕ → Map) (spare : M → ℕ → ℕ) (li
           past = subst (IsPast core.store.row_versions.versions core.store.delta_versions.versions pending.entries) does_is
               (past_unput core.store.row_versions.versions core.store.delta_versions.versions core.store.pending.entries s h.past i o.is_open.of_session pending.entries o.change o.owed o.earlier o.kept_is
               (subst (λ (c : RowChange). ChangesAt c.key one_less core.store.pending.entries pending.entries) last.change forgot));
+          ahead = subst (IsAhead ahead core.store.row_versions.room core.store.delta_versions.room) does_is
+              (ahead_unput core.ahead core.store.row_versions.room core.store.delta_versions.room s h.ahead i o.change o.owed o.earlier o.kept_is owed (owed_is ∙ owed_many) ahead removed);
           rooms = rooms_changed (spare core.store.tables) (spare tables) (limit core.store.tables) (limit tables) core.store.catalog core.store.views core.store.views core.book after core.locks core.locks core.wants core.wants i
               t_after good o.is_open.of_session h.rooms same_limit changes
               (λ index. let here = gone_here index in let room = takes index in omega (arith, here, room))

@@ -1,5 +1,5 @@
 -- A change is made.
-use Rattle.std.specs.Prelude.{◌≡◌, ◌≢◌, ◌*◌, ◌+◌, ◌≤◌, ℕ, List, [], ◌∷◌, map, length, reverse, Option, Some, refl}
+use Rattle.std.specs.Prelude.{◌≡◌, ◌≢◌, ◌*◌, ◌+◌, ◌≤◌, ℕ, List, [], ◌∷◌, ◌++◌, map, length, reverse, Option, Some, refl}
 use mathlib.Core.Path.{sym, ap, subst, ◌∙◌}
 use mathlib.Core.Logic.{inl, inr}
 use Rattle.std.proofs.Common.{arith}
@@ -38,6 +38,10 @@ use Rattle.data_store.specs.declared.store.Pending.{Pending}
 use Rattle.data_changes.specs.Effects as effect
 use Rattle.data_past.specs.Moves.{one_more, ChangesAt, CanCount}
 use Rattle.data_past.proofs.Committing.{can_count}
+use Rattle.data_past.specs.Ahead.{Becomes, IsAhead, rows_at, deltas_at, all_deltas, made_of}
+use Rattle.data_past.specs.declared.versions.Versions.{Versions}
+use Rattle.data_past.proofs.Aheads.{ahead_writes}
+use Rattle.data_past.proofs.Committing.{made_as}
 use Rattle.data_past.proofs.Effects.{past_writes}
 use Rattle.spare_map.specs.Spared.{Spared}
 use Rattle.table_laws.specs.Place.{Place}
@@ -108,13 +112,14 @@ module _ {M : Type 0} (maps : M → ℕ → Map) (spare : M → ℕ → ℕ) (li
   counted_once = can_count core.store.row_versions.versions core.store.delta_versions.versions core.store.pending.entries s h.past i can.is_open.of_session (w.noting.index, w.noting.key)
       (λ j js. let few = session_few maps spare limit core s l texts h j js in omega (arith, few))
 
-  pub written_holds : (a : Act) (tables : M) (pending : Spared Pending) (after : Books) (wants : List (List (List Want))) → ChangesAt (w.noting.index, w.noting.key) (one_more w.noting.committed) core.store.pending.entries pending.entries → limit tables ≡ limit core.store.tables → IsBook core.book
+  pub written_holds : (a : Act) (tables : M) (pending : Spared Pending) (after : Books) (wants : List (List (List Want))) → ChangesAt (w.noting.index, w.noting.key) (one_more w.noting.committed) core.store.pending.entries pending.entries
+      → (ahead : List Versions) → Becomes core.ahead ahead i (rows_at core.ahead i ++ w.version ∷ []) (deltas_at core.ahead i ++ w.copies.items) → limit tables ≡ limit core.store.tables → IsBook core.book
       → TakesRoom (spare core.store.tables) (spare tables) kept.gone kept.made
       → IsHeld core.store.catalog (maps tables) core.store.views (effect.with_put (contents_of s) i c owed)
       → Changes core.book after i t_after → wants_at wants i ≡ w.wants.items → ((j : ℕ) → j ≢ i → wants_at wants j ≡ wants_at core.wants j)
-      → Holds maps spare limit (record core { store = record core.store { tables = tables; pending = pending }; book = after; wants = wants; next = core.next + 1 }) (does the_views s i (Writes c.key c.after)) (logs s i a (Writes c.key c.after) l) texts
-  written_holds a tables pending after wants counts same_limit good takes stored changes set others =
-      subst (λ u. Holds maps spare limit (record core { store = record core.store { tables = tables; pending = pending }; book = after; wants = wants; next = core.next + 1 }) u (logs s i a (Writes c.key c.after) l) texts) (sym does_is)
+      → Holds maps spare limit (record core { store = record core.store { tables = tables; pending = pending }; book = after; wants = wants; ahead = ahead; next = core.next + 1 }) (does the_views s i (Writes c.key c.after)) (logs s i a (Writes c.key c.after) l) texts
+  written_holds a tables pending after wants counts ahead added same_limit good takes stored changes set others =
+      subst (λ u. Holds maps spare limit (record core { store = record core.store { tables = tables; pending = pending }; book = after; wants = wants; ahead = ahead; next = core.next + 1 }) u (logs s i a (Writes c.key c.after) l) texts) (sym does_is)
       (record {
         stored = subst (IsHeld core.store.catalog (maps tables) core.store.views)
             (contents_as (effect.with_put (contents_of s) i c owed) (contents_of store_after) refl refl refl (λ j. sym (kept_of s.open_of i (Some written) j))) stored;
@@ -130,6 +135,9 @@ module _ {M : Type 0} (maps : M → ℕ → Map) (spare : M → ℕ → ℕ) (li
         past = subst (IsPast core.store.row_versions.versions core.store.delta_versions.versions pending.entries) does_is
             (past_writes core.store.row_versions.versions core.store.delta_versions.versions core.store.pending.entries s h.past i can.is_open.of_session c.key pending.entries c.after w.noting.committed can.noted.committed
             (subst (λ (p : Place). ChangesAt p (one_more w.noting.committed) core.store.pending.entries pending.entries) can.noted.is_of counts));
+        ahead = ahead_writes core.ahead core.store.row_versions.room core.store.delta_versions.room s h.ahead i can.owes_none c owed store_after refl refl w.version version_is ahead
+            (subst (λ ds. Becomes core.ahead ahead i (rows_at core.ahead i ++ w.version ∷ []) (deltas_at core.ahead i ++ ds)) can.ahead.copies added) can.ahead.row_room
+            (subst (λ ds. all_deltas core.ahead + length ds ≤ core.store.delta_versions.room) can.ahead.copies can.ahead.delta_room);
         rooms = rooms_moved (spare core.store.tables) (spare tables) (limit core.store.tables) (limit tables) core.store.catalog core.store.views core.store.views core.book after core.locks core.locks core.wants wants i
             t_after good can.is_open.of_session h.rooms same_limit changes
             (λ index. let here : gone_if index (open_at core.book.opens i) ≡ gone_of index (txn_of mine.txn).kept = ap (gone_if index) mine.there in let room = takes index in let undo = can.undo index in omega (arith, here, room, undo))
@@ -137,6 +145,9 @@ module _ {M : Type 0} (maps : M → ℕ → Map) (spare : M → ℕ → ℕ) (li
             (covered_after wants (set ∙ can.wants));
       })
     where
+      version_is : w.version ≡ made_of (schema_of s) c
+      version_is = can.ahead.version ∙ (made_as core.store.catalog kept.change ∙ ap (λ os. made_of os c) h.stored.objects)
+
       is_it : book.IsTxn (schema_of s) t_after written (keeps (l.logged i) core.next)
       is_it =
           subst (λ n. book.IsTxn (schema_of s) (with_put (txn_of mine.txn) kept core.next owed n w.history_bytes) written (keeps (l.logged i) core.next)) (sym can.bytes)

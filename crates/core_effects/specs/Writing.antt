@@ -21,6 +21,8 @@ use Rattle.txn_machine.specs.Steps.{put_owed, group_want}
 use Rattle.txn_machine.specs.Store.{Store, change_at, now, schema_of, committed, notes_before}
 use Rattle.data_store.specs.Machine.{bytes_of}
 use Rattle.data_past.specs.declared.noting.Noting.{Noting}
+use Rattle.data_past.specs.Ahead.{CanAddAt, all_rows, all_deltas}
+use Rattle.data_past.specs.Moves.{version_of}
 use Rattle.core_state.specs.Rooms.{all_gone, paid}
 use Rattle.core_state.specs.declared.limits.TheConstants.{MOST_OF_TRANSACTION}
 use Rattle.core_state.specs.declared.state.CoreState.{CoreState}
@@ -37,6 +39,15 @@ pub record IsNoting (s : Store) (n : Noting) (place : Place) : Type 0 where
   pub is_of : ◌≡◌ {A = Place} (n.index, n.key) place
   pub committed : n.committed ≡ bytes_of (schema_of s) place (get (committed s).rows place)
 
+-- The version that the change leaves is made, with the deltas that it owes, and there is room for them among those of its session and in
+-- the chains.
+pub record IsAdding {M : Type 0} (core : CoreState M) (session : ℕ) (w : Writing) : Type 0 where
+  pub version : w.version ≡ version_of core.store.catalog w.ready.kept.change
+  pub copies : w.copies.items ≡ w.owed.items
+  pub room : CanAddAt core.ahead session (length w.copies.items)
+  pub row_room : all_rows core.ahead + 1 ≤ core.store.row_versions.room
+  pub delta_room : all_deltas core.ahead + length w.copies.items ≤ core.store.delta_versions.room
+
 -- A session's transaction, which owes nothing, can make the change: it is one of the row that is there, with what it owes and counts,
 -- and there is room for all of it and for taking it back.
 pub record CanWrite {M : Type 0} (maps : M → ℕ → Map) (spare : M → ℕ → ℕ) (limit : M → Option ℕ) (s : Store) (core : CoreState M) (session : ℕ) (w : Writing) : Type 0 where
@@ -52,5 +63,6 @@ pub record CanWrite {M : Type 0} (maps : M → ℕ → Map) (spare : M → ℕ �
   pub ready : IsTableAnd core.store.catalog w.ready.kept.change.table (IsReady core.store.catalog w.ready (maps core.store.tables) (spare core.store.tables) (limit core.store.tables))
   pub undo : (index : ℕ) → all_gone index core.book.opens + how_many index w.ready.kept.made ≤ spare core.store.tables index
   pub owes : CanOwe core session w.owed.items
+  pub ahead : IsAdding core session w
   pub noted : IsNoting s w.noting (w.ready.kept.change.table, w.ready.kept.change.key)
   pub wants : w.wants.items ≡ map (λ d. group_want d ∷ []) w.owed.items

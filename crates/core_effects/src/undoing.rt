@@ -60,10 +60,12 @@ fn undo_put<M: SortedMaps>(core: &mut CoreState<M>, session: u32)
     requires keeps { (s : Store) × (l : Log) × (texts : List (List ℕ)) × Holds M.maps M.spare M.limit core.old s l texts × KeepsPut s session }
     ensures holds { (s : Store) (l : Log) (texts : List (List ℕ)) (a : Act) → Holds M.maps M.spare M.limit core.old s l texts → KeepsPut s session
         → Holds M.maps M.spare M.limit core.new (does the_views s session Undoes) (logs s session a Undoes l) texts }
-    ensures rest { core.new ≡ record core.old { store = core.new.store; book = core.new.book; next = core.new.next } }
+    ensures rest { core.new ≡ record core.old { store = core.new.store; book = core.new.book; ahead = core.new.ahead; next = core.new.next } }
 {
     core.book.book_law();
     core.store.catalog.number_law();
+    let owed = core.open_of(session).owed.len();
+    core.ahead.remove_last(session, owed);
     match core.book.undo(session) {
         Some(kept) => {
             let change = &kept.change;
@@ -95,7 +97,7 @@ pub fn undo<M: SortedMaps>(core: &mut CoreState<M>, session: u32)
     requires keeps { (s : Store) × (l : Log) × (texts : List (List ℕ)) × Holds M.maps M.spare M.limit core.old s l texts × KeepsOne s session }
     ensures holds { (s : Store) (l : Log) (texts : List (List ℕ)) (a : Act) → Holds M.maps M.spare M.limit core.old s l texts → KeepsOne s session
         → Holds M.maps M.spare M.limit core.new (does the_views s session Undoes) (logs s session a Undoes l) texts }
-    ensures rest { core.new ≡ record core.old { store = core.new.store; book = core.new.book; next = core.new.next } }
+    ensures rest { core.new ≡ record core.old { store = core.new.store; book = core.new.book; ahead = core.new.ahead; next = core.new.next } }
 {
     if is_pay(core.open_of(session)) {
         undo_pay(core, session);

@@ -14,6 +14,7 @@ use data_past::{Noting, note_change};
 use iv_types::{GroupDelta, SortedMaps, WantList};
 use table_store::Ready;
 use txn_book::Owing;
+use version_chain::Version;
 
 /// A change that is ready to be made.
 #[derive(Drop)]
@@ -21,6 +22,9 @@ pub struct Writing {
     pub ready: Ready,
     /// What noting it takes.
     pub noting: Noting,
+    /// The version that it leaves, and what it owes once more.
+    pub version: Version,
+    pub copies: Vec<GroupDelta>,
     /// What it owes.
     pub owed: Vec<GroupDelta>,
     /// The wants of their pays.
@@ -39,12 +43,14 @@ pub fn write<M: SortedMaps>(core: &mut CoreState<M>, session: u32, writing: Writ
     ensures holds { (s : Store) (l : Log) (texts : List (List ℕ)) (a : Act) → Holds M.maps M.spare M.limit core.old s l texts → CanWrite M.maps M.spare M.limit s core.old session writing
         → Holds M.maps M.spare M.limit core.new (does the_views s session (Writes (writing.ready.kept.change.table, writing.ready.kept.change.key) writing.ready.kept.change.after))
         (logs s session a (Writes (writing.ready.kept.change.table, writing.ready.kept.change.key) writing.ready.kept.change.after) l) texts }
-    ensures rest { core.new ≡ record core.old { store = record core.old.store { tables = core.new.store.tables; pending = core.new.store.pending }; book = core.new.book; wants = core.new.wants; next = core.new.next } }
+    ensures rest { core.new ≡ record core.old { store = record core.old.store { tables = core.new.store.tables; pending = core.new.store.pending }; book = core.new.book; wants = core.new.wants; ahead = core.new.ahead; next = core.new.next } }
 {
     core.book.book_law();
     let Writing {
         ready,
         noting,
+        version,
+        copies,
         owed,
         wants,
         txn_bytes,
@@ -53,6 +59,7 @@ pub fn write<M: SortedMaps>(core: &mut CoreState<M>, session: u32, writing: Writ
     let number = core.next;
     let kept = put(&mut core.store, ready);
     note_change(&mut core.store, noting);
+    core.ahead.add(session, version, copies);
     core.book.keep(
         session,
         kept,

@@ -34,6 +34,7 @@ use Rattle.txn_book.proofs.Holding.{begun_is, changed_holds}
 use Rattle.txn_book.proofs.Totals.{bytes_law}
 use Rattle.data_store.specs.Contents.{contents_of}
 use Rattle.data_store.specs.Held.{IsHeld}
+use Rattle.data_past.proofs.Aheads.{ahead_opens}
 use Rattle.data_past.proofs.Effects.{past_opens}
 use Rattle.core_state.specs.Stands.{Began, Told}
 use Rattle.core_state.proofs.Unchanged.{unchanged_told}
@@ -100,6 +101,7 @@ module _ {M : Type 0} (maps : M → ℕ → Map) (spare : M → ℕ → ℕ) (li
       row_mark = h.holds.row_mark;
       delta_mark = h.holds.delta_mark;
       past = past_opens core.store.row_versions.versions core.store.delta_versions.versions core.store.pending.entries s.store h.holds.past i mode is none;
+      ahead = ahead_opens core.ahead core.store.row_versions.room core.store.delta_versions.room s.store h.holds.ahead i mode none;
       rooms = rooms_changed (spare core.store.tables) (spare core.store.tables) (limit core.store.tables) (limit core.store.tables) core.store.catalog core.store.views core.store.views core.book after core.locks core.locks core.wants core.wants i
           (begun mode (number_of core.book) id) good is h.holds.rooms refl changes (λ index. omega arith) (elsewhere_same i core.store.views core.locks core.wants) (covered_begun core.store.catalog core.store.views core.locks (wants_at core.wants i) i mode (number_of core.book) id);
     };

@@ -1,5 +1,5 @@
 -- A transaction ends.
-use Rattle.std.specs.Prelude.{◌≡◌, ◌≢◌, ℕ, ◌+◌, ◌≤◌, cond, Bool, true, false, List, [], ◌∷◌, ◌++◌, Option, None, Some, slice_set, refl}
+use Rattle.std.specs.Prelude.{◌≡◌, ◌≢◌, ℕ, ◌+◌, ◌≤◌, cond, Bool, true, false, List, [], ◌∷◌, ◌++◌, length, Option, None, Some, slice_set, refl}
 use Rattle.std.specs.Option.{unwrap_or}
 use mathlib.Core.Path.{sym, ap, subst, ◌∙◌}
 use Rattle.std.proofs.Common.{arith}
@@ -41,6 +41,8 @@ use Rattle.data_store.specs.Contents.{Contents, contents_of}
 use Rattle.data_store.specs.Held.{IsHeld}
 use Rattle.data_store.specs.Machine.{IsPast}
 use Rattle.data_changes.specs.Effects.{keeping}
+use Rattle.data_past.specs.Ahead.{Becomes, rows_at, deltas_at}
+use Rattle.data_past.proofs.Aheads.{ahead_gone}
 use Rattle.core_state.specs.Seats.{machine_seat, machine_cleaner, seat_at}
 use Rattle.core_state.specs.Stands.{Began, Told, Holds, Counts, is_blocked}
 use Rattle.core_state.proofs.Unchanged.{not_blocked}
@@ -119,8 +121,9 @@ module _ {M : Type 0} (maps : M → ℕ → Map) (spare : M → ℕ → ℕ) (li
 
   -- without an entry
   pub ended : (o : IsOpen s.store i) → Seats core.book new.book i None → new.next ≡ cond (s.log.logged i).wrote (core.next + 1) core.next
-      → IsPast new.store.row_versions.versions new.store.delta_versions.versions new.store.pending.entries (does the_views s.store i Ends) → Left maps spare limit s i Ends core new
-  ended o seated next past = record {
+      → IsPast new.store.row_versions.versions new.store.delta_versions.versions new.store.pending.entries (does the_views s.store i Ends) → Becomes core.ahead new.ahead i [] []
+      → core.store.row_versions.room ≤ new.store.row_versions.room + length (rows_at core.ahead i) → core.store.delta_versions.room ≤ new.store.delta_versions.room + length (deltas_at core.ahead i) → Left maps spare limit s i Ends core new
+  ended o seated next past gone row_room delta_room = record {
     holds = λ a. record {
       stored = left_stored (with_txn s.store i None) refl refl refl (λ j. refl);
       book = subst (λ l. book.Holds new.book (schema_of s.store) (with_one s.store.open_of i None) l s.store.history (committed s.store).number (definition_sizes s.definitions)) (sym (logs_logged s.store i a Ends s.log))
@@ -133,6 +136,7 @@ module _ {M : Type 0} (maps : M → ℕ → Map) (spare : M → ℕ → ℕ) (li
       row_mark = row_mark ∙ h.holds.row_mark;
       delta_mark = delta_mark ∙ h.holds.delta_mark;
       past = past;
+      ahead = ahead_gone core.ahead core.store.row_versions.room core.store.delta_versions.room s.store h.holds.ahead i (with_txn s.store i None) refl refl new.ahead gone new.store.row_versions.room new.store.delta_versions.room row_room delta_room;
       rooms = left_rooms seated.opens;
     };
     own = ap (λ (y : SessionLocks). y.waiting) released.changed;
@@ -143,8 +147,9 @@ module _ {M : Type 0} (maps : M → ℕ → Map) (spare : M → ℕ → ℕ) (li
 
   -- with one
   pub entered : (r : IsReady s.store i Serial) (own : HasTxn (schema_of s.store) (open_at core.book.opens i) r.goes_on.transaction (s.log.logged i)) → Committed core.book new.book i (txn_of own.txn) → new.next ≡ core.next + 1
-      → IsPast new.store.row_versions.versions new.store.delta_versions.versions new.store.pending.entries (does the_views s.store i Commits) → Left maps spare limit s i Commits core new
-  entered r own did next past =
+      → IsPast new.store.row_versions.versions new.store.delta_versions.versions new.store.pending.entries (does the_views s.store i Commits) → Becomes core.ahead new.ahead i [] []
+      → core.store.row_versions.room ≤ new.store.row_versions.room + length (rows_at core.ahead i) → core.store.delta_versions.room ≤ new.store.delta_versions.room + length (deltas_at core.ahead i) → Left maps spare limit s i Commits core new
+  entered r own did next past gone row_room delta_room =
       let o : IsOpen s.store i = record { of_session = is; transaction = r.goes_on.transaction; is_open = r.goes_on.is_open } in
       let u : Store = with_txn (with_entry s.store i (entry_changes (now s.store i).kept)) i None in
       let after : committed u ≡ record (committed s.store) { number = (committed s.store).number + 1; rows = redo (changes_by s.store i) (committed s.store).rows } = committed_after the_views fresh view_laws s.store i in
@@ -165,6 +170,7 @@ module _ {M : Type 0} (maps : M → ℕ → Map) (spare : M → ℕ → ℕ) (li
           row_mark = row_mark ∙ h.holds.row_mark;
           delta_mark = delta_mark ∙ h.holds.delta_mark;
           past = past;
+          ahead = ahead_gone core.ahead core.store.row_versions.room core.store.delta_versions.room s.store h.holds.ahead i u refl objects new.ahead gone new.store.row_versions.room new.store.delta_versions.room row_room delta_room;
           rooms = left_rooms did.opens;
         };
         own = ap (λ (y : SessionLocks). y.waiting) released.changed;

@@ -26,8 +26,10 @@ use Rattle.version_chain.specs.declared.rows.Version as row
 use Rattle.data_store.specs.Past.{Pendings, RowVersions}
 use Rattle.data_store.specs.ViewPast.{DeltaVersions}
 use Rattle.data_store.specs.Machine.{changes_on, IsPast}
-use Rattle.data_past.specs.Moves.{fewer, CanForget, puts_in, versions_in, deltas_in, version_at, delta_at, pushed_all, AreSteps}
-use Rattle.data_past.proofs.Committing.{can_forget, committed_past}
+use Rattle.data_past.specs.Moves.{fewer, CanForget, puts_in, version_at, delta_at, pushed_all, AreSteps}
+use Rattle.data_past.specs.Ahead.{rows_at, deltas_at}
+use Rattle.data_past.proofs.Aheads.{ahead_commits}
+use Rattle.data_past.proofs.Committing.{can_forget, same_puts, same_count}
 use Rattle.data_past.proofs.Effects.{past_txn}
 use Rattle.core_state.specs.Stands.{Began}
 use Rattle.core_state.specs.declared.state.CoreState.{CoreState}
@@ -66,18 +68,18 @@ module _ {M : Type 0} (maps : M → ℕ → Map) (spare : M → ℕ → ℕ) (li
       forgets = subst (λ (l : List BookStep). CanForget core.store.pending.entries (puts_in l)) (reverse-reverse b.kept.items)
           (can_forget core.store.row_versions.versions core.store.delta_versions.versions core.store.pending.entries s.store h.holds.past i r.goes_on.of_session (reverse b.kept.items) steps)
 
-      pub left_versions : (number : ℕ) → number ≡ (committed s.store).number + 1 → (versions : List row.Version) (paid : List GroupDelta) → versions ≡ versions_in core.store.catalog b.kept.items → paid ≡ deltas_in b.kept.items
+      pub left_versions : (number : ℕ) → number ≡ (committed s.store).number + 1 → (versions : List row.Version) (paid : List GroupDelta) → versions ≡ rows_at core.ahead i → paid ≡ deltas_at core.ahead i
           → (R : RowVersions) (D : DeltaVersions) (P : Pendings) → R ≡ pushed_all (version_at number) versions core.store.row_versions.pruned core.store.row_versions.versions
           → D ≡ pushed_all (delta_at number) paid core.store.delta_versions.pruned core.store.delta_versions.versions
           → ((place : Place) → get P place ≡ fewer (changes_on place (puts_in b.kept.items)) (get core.store.pending.entries place)) → IsPast R D P (does the_views s.store i Commits)
       left_versions number number_is versions paid versions_are paid_are R D P rows deltas pending =
-          let back : reverse (reverse b.kept.items) ≡ b.kept.items = reverse-reverse b.kept.items in
-          committed_past core.store.row_versions.versions core.store.delta_versions.versions core.store.pending.entries s.store h.holds.past i r.goes_on.of_session (reached s h.reached)
-          (ap (λ (t : Open). t.owed) (now_is maps spare limit core s i h opened) ∙ r.owes_nothing) core.store.catalog h.holds.stored.objects (reverse b.kept.items) steps versions paid R D P
-          (versions_are ∙ ap (versions_in core.store.catalog) (sym back)) (paid_are ∙ ap deltas_in (sym back))
+          ahead_commits core.ahead core.store.row_versions.room core.store.delta_versions.room s.store h.holds.ahead core.store.row_versions.versions core.store.delta_versions.versions core.store.pending.entries h.holds.past i r.goes_on.of_session (reached s h.reached)
+          (ap (λ (t : Open). t.owed) (now_is maps spare limit core s i h opened) ∙ r.owes_nothing) versions paid versions_are paid_are R D P
           (rows ∙ (λ j. pushed_all (version_at (number_is j)) versions (h.holds.row_mark j) core.store.row_versions.versions))
           (deltas ∙ (λ j. pushed_all (delta_at (number_is j)) paid (h.holds.delta_mark j) core.store.delta_versions.versions))
-          (λ place. pending place ∙ ap (λ (l : List BookStep). fewer (changes_on place (puts_in l)) (get core.store.pending.entries place)) (sym back))
+          (λ place. pending place ∙ ap (λ n. fewer n (get core.store.pending.entries place))
+          (ap (λ (l : List BookStep). changes_on place (puts_in l)) (sym (reverse-reverse b.kept.items))
+          ∙ (ap (changes_on place) (same_puts (reverse b.kept.items) (now s.store i).kept steps) ∙ same_count place (changes_by s.store i))))
 
   -- a transaction that has changed nothing ends
   pub past_ended : (core new : CoreState M) (s : State) (i : ℕ) → Began maps spare limit core s i → IsSession i → changes_by s.store i ≡ []

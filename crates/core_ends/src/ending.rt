@@ -18,6 +18,7 @@ ghost use Rattle.data_changes.specs.Effects.{keeping};
 ghost use Rattle.core_state.specs.Stands.{Began, Told};
 ghost use Rattle.core_ends.specs.Ends.{Left};
 
+use crate::entering::enter_it;
 use core_state::CoreState;
 use data_changes::settle;
 use iv_types::{Mode, SortedMaps};
@@ -44,6 +45,7 @@ fn end_it<M: SortedMaps>(core: &mut CoreState<M>, session: u32)
     core.book.book_law();
     let wrote = core.open_of(session).has_written;
     core.book.end(session);
+    core.ahead.clear(session);
     let_go(core, session);
     if wrote {
         core.next += 1;
@@ -71,11 +73,16 @@ fn own_number<M: SortedMaps>(core: &CoreState<M>, session: u32) -> u64
     }
 }
 
-/// Commits a transaction that keeps no change and owes nothing, without an entry. Takes no memory.
+/// Commits a transaction that owes nothing: its changes are an entry of the next number, where it keeps some, and leave the versions
+/// that were made ahead. Takes no memory.
 pub fn commit<M: SortedMaps>(core: &mut CoreState<M>, session: u32) -> Answer
-    requires { (s : State) × Began M.maps M.spare M.limit core.old s session × MayAct s.store session act.Commit × (changes_by s.store session ≡ []) }
-    ensures { (s : State) → Began M.maps M.spare M.limit core.old s session → MayAct s.store session act.Commit → changes_by s.store session ≡ [] → Told M.maps M.spare M.limit s session act.Commit (answer_of result) core.new }
+    requires { (s : State) × Began M.maps M.spare M.limit core.old s session × MayAct s.store session act.Commit }
+    ensures { (s : State) → Began M.maps M.spare M.limit core.old s session → MayAct s.store session act.Commit → Told M.maps M.spare M.limit s session act.Commit (answer_of result) core.new }
 {
+    core.book.book_law();
+    if core.open_of(session).puts > 0 {
+        return Answer::Committed(enter_it(core, session));
+    }
     let number = own_number(core, session);
     end_it(core, session);
     Answer::Committed(number)

@@ -11,4 +11,3 @@ mod entering;
 pub use beginning::begin;
 pub use cancelling::cancel;
 pub use ending::{commit, end};
-pub use entering::commit_changes;

@@ -38,6 +38,7 @@ use Rattle.data_store.specs.Held.{IsHeld}
 use Rattle.core_state.specs.Stands.{Began, Told, Holds}
 use Rattle.core_state.specs.declared.state.CoreState.{CoreState}
 use Rattle.lock_desk.specs.PayWants.{wants_at}
+use Rattle.data_past.proofs.Aheads.{ahead_loses}
 use Rattle.data_past.proofs.Effects.{past_loses}
 use Rattle.core_state.specs.Rooms.{HasRooms, gone_if}
 use Rattle.core_state.proofs.Rooms.{rooms_changed, elsewhere_same, covered_alike}
@@ -129,6 +130,7 @@ module _ {M : Type 0} (maps : M → ℕ → Map) (spare : M → ℕ → ℕ) (li
             row_mark = h.holds.row_mark;
             delta_mark = h.holds.delta_mark;
             past = h.holds.past;
+            ahead = h.holds.ahead;
             rooms = rooms;
           }));
       own = λ all e. ap (λ (x : SessionLocks). x.waiting) recorded.changed ∙ sym asks.1;
@@ -176,6 +178,7 @@ module _ {M : Type 0} (maps : M → ℕ → Map) (spare : M → ℕ → ℕ) (li
             row_mark = h.holds.row_mark;
             delta_mark = h.holds.delta_mark;
             past = past_loses core.store.row_versions.versions core.store.delta_versions.versions core.store.pending.entries s.store h.holds.past i o.of_session;
+            ahead = ahead_loses core.ahead core.store.row_versions.room core.store.delta_versions.room s.store h.holds.ahead i;
             rooms = rooms_changed (spare core.store.tables) (spare core.store.tables) (limit core.store.tables) (limit core.store.tables) core.store.catalog core.store.views core.store.views core.book after core.locks core.locks core.wants core.wants i
                 (lost (txn_of own.txn)) good o.of_session h.holds.rooms refl changes (λ index. let same : gone_if index (open_at core.book.opens i) ≡ gone_if index (Some own.txn) = ap (gone_if index) own.there in omega (arith, same)) (elsewhere_same i core.store.views core.locks core.wants)
                 (covered_alike core.store.catalog core.store.views core.locks (wants_at core.wants i) i (txn_of own.txn) (lost (txn_of own.txn)) refl refl refl (h.holds.rooms.each i o.of_session own.txn own.there).small (h.holds.rooms.each i o.of_session own.txn own.there));

@@ -40,7 +40,7 @@ use Rattle.core_effects.proofs.Done.{told_by}
 use Rattle.core_effects.proofs.Opened.{Has, own}
 use Rattle.core_pays.specs.Holding.{IsHolding, unpaid_as}
 use Rattle.data_changes.proofs.Accounts.{committed_here, all_allow, refused_by, fresh_at}
-use Rattle.core_effects.proofs.Counted.{kept_few}
+use Rattle.core_state.proofs.Few.{kept_few}
 
 pub next_few : (objects : Schema) (r : Option Record) (l : Log) → (appended objects r l).next ≤ l.next + 1
 next_few objects None l = omega arith

@@ -36,7 +36,8 @@ use Rattle.txn_book.specs.declared.open_table.Open.{Open as BookOpen}
 use Rattle.core_state.specs.Stands.{Began, Told, Holds}
 use Rattle.core_state.specs.declared.state.CoreState.{CoreState}
 use Rattle.core_effects.specs.Undoing.{KeepsOne}
-use Rattle.core_effects.proofs.Counted.{many_same, kept_few}
+use Rattle.core_state.proofs.Few.{kept_few}
+use Rattle.core_effects.proofs.Counted.{many_same}
 use Rattle.core_effects.proofs.Done.{told_by, begun_underway, still_underway}
 use Rattle.core_effects.proofs.Opened.{Has, own}
 use Rattle.core_pays.proofs.Answered.{next_few}
@@ -136,7 +137,7 @@ module _ {M : Type 0} (maps : M → ℕ → Map) (spare : M → ℕ → ℕ) (li
         let one : length (now s.store i).kept ≡ suc (length earlier) = ap length kept_is in
         omega (arith, small, bytes, few, one)
 
-  pub undone_told : new ≡ record core { store = new.store; book = new.book; next = new.next } → (left : ℕ) → left ≡ length earlier → Holds maps spare limit new after (logs s.store i act.UndoOne Undoes s.log) s.definitions
+  pub undone_told : new ≡ record core { store = new.store; book = new.book; ahead = new.ahead; next = new.next } → (left : ℕ) → left ≡ length earlier → Holds maps spare limit new after (logs s.store i act.UndoOne Undoes s.log) s.definitions
       → Told maps spare limit s i act.UndoOne (answer.Undone left) new
   undone_told rest left left_is holds =
       told_by maps spare limit new s i

@@ -32,7 +32,7 @@ use Rattle.txn_machine.proofs.Looking.{view_laws}
 use Rattle.txn_machine.proofs.LogSums.{sizes_more}
 use Rattle.txn_machine.proofs.Runs.{defined}
 use Rattle.txn_machine.proofs.Sizes.{sizes_law}
-use Rattle.txn_machine.proofs.Seats.{session_or}
+use Rattle.txn_machine.proofs.Seats.{session_or, nobody_open}
 use Rattle.txn_machine.specs.Acts.{Act}
 use Rattle.iv_meaning.specs.History.{Entry}
 use Rattle.std.proofs.lemmas.Bool.{cases_lt}
@@ -50,6 +50,8 @@ use Rattle.lock_desk.specs.Asking.{HasLocks}
 use Rattle.core_state.specs.Stands.{Began, Told, Counts}
 use Rattle.core_state.proofs.Rooms.{no_rooms}
 use Rattle.core_state.proofs.Sessions.{contents_as}
+use Rattle.data_past.specs.Ahead.{IsAhead}
+use Rattle.data_past.proofs.Aheads.{ahead_defines}
 use Rattle.data_past.proofs.Laws.{leaves_law}
 use Rattle.data_store.specs.Machine.{IsPast}
 use Rattle.data_store.specs.declared.store.DataStore.{DataStore}
@@ -194,6 +196,9 @@ module _ {M : Type 0} (maps : M → ℕ → Map) (spare : M → ℕ → ℕ) (li
           delta_mark = ap (λ (x : CoreState M). x.store.delta_versions.pruned) rest ∙ h.holds.delta_mark;
           past = subst (λ (st : DataStore M). IsPast st.row_versions.versions st.delta_versions.versions st.pending.entries u) (sym (ap (λ (x : CoreState M). x.store) rest))
               (leaves_law s h.reached core.store.row_versions.versions core.store.delta_versions.versions core.store.pending.entries h.holds.past i (Defines o) m.may.none);
+          ahead = subst (λ (x : CoreState M). IsAhead x.ahead x.store.row_versions.room x.store.delta_versions.room u) (sym rest)
+              (ahead_defines core.ahead core.store.row_versions.room core.store.delta_versions.room s.store h.holds.ahead i o
+              (λ j. elim (session_or j) [ inl js ↦ m.may.none j js | inr n ↦ nobody_open s h.reached j n ]));
           rooms = no_rooms (spare new.store.tables) (limit new.store.tables) new.store.catalog new.store.views new.book.opens new.locks new.wants (limits ∙ h.holds.rooms.unlimited)
               (subst IsLimited (sym stored.objects) can.evaluated.limited) (λ j. ap (λ os. open_at os j) did.opens ∙ nobody j);
         };

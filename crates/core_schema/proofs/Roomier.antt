@@ -43,6 +43,7 @@ roomier maps spare limit core s i after tables h same as_before more limits = re
     row_mark = h.holds.row_mark;
     delta_mark = h.holds.delta_mark;
     past = h.holds.past;
+    ahead = h.holds.ahead;
     rooms = record {
       unlimited = limits ∙ h.holds.rooms.unlimited;
       limited = h.holds.rooms.limited;

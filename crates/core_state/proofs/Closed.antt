@@ -213,7 +213,7 @@ module _ {M : Type 0} (maps : M → ℕ → Map) (spare : M → ℕ → ℕ) (li
         stands = record {
           reached = leads_on s i a (answer_of x) the_after t.reached does;
           opening = t.opening;
-          holds = record { stored = h.stored; book = h.book; locks = h.locks; begun = h.begun; next = h.next; row_mark = h.row_mark; delta_mark = h.delta_mark; past = h.past; rooms = h.rooms };
+          holds = record { stored = h.stored; book = h.book; locks = h.locks; begun = h.begun; next = h.next; row_mark = h.row_mark; delta_mark = h.delta_mark; past = h.past; ahead = h.ahead; rooms = h.rooms };
           waiting = λ j js. by_session j i
               (λ e. subst (λ k. table.waiting_of core.locks k ≡ with_one s.waiting i the_waits k) (sym e)
               (waits_are s.store i a (answer_of x) (table.waiting_of core.locks i) t.own (λ not. t.none not (subst IsSession e js)) ∙ sym (one_same s.waiting i the_waits i refl)))
@@ -267,7 +267,7 @@ stop_told maps spare limit core s i a stop seats may within h stopped own others
       stands = record {
         reached = leads_on s i a (answer.Refused (refused.Stopped stop.step)) (machine.told_of_stop s i) h.reached does;
         opening = h.opening;
-        holds = record { stored = h.holds.stored; book = h.holds.book; locks = h.holds.locks; begun = h.holds.begun; next = h.holds.next; row_mark = h.holds.row_mark; delta_mark = h.holds.delta_mark; past = h.holds.past; rooms = h.holds.rooms };
+        holds = record { stored = h.holds.stored; book = h.holds.book; locks = h.holds.locks; begun = h.holds.begun; next = h.holds.next; row_mark = h.holds.row_mark; delta_mark = h.holds.delta_mark; past = h.holds.past; ahead = h.holds.ahead; rooms = h.holds.rooms };
         waiting = h.waiting;
         counts = record {
           steps = h.counts.steps;

@@ -27,6 +27,8 @@ use Rattle.data_store.specs.Held.{IsHeld}
 use Rattle.data_store.specs.Machine.{IsPast}
 use Rattle.data_store.specs.Past.{Pendings, RowVersions}
 use Rattle.data_store.specs.ViewPast.{DeltaVersions}
+use Rattle.data_past.specs.Ahead.{rows_at, deltas_at}
+use Rattle.data_past.proofs.Aheads.{ahead_opened}
 use Rattle.data_past.proofs.Effects.{past_opened}
 use Rattle.core_state.specs.Seats.{new_seat, seat_at, machine_seat, machine_cleaner}
 use Rattle.core_state.specs.Stands.{Stands, Began}
@@ -55,6 +57,7 @@ module _ {M : Type 0} (maps : M → ℕ → Map) (spare : M → ℕ → ℕ) (li
       row_mark = h.holds.row_mark;
       delta_mark = h.holds.delta_mark;
       past = h.holds.past;
+      ahead = h.holds.ahead;
       rooms = rooms_back (spare core.store.tables) (limit core.store.tables) core.store.catalog core.store.views core.book.opens core.locks t core.wants back i h.holds.rooms cancelled put there others;
     };
     own = λ _. ap (λ (x : SessionLocks). x.waiting) cancelled.changed;
@@ -94,8 +97,8 @@ module _ {M : Type 0} (maps : M → ℕ → Map) (spare : M → ℕ → ℕ) (li
   -- it stands where the machine begins
   pub made : EmptyLaw → IsHeld core.store.catalog (maps core.store.tables) core.store.views no_contents → (core.store.row_versions.pruned ≡ number) × (core.store.delta_versions.pruned ≡ number)
       → (core.store.row_versions.versions ≡ []) × (core.store.delta_versions.versions ≡ []) × (core.store.pending.entries ≡ empty) → core.book.opened ≡ number → core.book.history ≡ [] → core.book.entry_bytes ≡ 0 → ((session : ℕ) → open_at core.book.opens session ≡ None)
-      → IsNew core.locks → limit core.store.tables ≡ None → core.begun ≡ 0 → core.next ≡ 1 → core.steps ≡ 0 → ((session : ℕ) → seat_at core.seats session ≡ new_seat) → machine_cleaner core.cleaner ≡ the_state.cleaner → core.stop ≡ None → Stands maps spare limit core the_state
-  made law stored marks past opened_at history bytes none new unlimited_maps begun next steps seats cleaner stop = record {
+      → IsNew core.locks → ((session : ℕ) → rows_at core.ahead session ≡ []) → ((session : ℕ) → deltas_at core.ahead session ≡ []) → limit core.store.tables ≡ None → core.begun ≡ 0 → core.next ≡ 1 → core.steps ≡ 0 → ((session : ℕ) → seat_at core.seats session ≡ new_seat) → machine_cleaner core.cleaner ≡ the_state.cleaner → core.stop ≡ None → Stands maps spare limit core the_state
+  made law stored marks past opened_at history bytes none new no_rows no_deltas unlimited_maps begun next steps seats cleaner stop = record {
     reached = record { db = the_db; view = empty; opening = unlimited; was_opened = law number; steps = []; run = refl };
     opening = refl;
     holds = record {
@@ -113,6 +116,7 @@ module _ {M : Type 0} (maps : M → ℕ → Map) (spare : M → ℕ → ℕ) (li
       row_mark = marks.0;
       delta_mark = marks.1;
       past = past_of past.0 past.1 past.2;
+      ahead = ahead_opened core.ahead core.store.row_versions.room core.store.delta_versions.room the_db empty no_rows no_deltas;
       rooms = no_rooms (spare core.store.tables) (limit core.store.tables) core.store.catalog core.store.views core.book.opens core.locks core.wants unlimited_maps (subst IsLimited (sym stored.objects) numbers_law.0) none;
     };
     waiting = λ j js. ap (λ (x : SessionLocks). x.waiting) (new j);

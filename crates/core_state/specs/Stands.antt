@@ -21,6 +21,7 @@ use Rattle.txn_book.specs.Holding as book
 use Rattle.data_store.specs.Contents.{contents_of}
 use Rattle.data_store.specs.Held.{IsHeld}
 use Rattle.data_store.specs.Machine.{IsPast}
+use Rattle.data_past.specs.Ahead.{IsAhead}
 use Rattle.core_state.specs.Rooms.{HasRooms}
 use Rattle.core_state.specs.Seats.{machine_seat, machine_cleaner, seat_at}
 use Rattle.core_state.specs.declared.state.CoreState.{CoreState}
@@ -43,6 +44,8 @@ module _ {M : Type 0} (maps : M → ℕ → Map) (spare : M → ℕ → ℕ) (li
     pub delta_mark : core.store.delta_versions.pruned ≡ store.mark
     -- the versions and the pending rows are those of the store
     pub past : IsPast core.store.row_versions.versions core.store.delta_versions.versions core.store.pending.entries store
+    -- the versions that open transactions will leave are made, and the chains have room for them
+    pub ahead : IsAhead core.ahead core.store.row_versions.room core.store.delta_versions.room store
     -- what open transactions need stands ready
     pub rooms : HasRooms (spare core.store.tables) (limit core.store.tables) core.store.catalog core.store.views core.book.opens core.locks core.wants
 

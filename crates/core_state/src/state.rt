@@ -10,6 +10,7 @@ ghost use Rattle.txn_book.specs.Opens.{open_at};
 ghost use Rattle.core_state.specs.Stands.{Stands};
 
 use crate::seat::{Cleaner, Seats};
+use data_past::VersionsAhead;
 use data_store::DataStore;
 use iv_types::{NoMemory, SortedMaps};
 use lock_desk::PayWants;
@@ -30,6 +31,8 @@ pub struct CoreState<M: SortedMaps> {
     pub locks: LockTable,
     /// The locks that the pays of open transactions will ask for.
     pub wants: PayWants,
+    /// The versions that commits of open transactions will leave, made ahead.
+    pub ahead: VersionsAhead,
     /// How many serial transactions began, which numbers them in the log.
     pub begun: u64,
     /// The number of the log's next record.
@@ -77,6 +80,7 @@ impl<M: SortedMaps> CoreState<M> {
             book: Book::new(alloc, number)?,
             locks: LockTable::new(alloc)?,
             wants: PayWants::new(alloc)?,
+            ahead: VersionsAhead::new(alloc)?,
             begun: 0,
             next: 1,
             steps: 0,

@@ -21,6 +21,7 @@ use Rattle.txn_book.proofs.Least.{least_above, least_in_book}
 use Rattle.version_chain.specs.Chains.{Chains}
 use Rattle.version_chain.specs.Versions.{above}
 use Rattle.data_store.specs.Machine.{IsPast}
+use Rattle.data_past.proofs.Aheads.{ahead_prunes}
 use Rattle.data_past.proofs.Effects.{past_prunes}
 use Rattle.version_chain.specs.declared.deltas.Delta.{Delta}
 use Rattle.core_state.specs.Stands.{Began, Told}
@@ -43,9 +44,9 @@ module _ {M : Type 0} (maps : M → ℕ → Map) (spare : M → ℕ → ℕ) (li
       (λ j low high o e snap. mark_law s h.reached j (record { of_session = (low, high); transaction = o; is_open = e }) snap)
 
   pub pruned_told : (rows : Chains (Option (List ℕ))) (deltas : Chains Delta) (least : ℕ) → least ≡ books.least_snapshot core.book.opens 64 (number_of core.book)
-      → rows.versions ≡ above least core.store.row_versions.versions → deltas.versions ≡ above least core.store.delta_versions.versions → rows.pruned ≡ max core.store.row_versions.pruned least → deltas.pruned ≡ max core.store.delta_versions.pruned least
+      → rows.versions ≡ above least core.store.row_versions.versions → deltas.versions ≡ above least core.store.delta_versions.versions → core.store.row_versions.room ≤ rows.room → core.store.delta_versions.room ≤ deltas.room → rows.pruned ≡ max core.store.row_versions.pruned least → deltas.pruned ≡ max core.store.delta_versions.pruned least
       → Told maps spare limit s 0 act.Prune answer.Pruned (record core { store = record core.store { row_versions = rows; delta_versions = deltas } })
-  pruned_told rows deltas least least_is rows_left deltas_left rows_are deltas_are = record {
+  pruned_told rows deltas least least_is rows_left deltas_left row_room delta_room rows_are deltas_are = record {
     reached = h.reached;
     opening = h.opening;
     runs = h.runs;
@@ -60,6 +61,7 @@ module _ {M : Type 0} (maps : M → ℕ → Map) (spare : M → ℕ → ℕ) (li
       row_mark = rows_are ∙ marked core.store.row_versions.pruned h.holds.row_mark;
       delta_mark = deltas_are ∙ marked core.store.delta_versions.pruned h.holds.delta_mark;
       past = past;
+      ahead = ahead_prunes core.ahead core.store.row_versions.room core.store.delta_versions.room s.store h.holds.ahead 0 rows.room deltas.room row_room delta_room;
       rooms = h.holds.rooms;
     };
     own = λ sessions e. absurd (cc);
@@ -103,6 +105,7 @@ module _ {M : Type 0} (maps : M → ℕ → Map) (spare : M → ℕ → ℕ) (li
       row_mark = h.holds.row_mark;
       delta_mark = h.holds.delta_mark;
       past = h.holds.past;
+      ahead = h.holds.ahead;
       rooms = h.holds.rooms;
     };
     own = λ sessions e. absurd (cc);

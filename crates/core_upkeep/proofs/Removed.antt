@@ -41,6 +41,7 @@ use Rattle.data_store.specs.Held.{IsHeld}
 use Rattle.data_changes.specs.Effects.{without_ghost}
 use Rattle.data_changes.specs.Ghosts.{HasGhost}
 use Rattle.data_changes.proofs.Accounts.{increments_as}
+use Rattle.data_past.proofs.Aheads.{ahead_cleans}
 use Rattle.data_past.proofs.Effects.{past_cleans}
 use Rattle.core_state.specs.Rooms.{HasRooms}
 use Rattle.core_state.specs.Stands.{Began, Told, Holds}
@@ -128,6 +129,7 @@ module _ {M : Type 0} (maps : M → ℕ → Map) (spare : M → ℕ → ℕ) (li
       row_mark = h.holds.row_mark;
       delta_mark = h.holds.delta_mark;
       past = past_cleans core.store.row_versions.versions core.store.delta_versions.versions core.store.pending.entries s.store h.holds.past 0 place c.no_versions;
+      ahead = ahead_cleans core.ahead core.store.row_versions.room core.store.delta_versions.room s.store h.holds.ahead 0 place;
       rooms = rooms_left;
     }
 

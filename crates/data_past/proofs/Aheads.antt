@@ -19,7 +19,7 @@ use Rattle.txn_machine.specs.Deltas.{RowChange}
 use Rattle.txn_machine.specs.Ghosts.{the_views}
 use Rattle.txn_machine.specs.Keeping.{KeptStep, Put, Pay, Note, Open, changes_of, begun}
 use Rattle.txn_machine.specs.Stored.{ViewRows, add_to}
-use Rattle.txn_machine.specs.Store.{Store, opened, committed, schema_of, now, changes_by, notes_before, paid_first, undone, Opens, Takes, Notes, Pays, Ghosts, Undoes, Loses, Commits, Prunes, does}
+use Rattle.txn_machine.specs.Store.{Store, opened, committed, schema_of, now, changes_by, notes_before, paid_first, undone, Opens, Takes, Notes, Pays, Ghosts, Undoes, Loses, Commits, Defines, Cleans, Prunes, does}
 use Rattle.txn_machine.proofs.Basics.{one_same, one_other}
 use Rattle.txn_machine.proofs.Good.{the_open}
 use Rattle.version_chain.specs.declared.rows.Version as row
@@ -30,7 +30,7 @@ use Rattle.data_past.specs.Moves.{fewer, version_at, delta_at, pushed_all, pays_
 use Rattle.data_past.proofs.Effects.{past_commits}
 use Rattle.data_past.proofs.Entering.{sets_in}
 use Rattle.std.specs.FinMap.{get}
-use Rattle.iv_meaning.specs.Schema.{Schema}
+use Rattle.iv_meaning.specs.Schema.{Schema, Object}
 use Rattle.txn_machine.proofs.Telling.{Good'}
 use Rattle.data_past.specs.Ahead.{rows_of, deltas_of, rows_at, deltas_at, rows_in, deltas_in, all_rows, all_deltas, Becomes, made_of, IsAhead}
 use Rattle.data_past.specs.declared.versions.Versions.{Versions}
@@ -135,6 +135,19 @@ module _ (A : List Versions) (r d : ℕ) (s : Store) (h : IsAhead A r d s) where
 
   pub ahead_ghosts : (i : ℕ) (place : Place) (columns : ℕ) → IsAhead A r d (does the_views s i (Ghosts place columns))
   ahead_ghosts i place columns = record { rows = h.rows; deltas = h.deltas; row_room = h.row_room; delta_room = h.delta_room }
+
+  pub ahead_cleans : (i : ℕ) (place : Place) → IsAhead A r d (does the_views s i (Cleans place))
+  ahead_cleans i place = record { rows = h.rows; deltas = h.deltas; row_room = h.row_room; delta_room = h.delta_room }
+
+  -- where no transaction is open nothing is ahead, whatever is defined
+  pub ahead_defines : (i : ℕ) (object : Object) → ((j : ℕ) → s.open_of j ≡ None) → IsAhead A r d (does the_views s i (Defines object))
+  ahead_defines i object none = record {
+    rows = λ j. h.rows j ∙ (ap (λ (o : Option Open). map (made_of (schema_of s)) (reverse (changes_of (the_open o).kept))) (none j)
+        ∙ sym (ap (λ (o : Option Open). map (made_of (schema_of (does the_views s i (Defines object)))) (reverse (changes_of (the_open o).kept))) (none j)));
+    deltas = h.deltas;
+    row_room = h.row_room;
+    delta_room = h.delta_room;
+  }
 
   pub ahead_prunes : (i r' d' : ℕ) → r ≤ r' → d ≤ d' → IsAhead A r' d' (does the_views s i Prunes)
   ahead_prunes i r' d' more more_deltas = let roomy = ahead_roomier r' d' more more_deltas in record { rows = h.rows; deltas = h.deltas; row_room = roomy.row_room; delta_room = roomy.delta_room }

@@ -1,5 +1,8 @@
-use Rattle.std.proofs.Common.{◌≡◌, ◌+◌, ◌∷◌, [], ℕ, List, Some, None, sym, ap, subst, ◌∙◌}
-use Rattle.std.specs.Prelude.{reverse}
+use Rattle.std.proofs.Common.{◌≡◌, ◌≤◌, ◌+◌, length, refl, ◌∷◌, [], ℕ, List, Some, None, sym, ap, subst, ◌∙◌}
+use Rattle.std.specs.Prelude.{reverse, IsSome}
+use Rattle.txn_book.specs.Opens.{open_at}
+use Rattle.txn_book.specs.declared.open_table.Open.{Open}
+use Rattle.data_past.specs.Ahead.{deltas_at}
 use Rattle.iv_types.specs.declared.lock.Kept.{Kept}
 use Rattle.iv_types.specs.declared.lock.KeptStep.{KeptStep as Step}
 use Rattle.iv_types.specs.declared.lock.KeptStep.TheVariants as step
@@ -16,8 +19,23 @@ use Rattle.data_store.specs.declared.store.DataStore.{DataStore}
 use Rattle.data_changes.specs.Effects.{without_put}
 use Rattle.data_past.specs.Moves.{one_less, ChangesAt, HasChange}
 use Rattle.core_state.specs.Stands.{Holds}
-use Rattle.core_effects.proofs.Unput.{mine, last, can_take_back, is_counted, undone_holds}
+use Rattle.core_effects.proofs.Unput.{mine, last, can_take_back, is_counted, version_there, owed_there, undone_holds}
 use Rattle.core_effects.proofs.undoing.undo_put.Goals as goal
+
+pub open_of-requires-after_bounds : goal.open_of-requires-after_bounds
+open_of-requires-after_bounds g c κs within =
+    subst IsSome (sym (mine g.M.SortedMaps.maps g.M.SortedMaps.spare g.M.SortedMaps.limit c.args.core.now c.requires.keeps.0 c.requires.keeps.1 c.requires.keeps.2 c.args.session c.requires.keeps.3 c.requires.keeps.4).there) refl
+
+pub remove_last-requires-clause-rows : goal.remove_last-requires-clause-rows
+remove_last-requires-clause-rows g c = version_there g.M.SortedMaps.maps g.M.SortedMaps.spare g.M.SortedMaps.limit c.args.core.now c.requires.keeps.0 c.requires.keeps.1 c.requires.keeps.2 c.args.session c.requires.keeps.3 c.requires.keeps.4
+
+pub remove_last-requires-clause-deltas : goal.remove_last-requires-clause-deltas
+remove_last-requires-clause-deltas g c =
+    let own = mine g.M.SortedMaps.maps g.M.SortedMaps.spare g.M.SortedMaps.limit c.args.core.now c.requires.keeps.0 c.requires.keeps.1 c.requires.keeps.2 c.args.session c.requires.keeps.3 c.requires.keeps.4 in
+    let both : Some c.open_of.result.now ≡ Some own.txn = sym c.open_of.ensures ∙ own.there in
+    let same : c.open_of.result.now ≡ own.txn = cc in
+    subst (λ n. n ≤ length (deltas_at c.args.core.now.ahead c.args.session)) (sym (c.len-owed.ensures ∙ (c.open_of.result.now.owed.ok.0 ∙ ap (λ (x : Open). length x.owed.items) same)))
+    (owed_there g.M.SortedMaps.maps g.M.SortedMaps.spare g.M.SortedMaps.limit c.args.core.now c.requires.keeps.0 c.requires.keeps.1 c.requires.keeps.2 c.args.session c.requires.keeps.3 c.requires.keeps.4)
 
 pub undo-requires : goal.undo-requires
 undo-requires g c =
@@ -67,6 +85,10 @@ returns-clause-holds g c = λ s l texts a h o.
     let i = c.args.session in
     let it = last g.M.SortedMaps.maps g.M.SortedMaps.spare g.M.SortedMaps.limit core s l texts i h o in
     let own = mine g.M.SortedMaps.maps g.M.SortedMaps.spare g.M.SortedMaps.limit core s l texts i h o in
+    let owed_same : (t : Open) → open_at core.book.opens i ≡ Some t → c.len-owed.result ≡ length t.owed.items = λ t there.
+    let both : Some c.open_of.result.now ≡ Some t = sym c.open_of.ensures ∙ there in
+    let same_txn : c.open_of.result.now ≡ t = cc in
+    c.len-owed.ensures ∙ (c.open_of.result.now.owed.ok.0 ∙ ap (λ (x : Open). length x.owed.items) same_txn) in
     let done = c.undo.ensures own.txn own.there (step.Put it.kept it.txn_bytes it.history_bytes it.number) it.steps it.is in
     let one : Some c.in-Some.kept ≡ Some it.kept = sym c.in-Some.is ∙ done.0 in
     let same : c.in-Some.kept ≡ it.kept = cc in
@@ -75,10 +97,11 @@ returns-clause-holds g c = λ s l texts a h o.
     let new = c.take_back_put.new.store in
     let rest = c.take_back_put.ensures.rest in
     let both : new ≡ record core.store { tables = new.tables; pending = forgot.pending } = rest ∙ ap (λ (st : DataStore g.row.M.Denot). record st { tables = new.tables }) before in
-    subst (λ st. Holds g.M.SortedMaps.maps g.M.SortedMaps.spare g.M.SortedMaps.limit (record core { store = st; book = c.undo.new.self; next = core.next + 1 }) (does the_views s i Undoes) (logs s i a Undoes l) texts) (sym both)
+    subst (λ st. Holds g.M.SortedMaps.maps g.M.SortedMaps.spare g.M.SortedMaps.limit (record core { store = st; book = c.undo.new.self; ahead = c.remove_last.new.self; next = core.next + 1 }) (does the_views s i Undoes) (logs s i a Undoes l) texts) (sym both)
     (undone_holds g.M.SortedMaps.maps g.M.SortedMaps.spare g.M.SortedMaps.limit core s l texts i h o new.tables c.undo.new.self (c.take_back_put.ensures.limit ∙ ap (λ (st : DataStore g.row.M.Denot). g.M.SortedMaps.limit st.tables) before) c.book_law.ensures a forgot.pending
     (subst (λ (k : Kept). ChangesAt (k.change.table, k.change.key) one_less core.store.pending.entries forgot.pending.entries) same
     (subst (λ (key : List ℕ). ChangesAt (c.in-Some.kept.change.table, key) one_less core.store.pending.entries forgot.pending.entries) c.as_slice.ensures c.forget_change.ensures.pending))
+    c.remove_last.new.self c.len-owed.result (owed_same own.txn own.there) c.remove_last.ensures
     (subst (λ (st : DataStore g.row.M.Denot). TakesRoom (g.M.SortedMaps.spare st.tables) (g.M.SortedMaps.spare new.tables) it.kept.made it.kept.gone) before
     (subst (λ (k : Kept). TakesRoom (g.M.SortedMaps.spare forgot.tables) (g.M.SortedMaps.spare new.tables) k.made k.gone) same c.take_back_put.ensures.spare))
     (subst (λ (st : DataStore g.row.M.Denot). IsHeld st.catalog (g.M.SortedMaps.maps new.tables) st.views (without_put (contents_of s) i (row_change it.kept.change) o.earlier)) both

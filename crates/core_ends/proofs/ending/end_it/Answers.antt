@@ -1,5 +1,6 @@
-use Rattle.std.proofs.Common.{◌≡◌, ◌+◌, cond, true, false, None, sym, ap, subst, ◌∙◌}
+use Rattle.std.proofs.Common.{◌≡◌, ◌+◌, [], cond, true, false, None, sym, ap, subst, ◌∙◌, arith}
 use Rattle.txn_book.specs.Books.{Seats}
+use Rattle.data_past.specs.Ahead.{Becomes}
 use Rattle.core_state.specs.declared.state.CoreState.{CoreState}
 use Rattle.core_state.proofs.Sessions.{wrote_is}
 use Rattle.core_ends.proofs.Past.{past_ended}
@@ -17,6 +18,9 @@ returns-then-wrote g c = λ s h o none.
     (ap (λ (x : CoreState g.row.M.Denot). x.stop) rest) o (subst (λ b. Seats c.args.core.now.book b c.args.session None) (sym (ap (λ (x : CoreState g.row.M.Denot). x.book) rest)) c.end.ensures)
     (ap (λ (x : CoreState g.row.M.Denot). x.next + 1) rest ∙ sym (ap (λ b. cond b (c.args.core.now.next + 1) c.args.core.now.next) wrote))
     (past_ended g.M.SortedMaps.maps g.M.SortedMaps.spare g.M.SortedMaps.limit c.args.core.now c.let_go.new.core s c.args.session h o.of_session none c.let_go.new.core.store.views (ap (λ (x : CoreState g.row.M.Denot). x.store) rest))
+    (subst (λ a. Becomes c.args.core.now.ahead a c.args.session [] []) (sym (ap (λ (x : CoreState g.row.M.Denot). x.ahead) rest)) c.clear.ensures)
+    (let same : c.let_go.new.core.store.row_versions.room ≡ c.args.core.now.store.row_versions.room = ap (λ (x : CoreState g.row.M.Denot). x.store.row_versions.room) rest in omega (arith, same))
+    (let same : c.let_go.new.core.store.delta_versions.room ≡ c.args.core.now.store.delta_versions.room = ap (λ (x : CoreState g.row.M.Denot). x.store.delta_versions.room) rest in omega (arith, same))
 
 pub returns-else-wrote : goal.returns-else-wrote
 returns-else-wrote g c = λ s h o none.
@@ -29,3 +33,9 @@ returns-else-wrote g c = λ s h o none.
     (ap (λ (x : CoreState g.row.M.Denot). x.stop) rest) o (subst (λ b. Seats c.args.core.now.book b c.args.session None) (sym (ap (λ (x : CoreState g.row.M.Denot). x.book) rest)) c.end.ensures)
     (ap (λ (x : CoreState g.row.M.Denot). x.next) rest ∙ sym (ap (λ b. cond b (c.args.core.now.next + 1) c.args.core.now.next) wrote))
     (past_ended g.M.SortedMaps.maps g.M.SortedMaps.spare g.M.SortedMaps.limit c.args.core.now c.let_go.new.core s c.args.session h o.of_session none c.let_go.new.core.store.views (ap (λ (x : CoreState g.row.M.Denot). x.store) rest))
+    (subst (λ a. Becomes c.args.core.now.ahead a c.args.session [] []) (sym (ap (λ (x : CoreState g.row.M.Denot). x.ahead) rest)) c.clear.ensures)
+    (let same : c.let_go.new.core.store.row_versions.room ≡ c.args.core.now.store.row_versions.room = ap (λ (x : CoreState g.row.M.Denot). x.store.row_versions.room) rest in omega (arith, same))
+    (let same : c.let_go.new.core.store.delta_versions.room ≡ c.args.core.now.store.delta_versions.room = ap (λ (x : CoreState g.row.M.Denot). x.store.delta_versions.room) rest in omega (arith, same))
+
+pub clear-requires : goal.clear-requires
+clear-requires g c = let is = c.requires.2.of_session in omega (arith, is)
