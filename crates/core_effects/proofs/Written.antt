@@ -38,7 +38,7 @@ use Rattle.data_store.specs.declared.store.Pending.{Pending}
 use Rattle.data_changes.specs.Effects as effect
 use Rattle.data_past.specs.Moves.{one_more, ChangesAt, CanCount}
 use Rattle.data_past.proofs.Committing.{can_count}
-use Rattle.data_past.specs.Ahead.{Becomes, IsAhead, rows_at, deltas_at, all_deltas, made_of}
+use Rattle.data_past.specs.Ahead.{Becomes, rows_at, deltas_at, all_deltas, made_of}
 use Rattle.data_past.specs.declared.versions.Versions.{Versions}
 use Rattle.data_past.proofs.Aheads.{ahead_writes}
 use Rattle.data_past.proofs.Committing.{made_as}
