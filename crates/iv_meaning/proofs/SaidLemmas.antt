@@ -1,5 +1,5 @@
 -- No line says two things.
-use Rattle.std.specs.Prelude.{◌≡◌, ◌<◌, ◌^◌, ℕ, Bool, false, ◌==◌, List, [], ◌∷◌, ◌++◌, length, drop, Result, Ok, Err, codes, decimal, if◌then◌else◌}
+use Rattle.std.specs.Prelude.{◌≡◌, ◌<◌, ◌^◌, ℕ, false, ◌==◌, List, [], ◌∷◌, ◌++◌, length, drop, Result, Ok, Err, codes, decimal, if◌then◌else◌}
 use mathlib.Core.Path.{refl, sym, ap, subst, ◌∙◌}
 use mathlib.Core.Logic.{inl, inr}
 use Rattle.std.proofs.Common.{arith}
@@ -76,17 +76,16 @@ module _ (statements : OneStatement) (refusals : OneRefusal) where
   one_form line (steps s) (steps t) ha hb = ap steps (one_decimal s t (codes "+") (codes "+") (omega (arith, ha.last)) (omega (arith, hb.last)) refl refl (sym ha.written ∙ hb.written)).0
   one_form line a b ha hb = let e : kind a ≡ kind b = sym (kind_is line a ha) ∙ kind_is line b hb in absurd (omega (arith, e))
 
-  module _ (built : Said → Bool) where
-    one_reading : (line : List ℕ) (a b : Said) → is_unread a ≡ false → is_unread b ≡ false → SaysRead built line a → SaysRead built line b → a ≡ b
-    one_reading line (unread s) b ra rb ha hb = absurd (false≢true (sym ra))
-    one_reading line a (unread t) ra rb ha hb = absurd (false≢true (sym rb))
-    one_reading line bad bad ra rb ha hb = refl
-    one_reading line bad b ra rb ha hb = absurd (ha b hb.0 hb.1)
-    one_reading line a bad ra rb ha hb = absurd (hb a ha.0 ha.1)
-    one_reading line a b ra rb ha hb = one_form line a b ha.1 hb.1
+  one_reading : (line : List ℕ) (a b : Said) → is_unread a ≡ false → is_unread b ≡ false → SaysRead line a → SaysRead line b → a ≡ b
+  one_reading line (unread s) b ra rb ha hb = absurd (false≢true (sym ra))
+  one_reading line a (unread t) ra rb ha hb = absurd (false≢true (sym rb))
+  one_reading line bad bad ra rb ha hb = refl
+  one_reading line bad b ra rb ha hb = absurd (ha b hb)
+  one_reading line a bad ra rb ha hb = absurd (hb a ha)
+  one_reading line a b ra rb ha hb = one_form line a b ha hb
 
 pub says_law : SaysLaw
-says_law statements refusals built line a b ra rb (inl x) (inl y) = x.1 ∙ sym y.1
-says_law statements refusals built line a b ra rb (inl x) (inr y) = let long = x.0 in let short = y.0 in absurd (omega (arith, long, short))
-says_law statements refusals built line a b ra rb (inr x) (inl y) = let short = x.0 in let long = y.0 in absurd (omega (arith, long, short))
-says_law statements refusals built line a b ra rb (inr x) (inr y) = one_reading statements refusals built line a b ra rb x.1 y.1
+says_law statements refusals line a b ra rb (inl x) (inl y) = x.1 ∙ sym y.1
+says_law statements refusals line a b ra rb (inl x) (inr y) = let long = x.0 in let short = y.0 in absurd (omega (arith, long, short))
+says_law statements refusals line a b ra rb (inr x) (inl y) = let short = x.0 in let long = y.0 in absurd (omega (arith, long, short))
+says_law statements refusals line a b ra rb (inr x) (inr y) = one_reading statements refusals line a b ra rb x.1 y.1

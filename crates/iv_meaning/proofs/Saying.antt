@@ -1,21 +1,21 @@
 -- What the example's lines say.
-use Rattle.std.specs.Prelude.{IsTrue, ◌≡◌, ◌≢◌, ◌≤◌, ℕ, List, [], ◌∷◌, ◌++◌, length, drop, ◌==◌, false, codes, IsUtf8, Ok, Some}
+use Rattle.std.specs.Prelude.{◌≡◌, ◌≢◌, ◌≤◌, ℕ, List, [], ◌∷◌, ◌++◌, length, drop, ◌==◌, false, codes, IsUtf8, Ok, Some}
 use Rattle.std.specs.Fmt.{digits}
 use lib.Utf8.{encode}
 use mathlib.Core.Path.{refl, ap}
 use mathlib.Core.Logic.{inl, inr}
 use Rattle.std.proofs.Common.{arith}
-use Rattle.std.proofs.lemmas.Bool.{eqb-false, false≢true}
+use Rattle.std.proofs.lemmas.Bool.{eqb-false}
 use Rattle.std.specs.List.{All, AllZip}
 use Rattle.std.proofs.lemmas.List.Elements.{All-from_recursion}
 use Rattle.iv_types.specs.declared.statement.Mode.TheVariants.{Serial}
 use Rattle.iv_types.specs.Syntax.{StatementTree, begin, commit, rollback, savepoint}
 use Rattle.iv_types.specs.Grammar.{Spells}
 use Rattle.iv_meaning.specs.Lines.{longest_line, lines_of}
-use Rattle.iv_meaning.specs.Said.{Said, nothing, too_long, bad, runs, loads, unread, steps, cleans, checkpoints, IsOfSession, IsLoading, HasForm, Says, every_form}
-use Rattle.iv_meaning.specs.SerialExample.{sold, shows, savepoint_script, without_checkpoint, LinesSay}
+use Rattle.iv_meaning.specs.Said.{Said, nothing, too_long, bad, runs, loads, unread, steps, cleans, checkpoints, IsOfSession, IsLoading, HasForm, Says}
+use Rattle.iv_meaning.specs.SerialExample.{sold, shows, savepoint_script, LinesSay}
 use Rattle.iv_meaning.proofs.NumberLemmas.{one_decimal}
-use Rattle.iv_meaning.proofs.SaidLemmas.{behind, first_byte, kind, kind_of, kind_is}
+use Rattle.iv_meaning.proofs.SaidLemmas.{first_byte}
 use Rattle.iv_meaning.proofs.Spelling.{begin_spelled, snapshot_spelled, commit_spelled, savepoint_spelled, rollback_spelled, first_sale_spelled, second_sale_spelled, shows_spelled}
 
 one_space : All (λ (b : ℕ). b ≡ 32) (32 ∷ [])
@@ -35,14 +35,14 @@ of_one text readable unspaced = record {
 }
 
 one_runs : (text : List ℕ) (statement : StatementTree) → length (codes "1: " ++ text) ≤ longest_line → IsUtf8 text → ((rest : List ℕ) → text ≢ codes " " ++ rest) → Spells text statement
-    → Says every_form (codes "1: " ++ text) (runs 1 (Ok statement))
-one_runs text statement read readable unspaced spelled = inr (read, (refl, (text, of_one text readable unspaced, spelled)))
+    → Says (codes "1: " ++ text) (runs 1 (Ok statement))
+one_runs text statement read readable unspaced spelled = inr (read, (text, of_one text readable unspaced, spelled))
 
 abbrev pub savepoint_said : List Said
 savepoint_said =
     runs 1 (Ok (begin Serial)) ∷ runs 1 (Ok (sold 1 10)) ∷ runs 1 (Ok (savepoint (codes "s"))) ∷ runs 1 (Ok (sold 2 5)) ∷ runs 1 (Ok (rollback (Some (codes "s")))) ∷ runs 1 (Ok shows) ∷ runs 1 (Ok commit) ∷ []
 
-pub savepoint_says : AllZip (Says every_form) (lines_of savepoint_script) savepoint_said
+pub savepoint_says : AllZip (Says) (lines_of savepoint_script) savepoint_said
 unfolding encode
 savepoint_says = (
   one_runs (codes "BEGIN") (begin Serial) (omega arith) (codes "BEGIN", (refl, refl)) (λ rest e. absurd (cc)) begin_spelled,
@@ -134,33 +134,17 @@ snapshot_of_two = record {
   readable = (codes "BEGIN SNAPSHOT", (refl, refl));
 }
 
--- a program without checkpoints has no form of this line
-not_built : (form : Said) → IsTrue (without_checkpoint form) → HasForm (codes "checkpoint") form → ⊥
-not_built form built h = by form built (kind_is (codes "checkpoint") form h)
-  where
-    by : (form : Said) → IsTrue (without_checkpoint form) → kind_of (behind (codes "checkpoint")) ≡ kind form → ⊥
-    by nothing built e = let no : 10 ≡ 0 = e in omega (arith, no)
-    by too_long built e = let no : 10 ≡ 1 = e in omega (arith, no)
-    by bad built e = let no : 10 ≡ 2 = e in omega (arith, no)
-    by (runs session read) built e = let no : 10 ≡ 58 = e in omega (arith, no)
-    by (loads session read) built e = let no : 10 ≡ 47 = e in omega (arith, no)
-    by (unread session) built e = let no : 10 ≡ 3 = e in omega (arith, no)
-    by (steps session) built e = let no : 10 ≡ 43 = e in omega (arith, no)
-    by cleans built e = let no : 10 ≡ 5 = e in omega (arith, no)
-    by checkpoints built e = absurd (false≢true built)
-
 pub lines_say : LinesSay
 unfolding digits
 lines_say = record {
-  empty_line = inr (omega arith, (refl, inl refl));
-  remark = inr (omega arith, (refl, inr (codes " COMMIT", refl)));
-  run = inr (omega arith, (refl, (codes "COMMIT", commit_of_last, commit_spelled)));
+  empty_line = inr (omega arith, inl refl);
+  remark = inr (omega arith, inr (codes " COMMIT", refl));
+  run = inr (omega arith, (codes "COMMIT", commit_of_last, commit_spelled));
   lacks_memory = inr (omega arith, (codes "COMMIT", inl commit_of_last));
-  load = inr (omega arith, (refl, (codes "BEGIN SNAPSHOT", snapshot_of_two, snapshot_spelled)));
-  step = inr (omega arith, (refl, record { first = omega arith; last = omega arith; written = refl }));
-  clean = inr (omega arith, (refl, refl));
-  checkpoint = inr (omega arith, (refl, refl));
-  no_session = inr (omega arith, λ form built. no_session form);
-  spaced = inr (omega arith, λ form built. spaced form);
-  not_built = inr (omega arith, not_built);
+  load = inr (omega arith, (codes "BEGIN SNAPSHOT", snapshot_of_two, snapshot_spelled));
+  step = inr (omega arith, record { first = omega arith; last = omega arith; written = refl });
+  clean = inr (omega arith, refl);
+  checkpoint = inr (omega arith, refl);
+  no_session = inr (omega arith, no_session);
+  spaced = inr (omega arith, spaced);
 }

@@ -23,7 +23,6 @@ pub mod Plan
 pub mod Reading
 pub mod Sound
 pub mod Transaction
-pub mod Autocommit
 pub mod History
 pub mod Said
 pub mod Serial

@@ -1,5 +1,5 @@
 -- What a line of a script says.
-use Rattle.std.specs.Prelude.{◌≡◌, ◌≢◌, ◌⊎◌, ◌≤◌, ◌<◌, ℕ, Bool, true, IsTrue, List, [], ◌++◌, length, Result, Ok, Err, codes, decimal, IsUtf8}
+use Rattle.std.specs.Prelude.{◌≡◌, ◌≢◌, ◌⊎◌, ◌≤◌, ◌<◌, ℕ, List, [], ◌++◌, length, Result, Ok, Err, codes, decimal, IsUtf8}
 use Rattle.std.specs.List.{All}
 use Rattle.iv_types.specs.declared.limit.TheConstants.{MOST_SESSIONS}
 use Rattle.iv_types.specs.declared.refusal.Refusal.{Refusal}
@@ -12,7 +12,7 @@ pub data Said : Type 0 where
   nothing : Said
   -- it is too long to be read
   too_long : Said
-  -- it has no form of a line that is built
+  -- it has no form of a line
   bad : Said
   -- `N: ..` and `N/ ..` with a statement, or with a text that the grammar refuses
   runs : (session : ℕ) → Result StatementTree Refusal → Said
@@ -65,17 +65,11 @@ HasForm line cleans = line ≡ codes "clean"
 HasForm line checkpoints = line ≡ codes "checkpoint"
 HasForm line _ = ⊥
 
--- some forms are built
-module _ (built : Said → Bool) where
-  abbrev pub SaysRead : List ℕ → Said → Type 0
-  SaysRead line bad = (form : Said) → IsTrue (built form) → ¬ (HasForm line form)
-  SaysRead line (unread session) = (text : List ℕ) × (IsOfSession session text line ⊎ IsLoading session text line)
-  SaysRead line form = IsTrue (built form) × HasForm line form
+abbrev pub SaysRead : List ℕ → Said → Type 0
+SaysRead line bad = (form : Said) → ¬ (HasForm line form)
+SaysRead line (unread session) = (text : List ℕ) × (IsOfSession session text line ⊎ IsLoading session text line)
+SaysRead line form = HasForm line form
 
-  -- a line of more bytes than are read is too long, whatever it is; any other says what stands in it
-  abbrev pub Says : List ℕ → Said → Type 0
-  Says line said = ((longest_line < length line) × (said ≡ too_long)) ⊎ ((length line ≤ longest_line) × SaysRead line said)
-
--- all of them
-abbrev pub every_form : Said → Bool
-every_form form = true
+-- a line of more bytes than are read is too long, whatever it is; any other says what stands in it
+abbrev pub Says : List ℕ → Said → Type 0
+Says line said = ((longest_line < length line) × (said ≡ too_long)) ⊎ ((length line ≤ longest_line) × SaysRead line said)

@@ -240,11 +240,8 @@ abbrev pub IsEnd : World → Type 0
 IsEnd w = (session : ℕ) (o : Unended) → w.running session ≡ Some o → WasAlone w o
 
 -- The output has one piece for each line, each on the world that the piece before it left, where the lines say this and the
--- input ends with the last of them. It is stated over what it is to answer a line.
-abbrev pub IsTranscript : (Said → World → List ℕ → World → Type 0) → World → List Said → List ℕ → Type 0
-IsTranscript Answers w [] out = (out ≡ []) × IsEnd w
-IsTranscript Answers w (said ∷ more) out =
-    (piece : List ℕ) × (after : World) × (rest : List ℕ) × Answers said w piece after × (out ≡ piece ++ rest) × IsTranscript Answers after more rest
-
+-- input ends with the last of them.
 abbrev pub IsSerialFrom : World → List Said → List ℕ → Type 0
-IsSerialFrom = IsTranscript Answers
+IsSerialFrom w [] out = (out ≡ []) × IsEnd w
+IsSerialFrom w (said ∷ more) out =
+    (piece : List ℕ) × (after : World) × (rest : List ℕ) × Answers said w piece after × (out ≡ piece ++ rest) × IsSerialFrom after more rest

@@ -1,7 +1,7 @@
 -- No clause of `run` rests on this module: it serves contracts between crates.
 --
 -- Transcripts that are serial, what single lines say, and transcripts that are not serial.
-use Rattle.std.specs.Prelude.{ℕ, pos, Bool, true, false, List, [], ◌∷◌, ◌++◌, codes, Ok, Some, None}
+use Rattle.std.specs.Prelude.{ℕ, pos, List, [], ◌∷◌, ◌++◌, codes, Ok, Some, None}
 use Rattle.std.specs.FinMap.{empty}
 use Rattle.iv_types.specs.declared.value.Kind.TheVariants.{Int, Huge}
 use Rattle.iv_types.specs.declared.catalog.TableDef.{TableDef}
@@ -11,8 +11,8 @@ use Rattle.iv_types.specs.declared.statement.Mode.TheVariants.{Serial, Snapshot}
 use Rattle.iv_types.specs.Syntax.{StatementTree, number, all, insert, select, begin, commit, rollback}
 use Rattle.iv_meaning.specs.Schema.{table, view, ViewTree}
 use Rattle.iv_meaning.specs.Database.{Database}
-use Rattle.iv_meaning.specs.Said.{Said, nothing, bad, runs, loads, unread, steps, cleans, checkpoints, Says, every_form}
-use Rattle.iv_meaning.specs.Serial.{World, opened_with, set_open, Answers, IsSerialFrom}
+use Rattle.iv_meaning.specs.Said.{Said, nothing, bad, runs, loads, unread, steps, cleans, checkpoints, Says}
+use Rattle.iv_meaning.specs.Serial.{World, opened_with, set_open, IsSerialFrom}
 use Rattle.iv_meaning.specs.Script.{IsOutput}
 
 -- ---- the database
@@ -76,7 +76,7 @@ savepoint_output =
     ++ codes "1 COMMIT 3\n")))))
 
 abbrev pub SavepointTranscript : Type 0
-SavepointTranscript = IsOutput every_form Answers (opened_with shop_database) savepoint_script savepoint_output
+SavepointTranscript = IsOutput (opened_with shop_database) savepoint_script savepoint_output
 
 -- a snapshot that is begun step by step does not see what was committed between its steps
 abbrev pub StepsTranscript : Type 0
@@ -93,23 +93,17 @@ WaitsTranscript = IsSerialFrom (opened_with shop_database)
 -- ---- what single lines say
 
 -- all forms but one
-abbrev pub without_checkpoint : Said → Bool
-without_checkpoint checkpoints = false
-without_checkpoint form = true
-
 pub record LinesSay : Type 0 where
-  pub empty_line : Says every_form [] nothing
-  pub remark : Says every_form (codes "# COMMIT") nothing
-  pub run : Says every_form (codes "64:COMMIT") (runs 64 (Ok commit))
-  pub lacks_memory : Says every_form (codes "64:COMMIT") (unread 64)
-  pub load : Says every_form (codes "2/ BEGIN SNAPSHOT") (loads 2 (Ok (begin Snapshot)))
-  pub step : Says every_form (codes "2+") (steps 2)
-  pub clean : Says every_form (codes "clean") cleans
-  pub checkpoint : Says every_form (codes "checkpoint") checkpoints
-  pub no_session : Says every_form (codes "65: COMMIT") bad
-  pub spaced : Says every_form (codes "2+ ") bad
-  -- where no form of it is built
-  pub not_built : Says without_checkpoint (codes "checkpoint") bad
+  pub empty_line : Says [] nothing
+  pub remark : Says (codes "# COMMIT") nothing
+  pub run : Says (codes "64:COMMIT") (runs 64 (Ok commit))
+  pub lacks_memory : Says (codes "64:COMMIT") (unread 64)
+  pub load : Says (codes "2/ BEGIN SNAPSHOT") (loads 2 (Ok (begin Snapshot)))
+  pub step : Says (codes "2+") (steps 2)
+  pub clean : Says (codes "clean") cleans
+  pub checkpoint : Says (codes "checkpoint") checkpoints
+  pub no_session : Says (codes "65: COMMIT") bad
+  pub spaced : Says (codes "2+ ") bad
 
 -- ---- transcripts that are not serial
 

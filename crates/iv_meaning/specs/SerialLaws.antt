@@ -24,11 +24,10 @@ abbrev pub is_unread : Said → Bool
 is_unread (unread session) = true
 is_unread said = false
 
--- No line says two things where there is memory for its text, whatever forms are built, as no text is two statements, or
--- refused for two causes.
+-- No line says two things where there is memory for its text, as no text is two statements, or refused for two causes.
 abbrev pub SaysLaw : Type 0
-SaysLaw = OneStatement → OneRefusal → (built : Said → Bool) (line : List ℕ) (one other : Said) → is_unread one ≡ false → is_unread other ≡ false
-    → Says built line one → Says built line other → one ≡ other
+SaysLaw = OneStatement → OneRefusal → (line : List ℕ) (one other : Said) → is_unread one ≡ false → is_unread other ≡ false
+    → Says line one → Says line other → one ≡ other
 
 -- the entries have the numbers that follow this one, in order
 abbrev pub AreNumbered : ℕ → List Entry → Type 0

@@ -2,15 +2,13 @@
 //!
 //! `words:` the words of the command, with the line `1: HELLO` as input; `faults:` which calls of the source and of the
 //! sink fail in a script of 40,000 lines `x`, whose replies have 17 bytes each; `asked:` which call of the sink fails in
-//! a script of one line; `lines:` what is read of an input, line by line, or how many bytes that is; `sessions:` the
-//! session and the text of a line; `built:` whether a statement is of a form that is built.
+//! a script of one line; `lines:` what is read of an input, line by line, or how many bytes that is; `reads:` how often a
+//! view of many rows is read (`reads`).
+use crate::reads::of_reads;
 use crate::running::{Ended, asked, lines_read, run_words};
 use anyhow::bail;
 use case_text::{expanded, unescaped, write_escaped};
-use sql_parse::parse;
 use std::alloc::Global;
-use std::mem::forget;
-use view_server::{built, is_built, session_text};
 
 // A number behind a word.
 fn number_behind(text: &str, word: &str) -> anyhow::Result<u64> {
@@ -91,37 +89,6 @@ fn of_lines(alloc: Global, asked: &str) -> anyhow::Result<String> {
     Ok(out)
 }
 
-fn of_session(alloc: Global, asked: &str) -> anyhow::Result<String> {
-    let line = bytes(alloc, asked)?;
-    let mut out = String::new(alloc);
-    match session_text(&line) {
-        Some((session, text)) => {
-            out = format!(in alloc; "{session} `")?;
-            write_escaped(&mut out, text.as_bytes())?;
-            out.push('`')?;
-        }
-        None => out.push_str("none")?,
-    }
-    Ok(out)
-}
-
-fn of_form(alloc: Global, asked: &str) -> anyhow::Result<String> {
-    let (is_one, is_given) = match parse(alloc, asked) {
-        Ok(statement) => {
-            let is_one = is_built(&statement);
-            let found = built(statement);
-            let is_given = found.is_some();
-            forget(found);
-            (is_one, is_given)
-        }
-        Err(refusal) => {
-            forget(refusal);
-            bail!("no statement")
-        }
-    };
-    Ok(format!(in alloc; "{is_one} {is_given}")?)
-}
-
 /// What comes of a row.
 ///
 /// # Errors
@@ -136,8 +103,7 @@ pub fn answer(alloc: Global, table: &str, asked: &str) -> anyhow::Result<String>
         "faults" => of_faults(alloc, asked),
         "asked" => of_asked(alloc, asked),
         "lines" => of_lines(alloc, asked),
-        "sessions" => of_session(alloc, asked),
-        "built" => of_form(alloc, asked),
+        "reads" => of_reads(alloc, asked),
         _ => bail!("no kind of rows"),
     }
 }

@@ -4,8 +4,8 @@ use line_wire::{Line, LineBuffer, ListSink, ListSource, Source, read_line};
 use std::alloc::Global;
 use view_server::{Status, run};
 
-// The greatest output of a script, in bytes.
-const ROOM: u64 = 1 << 20;
+/// The greatest output of a script, in bytes.
+pub const ROOM: u64 = 1 << 20;
 
 fn calls(alloc: Global, number: u64) -> anyhow::Result<CallList> {
     let mut numbers = Vec::new(alloc);
@@ -37,6 +37,19 @@ pub struct Ended {
     pub written: Vec<u8>,
 }
 
+// Runs the program with these words, and keeps what it wrote.
+fn run_to_end(
+    alloc: Global,
+    texts: &str,
+    mut source: ListSource,
+    mut sink: ListSink,
+) -> anyhow::Result<Ended> {
+    let words = words(alloc, texts)?;
+    let status = run(alloc, &words, &mut source, &mut sink);
+    let written = sink.written().to_vec(alloc)?;
+    Ok(Ended { status, written })
+}
+
 /// Runs the program with these words on an input, where these calls of its source and its sink fail (0 for none).
 ///
 /// # Errors
@@ -49,12 +62,20 @@ pub fn run_words(
     read: u64,
     write: u64,
 ) -> anyhow::Result<Ended> {
-    let words = words(alloc, texts)?;
-    let mut source = source(alloc, input, read)?;
-    let mut sink = ListSink::new(alloc, ROOM, calls(alloc, write)?)?;
-    let status = run(alloc, &words, &mut source, &mut sink);
-    let written = sink.written().to_vec(alloc)?;
-    Ok(Ended { status, written })
+    let source = source(alloc, input, read)?;
+    let sink = ListSink::new(alloc, ROOM, calls(alloc, write)?)?;
+    run_to_end(alloc, texts, source, sink)
+}
+
+/// Runs a script of which so many bytes may come.
+///
+/// # Errors
+///
+/// Where memory is wanting.
+pub fn run_script(alloc: Global, input: &[u8], room: u64) -> anyhow::Result<Ended> {
+    let source = source(alloc, input, 0)?;
+    let sink = ListSink::new(alloc, room, calls(alloc, 0)?)?;
+    run_to_end(alloc, "script -", source, sink)
 }
 
 // A source that counts how often it is asked, and tells nothing.

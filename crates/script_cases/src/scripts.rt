@@ -5,23 +5,45 @@
 //! before the first blank line begin every script, and each line that is typed behind it makes a script of its own with
 //! them. A line with ` => ` is a row (`rows`).
 use crate::rows;
-use crate::running::{Ended, run_words};
+use crate::running::{Ended, ROOM, run_script};
 use case_text::{expanded, unescaped, write_escaped};
 use std::alloc::Global;
+use std::fmt::Write;
+use std::str;
 use view_server::Status;
 
-// What is typed, and what is to be printed of it.
+/// What is typed, and what is to be printed of it.
 #[derive(Drop)]
-struct Script {
+pub struct Script {
     typed: Vec<u8>,
+    // How many lines were typed.
+    lines: u32,
     printed: String,
+    // Behind how many of them each line is printed.
+    behind: Vec<u32>,
+}
+
+// Which line of a text is the first that is not that of another text, and how it reads there and here.
+fn first_other<'a>(found: &'a str, wanted: &'a str) -> (usize, &'a str, &'a str) {
+    let mut rest = wanted.lines();
+    let mut place = 0usize;
+    for line in found.lines() {
+        match rest.next() {
+            Some(other) if other == line => place = place.saturating_add(1),
+            Some(other) => return (place, line, other),
+            None => return (place, line, "nothing"),
+        }
+    }
+    (place, "nothing", rest.next().unwrap_or("nothing"))
 }
 
 impl Script {
-    fn new(alloc: Global) -> Script {
+    pub fn new(alloc: Global) -> Script {
         Script {
             typed: Vec::new(alloc),
+            lines: 0,
             printed: String::new(alloc),
+            behind: Vec::new(alloc),
         }
     }
 
@@ -29,34 +51,70 @@ impl Script {
     fn copied(&self, alloc: Global) -> anyhow::Result<Script> {
         Ok(Script {
             typed: self.typed.to_vec(alloc)?,
+            lines: self.lines,
             printed: String::from_str(alloc, self.printed.as_str())?,
+            behind: self.behind.to_vec(alloc)?,
         })
+    }
+
+    /// Types these bytes.
+    ///
+    /// # Errors
+    ///
+    /// Where memory is wanting.
+    pub fn type_bytes(&mut self, bytes: &[u8]) -> anyhow::Result<()> {
+        self.lines = self.lines.saturating_add(1);
+        self.typed.extend_from_slice(bytes)?;
+        Ok(())
     }
 
     fn type_line(&mut self, alloc: Global, text: &str, end: &[u8]) -> anyhow::Result<()> {
         let text = expanded(alloc, text)?;
         let bytes = unescaped(alloc, text.as_str())?;
-        self.typed.extend_from_slice(&bytes)?;
+        self.type_bytes(&bytes)?;
         self.typed.extend_from_slice(end)?;
         Ok(())
     }
 
-    fn print_line(&mut self, line: &str) -> anyhow::Result<()> {
+    /// Is to print this line next.
+    ///
+    /// # Errors
+    ///
+    /// Where memory is wanting.
+    pub fn print_line(&mut self, line: &str) -> anyhow::Result<()> {
         self.printed.push_str(line)?;
         self.printed.push('\n')?;
+        self.behind.push(self.lines)?;
         Ok(())
     }
 
-    // What is told of the script: nothing, where it prints what it is to print.
-    fn told(&self, alloc: Global) -> anyhow::Result<String> {
-        let Ended { status, written } = run_words(alloc, "script -", &self.typed, 0, 0)?;
-        if status == Status::Done && written.as_slice() == self.printed.as_bytes() {
-            return Ok(String::new(alloc));
-        }
+    // How the script ended, and the first line that it prints otherwise.
+    fn otherwise(&self, alloc: Global, ended: &Ended) -> anyhow::Result<String> {
+        let status = ended.status;
         let mut told = format!(in alloc; "NOT {status:?} ")?;
-        write_escaped(&mut told, &written)?;
+        match str::from_utf8(&ended.written) {
+            Ok(found) => {
+                let (place, found, wanted) = first_other(found, self.printed.as_str());
+                let behind = self.behind.get(place).copied().unwrap_or(self.lines);
+                write!(told, "behind line {behind}: {found}, and not {wanted}")?;
+            }
+            Err(_) => write_escaped(&mut told, &ended.written)?,
+        }
         told.push('\n')?;
         Ok(told)
+    }
+
+    /// What is told of the script, of which so many bytes may come: nothing, where it prints what it is to print.
+    ///
+    /// # Errors
+    ///
+    /// Where memory is wanting.
+    pub fn told(&self, alloc: Global, room: u64) -> anyhow::Result<String> {
+        let ended = run_script(alloc, &self.typed, room)?;
+        if ended.status == Status::Done && ended.written.as_slice() == self.printed.as_bytes() {
+            return Ok(String::new(alloc));
+        }
+        self.otherwise(alloc, &ended)
     }
 }
 
@@ -119,7 +177,7 @@ impl Scripts {
 
     // Ends the script that was read, and begins the next one.
     fn end_script(&mut self, alloc: Global) -> anyhow::Result<String> {
-        let told = self.script.told(alloc)?;
+        let told = self.script.told(alloc, ROOM)?;
         self.script = match &self.before {
             Some(before) => before.copied(alloc)?,
             None => Script::new(alloc),
@@ -193,5 +251,22 @@ impl Scripts {
             Kind::Printed(line) => self.script.print_line(line)?,
         }
         Ok(String::new(alloc))
+    }
+
+    /// What is told of the script of a file.
+    ///
+    /// # Errors
+    ///
+    /// Where it has a line that is no line of a table, or memory is wanting.
+    pub fn take_file(&mut self, alloc: Global, name: &str, text: &str) -> anyhow::Result<String> {
+        let before = self.end_script(alloc)?;
+        for line in text.lines() {
+            self.take(alloc, line)?;
+        }
+        let told = self.end_script(alloc)?;
+        if told.is_empty() {
+            return Ok(before);
+        }
+        Ok(format!(in alloc; "{before}{name}: {told}")?)
     }
 }

@@ -114,7 +114,7 @@ module _ {S : Type 0} (view : S → Visible) (Does : S → ℕ → Act → Answe
       by None e of = absurd of
       by (Some t) e of = was_alone w (view s) o t h.origin h.history of (laws.truth s i t stands e)
 
-  lines : (all : List ℕ) (script : List Said) (w : World) (table : Table) (s : S) (out : List ℕ) (table' : Table) (s' : S) → Stands s → Agrees w table (view s) (Halts s)
+  pub lines : (all : List ℕ) (script : List Said) (w : World) (table : Table) (s : S) (out : List ℕ) (table' : Table) (s' : S) → Stands s → Agrees w table (view s) (Halts s)
       → RunsLines Does programs tell all script table s out table' s' → IsSerialFrom w script out
   lines all [] w table s out table' s' stands h r = (r.0, ends w table s stands h)
   lines all (said ∷ more) w table s out table' s' stands h (piece, mid_table, mid, rest, one, is, others) =

@@ -7,6 +7,7 @@ ghost use Rattle.iv_types.specs.Replies.{spaced, numbers_text};
 use itoa::Buffer;
 use iv_types::NoMemory;
 
+/// Writes bytes.
 pub fn push_bytes(text: &mut Vec<u8>, bytes: &[u8]) -> Result<(), NoMemory>
     ensures { OnOk result (text.new.items ≡ text.old.items ++ bytes.now) }
 {
@@ -14,6 +15,7 @@ pub fn push_bytes(text: &mut Vec<u8>, bytes: &[u8]) -> Result<(), NoMemory>
     Ok(())
 }
 
+/// Writes a number in decimal digits.
 pub fn push_number(text: &mut Vec<u8>, number: u64) -> Result<(), NoMemory>
     ensures { OnOk result (text.new.items ≡ text.old.items ++ decimal number) }
 {
@@ -21,6 +23,7 @@ pub fn push_number(text: &mut Vec<u8>, number: u64) -> Result<(), NoMemory>
     push_bytes(text, buffer.format(number).as_bytes())
 }
 
+/// Writes a number in decimal digits, behind `-` where it is below 0.
 pub fn push_signed(text: &mut Vec<u8>, number: i128) -> Result<(), NoMemory>
     ensures { OnOk result (text.new.items ≡ text.old.items ++ signed_decimal number) }
 {

@@ -18,7 +18,7 @@ use Rattle.iv_meaning.specs.Statement.{Kept}
 use Rattle.iv_meaning.specs.Transaction.{alone, committed, outside, inside, begin_reply}
 use Rattle.iv_meaning.specs.History.{fold, state_at}
 use Rattle.iv_meaning.specs.Said.{Said, nothing, too_long, bad, runs, loads, unread, steps, cleans, checkpoints}
-use Rattle.iv_meaning.specs.Serial.{World, Unended, Unfinished, none, latest, base_of, set_open, set_unfinished, commits, ran, WasAlone, refused_by_mode, EndsOutside, EndsInside, EndsBy, Ends, IsRefused, Takes, Runs, OwnPiece, LaterPieces, Answers, IsTranscript, opened_with}
+use Rattle.iv_meaning.specs.Serial.{World, Unended, Unfinished, none, latest, base_of, set_open, set_unfinished, commits, ran, WasAlone, refused_by_mode, EndsOutside, EndsInside, EndsBy, Ends, IsRefused, Takes, Runs, OwnPiece, LaterPieces, Answers, IsSerialFrom, opened_with}
 use Rattle.txn_machine.specs.Acts.{Act}
 use Rattle.txn_machine.specs.Answers.{Answer}
 use Rattle.txn_machine.specs.Keeping.{idle}
@@ -223,7 +223,7 @@ module _ (i : ℕ) where
   foreseen_by checkpoints w after piece settled later o is_open way = stayed w after settled later o is_open way.1
   foreseen_by _ w after piece settled later o is_open way = absurd way
 
-  foreseen : (lines : List Said) (w : World) (out : List ℕ) → AllByRecursion (IsOfOne i) lines → IsUnhindered out → IsTranscript Answers w lines out → Foreseen w
+  foreseen : (lines : List Said) (w : World) (out : List ℕ) → AllByRecursion (IsOfOne i) lines → IsUnhindered out → IsSerialFrom w lines out → Foreseen w
   foreseen [] w out are free t settled o is_open = t.1 i o is_open
   foreseen (said ∷ lines) w out are free (piece, after, rest, answers, whole, t) settled o is_open =
       foreseen_by said w after piece settled (foreseen lines after rest are.1 (free_rest out piece rest whole free) t) o is_open
@@ -338,7 +338,7 @@ module _ (i : ℕ) where
   way_same _ w v after last piece other settled settled' later later' a way way' = absurd way
 
   one_from : (lines : List Said) (w v : World) (out other : List ℕ) → AllByRecursion (IsOfOne i) lines → IsSettled w → IsSettled v → Alike w v → IsUnhindered out → IsUnhindered other
-      → IsTranscript Answers w lines out → IsTranscript Answers v lines other → out ≡ other
+      → IsSerialFrom w lines out → IsSerialFrom v lines other → out ≡ other
   one_from [] w v out other are settled settled' a free free' t t' = t.0 ∙ sym t'.0
   one_from (said ∷ lines) w v out other are settled settled' a free free' (piece, after, rest, answers, whole, t) (piece', last, rest', answers', whole', t') =
       let way = answers_way said w after piece out rest are.0 settled whole free answers in

@@ -1,15 +1,14 @@
 -- No clause of `run` rests on this module: it serves contracts between crates.
 --
 -- What an engine's step is: by which states it may be asked for, where it leads, and when a fault is told.
-use Rattle.std.specs.Prelude.{◌≡◌, ℕ, true, false, None}
+use Rattle.std.specs.Prelude.{◌≡◌, ℕ, true, false, length, None}
 use Rattle.iv_types.specs.Faults.{Rose}
 use Rattle.iv_meaning.specs.Database.{Database}
+use Rattle.txn_machine.specs.Keeping.{Open}
 use Rattle.txn_machine.specs.Store.{committed}
 use Rattle.txn_machine.specs.State.{State, is_fault}
 use Rattle.txn_machine.specs.May.{May}
 use Rattle.txn_machine.specs.Steps as machine
-use Rattle.txn_machine.specs.Answers as machine_answer
-use Rattle.iv_types.specs.declared.refusal.EngineRefusal.TheVariants as refusal
 use Rattle.txn_book.specs.declared.step.Step.{Step}
 use Rattle.txn_book.specs.declared.step.Answer.{Answer}
 use Rattle.txn_book.specs.Acts.{act_of, answer_of}
@@ -32,9 +31,9 @@ pub record Moves (Stands : State → Type 0) (MayRecover : Database → Type 0) 
   pub stands : Stands after
   pub durable : s.stop ≡ None → is_fault (answer_of said) ≡ false → (db : Database) → MayRecover db → db ≡ committed after.store
 
--- an engine that gives up answers want of memory
-abbrev pub IsWant : Answer → Type 0
-IsWant said = answer_of said ≡ machine_answer.Refused refusal.NoMemory
+-- how many steps an open transaction keeps
+abbrev pub kept_count : Open → ℕ
+kept_count o = length o.kept
 
 -- the disk's count of faults rose where the answer tells a fault, and stood else
 pub record CountsFault (said : Answer) (before now : ℕ) : Type 0 where

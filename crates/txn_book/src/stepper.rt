@@ -1,12 +1,13 @@
 //! Engines that do steps.
-ghost use Rattle.std.specs.Prelude.{◌≡◌, ◌⊎◌, ◌≤◌, ◌<◌, ◌^◌, ℕ, None};
+ghost use Rattle.std.specs.Prelude.{◌≡◌, ◌≤◌, ◌<◌, ◌^◌, ℕ, None};
 ghost use Rattle.std.specs.Option.{option_map};
 ghost use Rattle.iv_meaning.specs.Database.{Database};
+ghost use Rattle.iv_meaning.specs.Escrow.{IsSession};
 ghost use Rattle.txn_machine.specs.Store.{committed};
 ghost use Rattle.txn_machine.specs.State.{State};
 ghost use Rattle.txn_machine.specs.Laws.{IsReached};
 ghost use Rattle.txn_book.specs.Acts.{last_refusal};
-ghost use Rattle.txn_book.specs.Moves.{IsAsked, IsAskable, IsWant, Moves, CountsFault};
+ghost use Rattle.txn_book.specs.Moves.{IsAsked, IsAskable, Moves, CountsFault, kept_count};
 ghost use Rattle.txn_book.specs.Crashes.{MayCommit, Elapses};
 
 use crate::step::{Answer, LastRefusal, Step};
@@ -15,10 +16,6 @@ use crate::step::{Answer, LastRefusal, Step};
 pub trait Stepper {
     /// Which states the engine is in, by the step relation of many open transactions.
     ghost stands: { Self → State → Type 0 };
-
-    /// Holds where the engine has given up, for want of memory or at what it is not built for, and nothing is told of it any
-    /// more. An engine that never gives up has `⊥` here.
-    ghost gave_up: { Self → Type 0 };
 
     /// How often the engine's disk has failed. The count stands still at the end of a `u64`.
     ghost faults: { Self → ℕ };
@@ -34,12 +31,10 @@ pub trait Stepper {
 
     /// Does a step that may be asked for. Steps are counted from 1; a step that is answered `Stopped` is not counted.
     fn step(&mut self, step: &Step) -> Answer
-        requires { gave_up self.old ⊎ IsAskable (stands self.old) step.now }
-        ensures moves { (s : State) → stands self.old s → IsAsked s step.now → gave_up self.new ⊎ Moves (stands self.new) (may_recover self.new) s step.now result }
-        ensures ended { gave_up self.old → gave_up self.new }
-        ensures gave { gave_up self.new → IsWant result }
+        requires { IsAskable (stands self.old) step.now }
+        ensures moves { (s : State) → stands self.old s → IsAsked s step.now → Moves (stands self.new) (may_recover self.new) s step.now result }
         ensures cause { CountsFault result (faults self.old) (faults self.new) }
-        ensures time { (s : State) → stands self.old s → IsAsked s step.now → gave_up self.new ⊎ Elapses (MayCommit s step.now result) (moment self.old) (moment self.new) (recovered_since self.old) (recovered_since self.new) };
+        ensures time { (s : State) → stands self.old s → IsAsked s step.now → Elapses (MayCommit s step.now result) (moment self.old) (moment self.new) (recovered_since self.old) (recovered_since self.new) };
 
     /// How many steps were done.
     fn steps_done(&self) -> u64
@@ -48,6 +43,15 @@ pub trait Stepper {
     /// The session's last step that the engine refused, if there is one.
     fn refused(&self, session: u32) -> Option<LastRefusal>
         ensures { (s : State) → stands self.now s → option_map last_refusal result ≡ (s.seat_of session).refused };
+
+    /// The greatest commit number.
+    fn number(&self) -> u64
+        ensures { (s : State) → stands self.now s → result ≡ (committed s.store).number };
+
+    /// How many steps the session's open transaction keeps, if one is open.
+    fn kept_steps(&self, session: u32) -> Option<u64>
+        requires { IsSession session }
+        ensures { (s : State) → stands self.now s → result ≡ option_map kept_count (s.store.open_of session) };
 
     /// Steps lead to each state in which it stands.
     ghost is_reached: { (engine : Self) (s : State) → stands engine s → IsReached s };
@@ -73,12 +77,10 @@ pub trait Stepper {
 
 /// Does a step that is asked for once, and lets it go.
 pub fn do_step<S: Stepper>(engine: &mut S, step: Step) -> Answer
-    requires { S.gave_up engine.old ⊎ IsAskable (S.stands engine.old) step }
-    ensures moves { (s : State) → S.stands engine.old s → IsAsked s step → S.gave_up engine.new ⊎ Moves (S.stands engine.new) (S.may_recover engine.new) s step result }
-    ensures ended { S.gave_up engine.old → S.gave_up engine.new }
-    ensures gave { S.gave_up engine.new → IsWant result }
+    requires { IsAskable (S.stands engine.old) step }
+    ensures moves { (s : State) → S.stands engine.old s → IsAsked s step → Moves (S.stands engine.new) (S.may_recover engine.new) s step result }
     ensures cause { CountsFault result (S.faults engine.old) (S.faults engine.new) }
-    ensures time { (s : State) → S.stands engine.old s → IsAsked s step → S.gave_up engine.new ⊎ Elapses (MayCommit s step result) (S.moment engine.old) (S.moment engine.new) (S.recovered_since engine.old) (S.recovered_since engine.new) }
+    ensures time { (s : State) → S.stands engine.old s → IsAsked s step → Elapses (MayCommit s step result) (S.moment engine.old) (S.moment engine.new) (S.recovered_since engine.old) (S.recovered_since engine.new) }
 {
     let answer = engine.step(&step);
     step.let_go();

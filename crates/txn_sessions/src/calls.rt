@@ -20,7 +20,7 @@ use crate::line::{Owing, Replies, Stage};
 use crate::progress::Line;
 use crate::session::Session;
 use crate::standing::Standing;
-use iv_types::{Refusal, Statement};
+use iv_types::{Mode, Refusal, Statement};
 use std::alloc::Global;
 use std::mem::replace;
 use txn_book::{Answer, Step};
@@ -46,6 +46,13 @@ impl Session {
         ensures { result ≡ self.now.number }
     {
         self.number
+    }
+
+    /// The mode of its open transaction between two statements, if it has one.
+    pub fn mode(&self) -> Option<Mode>
+        ensures { result ≡ (stands self.now).mode }
+    {
+        self.standing.mode
     }
 
     /// A statement starts: it asks for its first step, or has ended without one.

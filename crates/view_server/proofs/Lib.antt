@@ -1,5 +1,1 @@
-pub mod Digits
-pub mod Reading
-pub mod Running
-pub mod Serving
-pub mod Apart
+pub mod Opening

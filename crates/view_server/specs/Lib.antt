@@ -1,5 +1,1 @@
-pub mod Status
-pub mod Run
-pub mod Spaces
-pub mod Request
-pub mod Answered
+pub mod Words

@@ -1,14 +1,8 @@
-//! The engine behind a script, and the program's top call.
+//! The program's top call: its words, scripts, and the large script that it makes itself.
 #![tactic(auto)]
 
-mod asked;
-mod built_forms;
-mod print;
-mod request;
 mod script;
-mod status;
+mod words;
 
-pub use built_forms::{built, is_built};
-pub use request::session_text;
 pub use script::run;
-pub use status::Status;
+pub use script_run::Status;

@@ -1,0 +1,46 @@
+use Rattle.std.proofs.Common.{sym, subst}
+use Rattle.txn_book.specs.Acts.{act_of, answer_of}
+use Rattle.txn_book.specs.declared.step.Act.{Act}
+use Rattle.core_state.specs.Stands.{Began}
+use Rattle.engine_core.specs.Acting.{Does}
+use Rattle.engine_core.proofs.Telling.{can_do}
+use Rattle.engine_core.proofs.acting.act.Goals as goal
+
+pub begin-requires-after_bounds : goal.begin-requires-after_bounds
+begin-requires-after_bounds g c κs within = can_do g.M.SortedMaps.maps g.M.SortedMaps.spare g.M.SortedMaps.limit c.args.core.now c.args.session _ _ c.in-Begin.is c.requires
+
+pub fetch-requires-after_bounds : goal.fetch-requires-after_bounds
+fetch-requires-after_bounds g c κs within = can_do g.M.SortedMaps.maps g.M.SortedMaps.spare g.M.SortedMaps.limit c.args.core.now c.args.session _ _ c.in-Fetch.is c.requires
+
+pub peek-requires-after_bounds : goal.peek-requires-after_bounds
+peek-requires-after_bounds g c κs within = can_do g.M.SortedMaps.maps g.M.SortedMaps.spare g.M.SortedMaps.limit c.args.core.now c.args.session _ _ c.in-Peek.is c.requires
+
+pub put-requires-after_bounds : goal.put-requires-after_bounds
+put-requires-after_bounds g c κs within = can_do g.M.SortedMaps.maps g.M.SortedMaps.spare g.M.SortedMaps.limit c.args.core.now c.args.session _ _ c.in-Put.is c.requires
+
+pub pay-requires-after_bounds : goal.pay-requires-after_bounds
+pay-requires-after_bounds g c κs within = can_do g.M.SortedMaps.maps g.M.SortedMaps.spare g.M.SortedMaps.limit c.args.core.now c.args.session _ _ c.in-Pay.is c.requires
+
+pub make_ghost-requires-after_bounds : goal.make_ghost-requires-after_bounds
+make_ghost-requires-after_bounds g c κs within = can_do g.M.SortedMaps.maps g.M.SortedMaps.spare g.M.SortedMaps.limit c.args.core.now c.args.session _ _ c.in-Ghost.is c.requires
+
+pub undo_one-requires-after_bounds : goal.undo_one-requires-after_bounds
+undo_one-requires-after_bounds g c κs within = can_do g.M.SortedMaps.maps g.M.SortedMaps.spare g.M.SortedMaps.limit c.args.core.now c.args.session _ _ c.in-UndoOne.is c.requires
+
+pub end-requires-after_bounds : goal.end-requires-after_bounds
+end-requires-after_bounds g c κs within = can_do g.M.SortedMaps.maps g.M.SortedMaps.spare g.M.SortedMaps.limit c.args.core.now c.args.session _ _ c.in-End.is c.requires
+
+pub commit-requires-after_bounds : goal.commit-requires-after_bounds
+commit-requires-after_bounds g c κs within = can_do g.M.SortedMaps.maps g.M.SortedMaps.spare g.M.SortedMaps.limit c.args.core.now c.args.session _ _ c.in-Commit.is c.requires
+
+pub define-requires-after_bounds : goal.define-requires-after_bounds
+define-requires-after_bounds g c κs within = can_do g.M.SortedMaps.maps g.M.SortedMaps.spare g.M.SortedMaps.limit c.args.core.now c.args.session _ _ c.in-Schema.is c.requires
+
+pub clean-requires-after_bounds : goal.clean-requires-after_bounds
+clean-requires-after_bounds g c κs within =
+    let can = can_do g.M.SortedMaps.maps g.M.SortedMaps.spare g.M.SortedMaps.limit c.args.core.now c.args.session _ _ c.in-Clean.is c.requires in
+    (can.0, subst (λ i. Began g.M.SortedMaps.maps g.M.SortedMaps.spare g.M.SortedMaps.limit c.args.core.now can.0 i) can.2 can.1)
+
+pub returns-in-Commit-clause-told : goal.returns-in-Commit-clause-told
+returns-in-Commit-clause-told g c =
+    subst (λ (a : Act). Does g.M.SortedMaps.maps g.M.SortedMaps.spare g.M.SortedMaps.limit c.args.core.now c.args.session (act_of a) (answer_of c.commit.result) c.commit.new.core) (sym c.in-Commit.is) c.commit.ensures

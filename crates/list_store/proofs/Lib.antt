@@ -1,4 +1,0 @@
-pub mod BetweenLemmas
-pub mod CatalogLemmas
-pub mod HeldLemmas
-pub mod PlaceLemmas

@@ -1,0 +1,10 @@
+//! Scripts: the lines of a source are run by many sessions, and their replies go to a sink.
+#![tactic(auto)]
+
+mod line;
+mod lines;
+mod status;
+
+pub use line::one_line;
+pub use lines::run_lines;
+pub use status::Status;

@@ -1,0 +1,109 @@
+//! Sessions whose lines wait are tried again.
+ghost use Rattle.std.specs.Prelude.{◌≡◌, ◌≤◌, ◌<◌, ◌^◌, IfOk, OnOk, ◌++◌, length};
+ghost use Rattle.txn_machine.specs.Alone.{Story};
+ghost use Rattle.script_law.specs.RunLines.{printed_later};
+ghost use Rattle.txn_sessions.specs.Sessions.{todo_of};
+ghost use Rattle.session_table.specs.declared.slot.LineKind.TheVariants.{Waiting};
+ghost use Rattle.session_table.specs.Going.{StandsIn, MayGo, outcome_in};
+ghost use Rattle.session_table.specs.Slots.{FitsLine, AreSlots, AllGo};
+ghost use Rattle.session_table.specs.Requests.{kept_line};
+ghost use Rattle.session_table.specs.Trying.{Tried, Passed, Retried};
+
+use crate::going::{Came, Went, go_on};
+use crate::print::tell_replies;
+use crate::slot::{LineKind, Slot};
+use iv_types::NoMemory;
+use std::alloc::Global;
+use txn_book::Stepper;
+
+// Prints what a statement told that has ended, whose line waited. One that waits on prints nothing.
+fn tell_later(
+    alloc: Global,
+    slot: &mut Slot,
+    text: &mut Vec<u8>,
+    came: Came,
+) -> Result<(), NoMemory>
+    requires { slot.old.line ≡ Waiting }
+    ensures session { slot.new.session ≡ slot.old.session }
+    ensures line { slot.new.line ≡ kept_line Waiting Waiting came }
+    ensures told { OnOk result (text.new.items ≡ text.old.items ++ printed_later slot.old.session.number (outcome_in came (todo_of slot.old.session))) }
+{
+    match came {
+        Came::Ended(replies) => {
+            slot.line = LineKind::Idle;
+            tell_replies(alloc, text, slot.session.number(), replies)
+        }
+        Came::Stuck(_) => Ok(()),
+        Came::Stepped => Ok(()),
+    }
+}
+
+// Goes on with a session if its line waits, and tells whether a step was not blocked.
+fn try_slot<S: Stepper>(
+    alloc: Global,
+    engine: &mut S,
+    slot: &mut Slot,
+    text: &mut Vec<u8>,
+) -> Result<bool, NoMemory>
+    requires fits { FitsLine slot.old.line slot.old.session }
+    requires engine { StandsIn (S.stands engine.old) (MayGo slot.old.session) }
+    ensures tried { IfOk result (λ moved. (s : Story) → S.stands engine.old s.state → MayGo slot.old.session s → StandsIn (S.stands engine.new) (Tried s slot.old text.old.items moved slot.new text.new.items)) }
+    ensures number { slot.new.session.number ≡ slot.old.session.number }
+    ensures fits { FitsLine slot.new.line slot.new.session }
+{
+    match slot.line {
+        LineKind::Waiting => {}
+        _ => return Ok(false),
+    }
+    let Went { moved, came } = go_on(engine, &mut slot.session);
+    tell_later(alloc, slot, text, came)?;
+    Ok(moved)
+}
+
+// Goes on with the sessions whose lines wait, from a place on, and tells whether a step was not blocked.
+fn pass_from<S: Stepper>(
+    alloc: Global,
+    engine: &mut S,
+    slots: &mut [Slot],
+    text: &mut Vec<u8>,
+    place: usize,
+) -> Result<bool, NoMemory>
+    requires place { place ≤ length slots.old }
+    requires slots { AreSlots slots.old }
+    requires engine { StandsIn (S.stands engine.old) (AllGo slots.old) }
+    ensures passed { IfOk result (λ moved. (s : Story) → S.stands engine.old s.state → AllGo slots.old s → StandsIn (S.stands engine.new) (Passed place s slots.old text.old.items moved slots.new text.new.items)) }
+    ensures slots { AreSlots slots.new }
+{
+    if place >= slots.len() {
+        return Ok(false);
+    }
+    let first = try_slot(alloc, engine, &mut slots[place], text)?;
+    let more = pass_from(alloc, engine, slots, text, place + 1)?;
+    Ok(first | more)
+}
+
+/// Goes on with the sessions whose lines wait, in number order, in whole passes, until a pass moves none.
+///
+/// # Errors
+///
+/// Where there is no memory for what is printed.
+pub fn retry<S: Stepper>(
+    alloc: Global,
+    engine: &mut S,
+    slots: &mut [Slot],
+    text: &mut Vec<u8>,
+) -> Result<(), NoMemory>
+    requires count { length slots.old ≡ 64 }
+    requires slots { AreSlots slots.old }
+    requires engine { StandsIn (S.stands engine.old) (AllGo slots.old) }
+    ensures retried { OnOk result ((s : Story) → S.stands engine.old s.state → AllGo slots.old s → StandsIn (S.stands engine.new) (Retried s slots.old text.old.items slots.new text.new.items)) }
+    ensures slots { AreSlots slots.new }
+{
+    for _ in 0..u64::MAX {
+        if !pass_from(alloc, engine, slots, text, 0)? {
+            return Ok(());
+        }
+    }
+    // No engine counts so many steps.
+    Ok(())
+}

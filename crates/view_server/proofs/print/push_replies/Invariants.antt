@@ -1,6 +1,0 @@
-use Rattle.std.proofs.Common.{◌≡◌, ◌++◌, take}
-use Rattle.iv_meaning.specs.Reply.{reply_lines}
-use Rattle.view_server.proofs.print.push_replies.Given as goal
-
-abbrev pub invariant-loop-reply : goal.invariant-loop-reply
-invariant-loop-reply l = l.text.items ≡ l.fn.text.items ++ reply_lines l.session (take l.reply-index l.reply-items)
