@@ -22,7 +22,7 @@ use Rattle.txn_book.specs.Holding.{IsSame, IsTxn}
 use Rattle.txn_book.specs.Opens.{open_at}
 use Rattle.txn_book.specs.Txns.{txn_of}
 use Rattle.txn_book.specs.declared.open_table.Open.{Open as BookOpen}
-use Rattle.table_store.specs.declared.list_maps.ListMaps.{ListMaps}
+use Rattle.ordered_index.specs.Tree.{Tree}
 use Rattle.core_state.specs.declared.state.CoreState.{CoreState}
 use Rattle.core_effects.proofs.Counted.{many_same}
 use Rattle.core_cases.specs.Asking.{IsAt}
@@ -55,7 +55,7 @@ pub none_of : {A : Type 0} (xs : List A) → length xs ≡ 0 → xs ≡ []
 none_of [] e = refl
 none_of (x ∷ xs) e = absurd (omega (arith, e))
 
-module _ (core : CoreState ListMaps) (s : State) (h : IsAt core s) (i : ℕ) (is : IsSession i) where
+module _ (core : CoreState Tree) (s : State) (h : IsAt core s) (i : ℕ) (is : IsSession i) where
   pub closed : open_at core.book.opens i ≡ None → s.store.open_of i ≡ None
   closed none = none_as (schema_of s.store) (open_at core.book.opens i) (s.store.open_of i) (s.log.logged i) none (h.holds.book.txns i is)
 

@@ -120,6 +120,7 @@ fn write_refusal(out: &mut String, refusal: &EngineRefusal) -> anyhow::Result<()
             write!(out, "Escrow {column} {inf} {sup}")?;
         }
         EngineRefusal::TxnFull { kept, need } => write!(out, "TxnFull {kept} {need}")?,
+        EngineRefusal::DataFull { used, need } => write!(out, "DataFull {used} {need}")?,
         EngineRefusal::HistoryFull { kept, need } => write!(out, "HistoryFull {kept} {need}")?,
         EngineRefusal::SchemaBusy(session) => write!(out, "SchemaBusy {session}")?,
         EngineRefusal::NoMemory => out.push_str("NoMemory")?,

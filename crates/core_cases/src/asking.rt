@@ -19,9 +19,9 @@ use crate::keys::key_of;
 use anyhow::bail;
 use core_state::CoreState;
 use iv_types::{Bytes, Catalog, Definition, GroupDelta, LockMode, Mode, Row, Statement, TableDef};
+use ordered_index::PageMaps;
 use row_codec::{encode_row, row_fits};
 use std::alloc::Global;
-use table_store::ListMaps;
 use txn_book::{Act, Open, Step};
 
 // It is a session's number.
@@ -35,7 +35,7 @@ fn is_session(session: u32) -> anyhow::Result<()>
 }
 
 // No transaction of the session is open.
-fn is_closed(core: &CoreState<ListMaps>, session: u32) -> anyhow::Result<()>
+fn is_closed(core: &CoreState<PageMaps>, session: u32) -> anyhow::Result<()>
     ensures of_session { OnOk result (IsSession session) }
     ensures closed { OnOk result ((s : State) → IsAt core.now s → s.store.open_of session ≡ None) }
 {
@@ -47,7 +47,7 @@ fn is_closed(core: &CoreState<ListMaps>, session: u32) -> anyhow::Result<()>
 }
 
 // The session's transaction.
-fn open_of(core: &CoreState<ListMaps>, session: u32) -> anyhow::Result<&Open>
+fn open_of(core: &CoreState<PageMaps>, session: u32) -> anyhow::Result<&Open>
     ensures of_session { OnOk result (IsSession session) }
     ensures there { IfOk result (λ txn. open_at core.now.book.opens session ≡ Some txn.now) }
 {
@@ -59,7 +59,7 @@ fn open_of(core: &CoreState<ListMaps>, session: u32) -> anyhow::Result<&Open>
 }
 
 // The session's transaction, which is of this mode and which no deadlock met.
-fn goes_on(core: &CoreState<ListMaps>, session: u32, mode: Mode) -> anyhow::Result<&Open>
+fn goes_on(core: &CoreState<PageMaps>, session: u32, mode: Mode) -> anyhow::Result<&Open>
     ensures of_session { OnOk result (IsSession session) }
     ensures there { IfOk result (λ txn. open_at core.now.book.opens session ≡ Some txn.now) }
     ensures mode { IfOk result (λ txn. txn.now.mode ≡ mode) }
@@ -73,7 +73,7 @@ fn goes_on(core: &CoreState<ListMaps>, session: u32, mode: Mode) -> anyhow::Resu
 }
 
 // The session's transaction of this mode owes nothing.
-fn is_ready(core: &CoreState<ListMaps>, session: u32, mode: Mode) -> anyhow::Result<()>
+fn is_ready(core: &CoreState<PageMaps>, session: u32, mode: Mode) -> anyhow::Result<()>
     ensures { OnOk result ((s : State) → IsAt core.now s → IsReady s.store session mode) }
 {
     if !goes_on(core, session, mode)?.owed.is_empty() {
@@ -83,7 +83,7 @@ fn is_ready(core: &CoreState<ListMaps>, session: u32, mode: Mode) -> anyhow::Res
 }
 
 // It owes a delta, and none that is coming back.
-fn owes(core: &CoreState<ListMaps>, session: u32) -> anyhow::Result<()>
+fn owes(core: &CoreState<PageMaps>, session: u32) -> anyhow::Result<()>
     ensures { OnOk result ((s : State) → IsAt core.now s → Owes s.store session) }
 {
     let txn = goes_on(core, session, Mode::Serial)?;
@@ -105,7 +105,7 @@ fn first_owed(txn: &Open) -> anyhow::Result<&GroupDelta>
 }
 
 // And the lock of its group is held.
-fn holds_group(core: &CoreState<ListMaps>, session: u32) -> anyhow::Result<()>
+fn holds_group(core: &CoreState<PageMaps>, session: u32) -> anyhow::Result<()>
     ensures { OnOk result ((s : State) → IsAt core.now s → MayAct s.store session machine.Ghost) }
 {
     let txn = goes_on(core, session, Mode::Serial)?;
@@ -125,7 +125,7 @@ fn holds_group(core: &CoreState<ListMaps>, session: u32) -> anyhow::Result<()>
 }
 
 // A step can be taken back.
-fn keeps(core: &CoreState<ListMaps>, session: u32) -> anyhow::Result<()>
+fn keeps(core: &CoreState<PageMaps>, session: u32) -> anyhow::Result<()>
     ensures { OnOk result ((s : State) → IsAt core.now s → MayAct s.store session machine.UndoOne) }
 {
     if open_of(core, session)?.kept.is_empty() {
@@ -135,7 +135,7 @@ fn keeps(core: &CoreState<ListMaps>, session: u32) -> anyhow::Result<()>
 }
 
 // None can.
-fn keeps_none(core: &CoreState<ListMaps>, session: u32) -> anyhow::Result<()>
+fn keeps_none(core: &CoreState<PageMaps>, session: u32) -> anyhow::Result<()>
     ensures { OnOk result ((s : State) → IsAt core.now s → MayAct s.store session machine.End) }
 {
     if !open_of(core, session)?.kept.is_empty() {
@@ -144,7 +144,7 @@ fn keeps_none(core: &CoreState<ListMaps>, session: u32) -> anyhow::Result<()>
     Ok(())
 }
 
-fn may_commit(core: &CoreState<ListMaps>, session: u32) -> anyhow::Result<()>
+fn may_commit(core: &CoreState<PageMaps>, session: u32) -> anyhow::Result<()>
     ensures { OnOk result ((s : State) → IsAt core.now s → MayAct s.store session machine.Commit) }
 {
     match open_of(core, session)?.mode {
@@ -242,7 +242,7 @@ fn differ(
 // The row fits the table, the key is the row's, and the row changes.
 fn may_put(
     alloc: Global,
-    core: &CoreState<ListMaps>,
+    core: &CoreState<PageMaps>,
     number: u32,
     key: &Bytes,
     new: &Option<Row>,
@@ -259,7 +259,7 @@ fn may_put(
 }
 
 // The act of a session's transaction.
-fn may_act(alloc: Global, core: &CoreState<ListMaps>, session: u32, act: &Act) -> anyhow::Result<()>
+fn may_act(alloc: Global, core: &CoreState<PageMaps>, session: u32, act: &Act) -> anyhow::Result<()>
     requires stands { (s : State) × IsAt core.now s }
     requires spelt { IsSpelt act.now }
     ensures { OnOk result ((s : State) → IsAt core.now s → MayAct s.store session (act_of act.now)) }
@@ -303,7 +303,7 @@ fn may_act(alloc: Global, core: &CoreState<ListMaps>, session: u32, act: &Act) -
 /// # Errors
 ///
 /// Where it may not, or there is no memory to tell it.
-pub fn may(alloc: Global, core: &CoreState<ListMaps>, step: &Step) -> anyhow::Result<()>
+pub fn may(alloc: Global, core: &CoreState<PageMaps>, step: &Step) -> anyhow::Result<()>
     requires stands { (s : State) × IsAt core.now s }
     requires spelt { IsSpelt step.now.act }
     ensures { OnOk result ((s : State) → IsAt core.now s → IsAsked s step.now) }

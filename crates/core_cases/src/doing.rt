@@ -12,16 +12,23 @@ use crate::steps::read_step;
 use anyhow::bail;
 use case_text::first_word;
 use engine_core::Core;
+use ordered_index::PageMaps;
 use std::alloc::Global;
 use std::mem::forget;
-use table_store::ListMaps;
 use txn_book::{Answer, Step, Stepper};
 
+/// The pages of a core's maps.
+const PAGES: u32 = 768;
+
+/// What its data may count, in bytes: 1,200 for each page but 256.
+const DATA_LIMIT: u32 = (PAGES - 256) * 1200;
+
 // A core that has nothing.
-fn new_core(alloc: Global) -> anyhow::Result<Core<ListMaps>>
+fn new_core(alloc: Global) -> anyhow::Result<Core<PageMaps>>
     ensures { IfOk result IsStanding }
 {
-    Ok(Core::new(alloc, ListMaps::new(alloc)?, 0)?)
+    let maps = PageMaps::new(alloc, PAGES)?;
+    Ok(Core::new(alloc, maps, Some(DATA_LIMIT), 0)?)
 }
 
 // The number of a session.
@@ -37,7 +44,7 @@ fn session_of(text: &str) -> anyhow::Result<u32>
 }
 
 // How many steps a session's transaction keeps.
-fn kept_text(alloc: Global, core: &Core<ListMaps>, text: &str) -> anyhow::Result<String> {
+fn kept_text(alloc: Global, core: &Core<PageMaps>, text: &str) -> anyhow::Result<String> {
     match core.kept_steps(session_of(text)?) {
         Some(many) => Ok(format!(in alloc; "{many}")?),
         None => Ok(String::from_str(alloc, "none")?),
@@ -45,7 +52,7 @@ fn kept_text(alloc: Global, core: &Core<ListMaps>, text: &str) -> anyhow::Result
 }
 
 // A session's last refusal.
-fn last_refusal_text(alloc: Global, core: &Core<ListMaps>, text: &str) -> anyhow::Result<String> {
+fn last_refusal_text(alloc: Global, core: &Core<PageMaps>, text: &str) -> anyhow::Result<String> {
     match core.refused(text.parse::<u32>()?) {
         Some(last) => {
             let number = last.step;
@@ -57,7 +64,7 @@ fn last_refusal_text(alloc: Global, core: &Core<ListMaps>, text: &str) -> anyhow
 }
 
 // Does a step, if it may be asked for.
-fn answered(alloc: Global, core: &mut Core<ListMaps>, step: &Step) -> anyhow::Result<Answer>
+fn answered(alloc: Global, core: &mut Core<PageMaps>, step: &Step) -> anyhow::Result<Answer>
     requires stands { IsStanding core.old }
     requires spelt { IsSpelt step.now.act }
     ensures { IsStanding core.new }
@@ -67,7 +74,7 @@ fn answered(alloc: Global, core: &mut Core<ListMaps>, step: &Step) -> anyhow::Re
 }
 
 // Does the step of a text.
-fn step_done(alloc: Global, core: &mut Core<ListMaps>, text: &str) -> anyhow::Result<Answer>
+fn step_done(alloc: Global, core: &mut Core<PageMaps>, text: &str) -> anyhow::Result<Answer>
     requires { IsStanding core.old }
     ensures { IsStanding core.new }
 {
@@ -78,7 +85,7 @@ fn step_done(alloc: Global, core: &mut Core<ListMaps>, text: &str) -> anyhow::Re
 }
 
 // Does the step of a text, and forgets what it is answered.
-fn pass(alloc: Global, core: &mut Core<ListMaps>, call: &str) -> anyhow::Result<()>
+fn pass(alloc: Global, core: &mut Core<PageMaps>, call: &str) -> anyhow::Result<()>
     requires { IsStanding core.old }
     ensures { IsStanding core.new }
 {
@@ -91,7 +98,7 @@ fn pass(alloc: Global, core: &mut Core<ListMaps>, call: &str) -> anyhow::Result<
 }
 
 // Does the calls before the last ones.
-fn pass_all(alloc: Global, core: &mut Core<ListMaps>, calls: &str) -> anyhow::Result<()>
+fn pass_all(alloc: Global, core: &mut Core<PageMaps>, calls: &str) -> anyhow::Result<()>
     requires { IsStanding core.old }
     ensures { IsStanding core.new }
 {
@@ -105,7 +112,7 @@ fn pass_all(alloc: Global, core: &mut Core<ListMaps>, calls: &str) -> anyhow::Re
 }
 
 // What the step of a text is answered.
-fn step_text(alloc: Global, core: &mut Core<ListMaps>, text: &str) -> anyhow::Result<String>
+fn step_text(alloc: Global, core: &mut Core<PageMaps>, text: &str) -> anyhow::Result<String>
     requires { IsStanding core.old }
     ensures { IsStanding core.new }
 {
@@ -116,7 +123,7 @@ fn step_text(alloc: Global, core: &mut Core<ListMaps>, text: &str) -> anyhow::Re
 }
 
 // What a call comes to.
-fn call_text(alloc: Global, core: &mut Core<ListMaps>, call: &str) -> anyhow::Result<String>
+fn call_text(alloc: Global, core: &mut Core<PageMaps>, call: &str) -> anyhow::Result<String>
     requires { IsStanding core.old }
     ensures { IsStanding core.new }
 {
@@ -133,7 +140,7 @@ fn call_text(alloc: Global, core: &mut Core<ListMaps>, call: &str) -> anyhow::Re
 }
 
 // What calls come to.
-fn all_text(alloc: Global, core: &mut Core<ListMaps>, calls: &str) -> anyhow::Result<String>
+fn all_text(alloc: Global, core: &mut Core<PageMaps>, calls: &str) -> anyhow::Result<String>
     requires { IsStanding core.old }
     ensures { IsStanding core.new }
 {
@@ -151,7 +158,7 @@ fn all_text(alloc: Global, core: &mut Core<ListMaps>, calls: &str) -> anyhow::Re
 // What the last calls come to, on a core that stands, after those before them.
 fn last_text(
     alloc: Global,
-    core: &mut Core<ListMaps>,
+    core: &mut Core<PageMaps>,
     given: &str,
     before: &str,
     calls: &str,

@@ -60,10 +60,12 @@ module _ {M : Type 0} (maps : M → ℕ → Map) (spare : M → ℕ → ℕ) (li
       next = h.holds.next;
       row_mark = h.holds.row_mark;
       delta_mark = h.holds.delta_mark;
+      most = h.holds.most;
       past = h.holds.past;
       ahead = ahead_reserved core.ahead core.store.row_versions.room core.store.delta_versions.room s.store h.holds.ahead i ahead same row_room delta_room more more_deltas;
       rooms = h.holds.rooms;
     };
+    reserves = h.reserves;
     own = h.own;
     waiting = h.waiting;
     counts = record { steps = h.counts.steps; seats = h.counts.seats; few = h.counts.few; cleaner = h.counts.cleaner; removed = h.counts.removed; running = h.counts.running; begun = h.counts.begun; next = h.counts.next; stop = h.counts.stop };

@@ -5,5 +5,6 @@ pub mod Walked
 pub mod Making
 pub mod Rightly
 pub mod Puts
+pub mod Data
 pub mod Within
 pub mod Full

@@ -42,10 +42,10 @@ module _ {M : Type 0} (maps : M → ℕ → Map) (spare : M → ℕ → ℕ) (li
     next = h.next;
     row_mark = h.row_mark;
     delta_mark = h.delta_mark;
+    most = same_limit ∙ h.most;
     past = h.past;
     ahead = h.ahead;
     rooms = record {
-      unlimited = same_limit ∙ h.rooms.unlimited;
       limited = h.rooms.limited;
       undo = λ index. let had = h.rooms.undo index in omega (arith, had, more index);
       each = h.rooms.each;
@@ -63,10 +63,10 @@ module _ {M : Type 0} (maps : M → ℕ → Map) (spare : M → ℕ → ℕ) (li
     next = h.next;
     row_mark = h.row_mark;
     delta_mark = h.delta_mark;
+    most = h.most;
     past = h.past;
     ahead = h.ahead;
     rooms = record {
-      unlimited = h.rooms.unlimited;
       limited = h.rooms.limited;
       undo = h.rooms.undo;
       each = λ j js t there. covered_by core.store.catalog core.store.views views core.locks core.locks (wants_at core.wants j) (wants_at core.wants j) j (txn_of t) (h.rooms.each j js t there) refl refl (rooms j) (λ place. seats j place);
@@ -96,9 +96,10 @@ module _ {M : Type 0} (maps : M → ℕ → Map) (spare : M → ℕ → ℕ) (li
           next = h.next;
           row_mark = h.row_mark;
           delta_mark = h.delta_mark;
+          most = h.most;
           past = h.past;
           ahead = h.ahead;
-          rooms = rooms_changed (spare core.store.tables) (spare core.store.tables) (limit core.store.tables) (limit core.store.tables) core.store.catalog core.store.views core.store.views core.book after core.locks core.locks core.wants core.wants i
-              (txn_of mine.txn) good o.of_session h.rooms refl changes (λ index. let here : gone_if index (open_at core.book.opens i) ≡ gone_if index (Some mine.txn) = ap (gone_if index) mine.there in omega (arith, here)) (elsewhere_same i core.store.views core.locks core.wants)
+          rooms = rooms_changed (spare core.store.tables) (spare core.store.tables) core.store.catalog core.store.views core.store.views core.book after core.locks core.locks core.wants core.wants i
+              (txn_of mine.txn) good o.of_session h.rooms changes (λ index. let here : gone_if index (open_at core.book.opens i) ≡ gone_if index (Some mine.txn) = ap (gone_if index) mine.there in omega (arith, here)) (elsewhere_same i core.store.views core.locks core.wants)
               (h.rooms.each i o.of_session mine.txn mine.there);
         }

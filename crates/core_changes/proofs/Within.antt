@@ -1,7 +1,7 @@
 -- A Put that is within the limits, in a core that has room for it.
-use Rattle.std.specs.Prelude.{◌≡◌, ◌≢◌, ℕ, ◌+◌, ◌*◌, ◌-◌, ◌≤◌, List, [], ◌∷◌, ◌++◌, map, length, reverse, Option, Some, refl}
+use Rattle.std.specs.Prelude.{◌≡◌, ◌≢◌, ℕ, ◌+◌, ◌*◌, ◌-◌, ◌^◌, ◌<◌, ◌≤◌, List, [], ◌∷◌, ◌++◌, map, length, reverse, Option, Some, refl}
 use Rattle.std.specs.Option.{unwrap_or}
-use Rattle.std.specs.List.{Contains}
+use Rattle.std.specs.List.{Contains, sum}
 use Rattle.std.specs.FinMap.{get}
 use mathlib.Core.Path.{sym, ap, subst, ◌∙◌}
 use Rattle.std.proofs.Common.{arith}
@@ -19,7 +19,8 @@ use Rattle.table_store.specs.Changes.{IsKept, IsChange, made_by, gone_by, how_ma
 use Rattle.table_store.specs.Readying.{HasPlaces}
 use Rattle.table_store.proofs.TableIndexes.{table_number}
 use Rattle.txn_machine.specs.Acts as act
-use Rattle.txn_machine.specs.Counts.{put_size, kept_change_size, transaction_size}
+use Rattle.iv_meaning.specs.Schema.{table, numbered}
+use Rattle.txn_machine.specs.Counts.{put_size, kept_change_size, transaction_size, told_need}
 use Rattle.txn_machine.specs.Deltas.{RowChange}
 use Rattle.txn_machine.specs.Ghosts.{the_views}
 use Rattle.txn_machine.specs.Keeping.{Open, idle}
@@ -40,16 +41,20 @@ use Rattle.core_effects.proofs.Entries.{each_held}
 use Rattle.core_effects.proofs.Gone.{its_number}
 use Rattle.core_changes.specs.Putting.{CanPut}
 use Rattle.core_changes.specs.Room.{HasRoom}
+use Rattle.core_changes.proofs.Data.{change_within, put_reserved}
 use Rattle.core_changes.proofs.Making.{mine}
 use Rattle.lock_manager.specs.Table.{Table, AddAtMost}
 use Rattle.lock_manager.proofs.Counts.{all_new}
 use Rattle.std.proofs.lemmas.List.{nil_from_length}
 use Rattle.txn_machine.specs.Answers as answer
-use Rattle.txn_machine.specs.Log.{Within, logs}
-use Rattle.txn_machine.specs.Steps.{history_bytes, put_need, log_need, data_need, used_data, group_want}
+use Rattle.txn_machine.specs.Log.{Within, logs, growth_back, delta_entry}
+use Rattle.txn_machine.specs.Steps.{FitsData, history_bytes, put_need, log_need, data_need, group_want}
 use Rattle.txn_machine.specs.Log.{reserved}
 use Rattle.txn_machine.specs.Store.{Writes}
 use Rattle.core_state.specs.Stands.{Told}
+use Rattle.data_room.specs.Reserved.{share_at}
+use Rattle.data_room.specs.declared.room.DataRoom.{DataRoom}
+use Rattle.core_state.proofs.Data.{data_holds}
 use Rattle.core_state.proofs.Counted.{counted}
 use Rattle.core_effects.specs.Writing.{CanWrite, IsNoting}
 use Rattle.data_store.specs.Machine.{bytes_of}
@@ -149,7 +154,8 @@ module _ {M : Type 0} (maps : M → ℕ → Map) (spare : M → ℕ → ℕ) (li
         row_after = stands_after maps spare limit core s i change wants can.puts;
         differ = λ e. can.puts.may.1.changes (sym (ap (λ (x : RowChange). x.before) can.puts.is) ∙ e);
         can_hold = each_held core.store.catalog are h.holds.rooms.limited its_table its_own change.key change.after change.before (stands_after maps spare limit core s i change wants can.puts);
-        within = subst (λ m. IsWithin m (used (maps core.store.tables) + sizes (made_by core.store.catalog change its_table) - sizes (gone_by core.store.catalog change its_table))) (sym h.holds.rooms.unlimited) tt;
+        within = subst (λ m. IsWithin m (used (maps core.store.tables) + sizes (made_by core.store.catalog change its_table) - sizes (gone_by core.store.catalog change its_table))) (sym h.holds.most)
+            (change_within maps spare limit core s i h change its_table number_is (subst (λ os. numbered os change.table ≡ Some (table its_table)) (sym h.holds.stored.objects) can.puts.may.1.table_is) can.data_room);
       }
 
       places : HasPlaces core.store.catalog (open_changes core.book.opens + 1) (spare core.store.tables) its_table
@@ -216,23 +222,29 @@ module _ {M : Type 0} (maps : M → ℕ → Map) (spare : M → ℕ → ℕ) (li
   abbrev its_act : act.Act
   its_act = act.Put change.table change.key change.after
 
-  module _ (new : CoreState M) where
+  module _ (new : CoreState M) (room : DataRoom) (bytes_kept : ℕ) (kept_are : bytes_kept ≡ told_need (growth_back (schema_of s.store) c + sum (map delta_entry deltas))) where
+    -- with what is kept for its transaction
     pub put_told : Holds maps spare limit new (does the_views between i (Writes (change.table, change.key) change.after)) (logs between i its_act (Writes (change.table, change.key) change.after) (logs s.store i its_act (Takes wants) s.log)) s.definitions
-        → AreUncounted core new → lock.waiting_of new.locks i ≡ [] → ((j : ℕ) → j ≢ i → lock.waiting_of new.locks j ≡ lock.waiting_of core.locks j)
-        → Told maps spare limit s i its_act (answer.Changed change.before deltas) new
-    put_told holds same_counts own others =
-        done_told maps spare limit core new s i h its_act (answer.Changed change.before deltas) (Takes wants ∷ Writes (change.table, change.key) change.after ∷ [])
+        → new.data_room ≡ core.data_room → room.limit ≡ new.data_room.limit
+        → (share_at new.data_room.shares i ≤ new.data_room.total → new.data_room.total + bytes_kept < 2 ^ 64 → share_at room.shares i ≡ share_at new.data_room.shares i + bytes_kept) → ((j : ℕ) → j ≢ i → share_at room.shares j ≡ share_at new.data_room.shares j) → (new.data_room.total + bytes_kept < 2 ^ 64 → room.total ≡ new.data_room.total + bytes_kept)
+        → AreUncounted core (record new { data_room = room }) → lock.waiting_of new.locks i ≡ [] → ((j : ℕ) → j ≢ i → lock.waiting_of new.locks j ≡ lock.waiting_of core.locks j)
+        → Told maps spare limit s i its_act (answer.Changed change.before deltas) (record new { data_room = room })
+    put_told holds same_data same_limit mine rest total same_counts own others =
+        done_told maps spare limit core (record new { data_room = room }) s i h its_act (answer.Changed change.before deltas) (Takes wants ∷ Writes (change.table, change.key) change.after ∷ [])
         (record {
           free = subst (IsFree s.store i) can.puts.wants_are can.puts.free;
           room = let r = can.room in let need : bytes ≡ put_need s.store (change_at s.store (change.table, change.key) change.after) = can.bytes_are ∙ ap (put_need s.store) can.puts.is in omega (arith, r, need);
-          log_room = subst (λ o. Within o.log_limit (s.log.used + reserved s.store s.log + log_need s.store (change_at s.store (change.table, change.key) change.after))) (sym h.opening) tt;
-          data_room = subst (λ o. Within o.data_limit (used_data s + data_need s.store (change_at s.store (change.table, change.key) change.after))) (sym h.opening) tt;
+          log_room = subst (λ o. Within o.log_limit (s.log.used + reserved s.store s.log + log_need s.store (change_at s.store (change.table, change.key) change.after))) (sym h.opening.is) tt;
+          data_room = subst (λ x. FitsData s (data_need s.store x)) can.puts.is can.data_room;
           history_room = let r = can.history_room in let need : entry_bytes ≡ kept_change_size (schema_of s.store) (change_at s.store (change.table, change.key) change.after) = can.entry_bytes_are ∙ ap (kept_change_size (schema_of s.store)) can.puts.is in omega (arith, r, need);
           before_is = ap (λ (x : RowChange). x.before) can.puts.is;
           owed_is = can.owed_is ∙ ap (put_owed s.store) can.puts.is;
           effects = ap (λ ws. Takes ws ∷ Writes (change.table, change.key) change.after ∷ []) can.puts.wants_are;
         })
-        holds same_counts (λ _. own) (λ j js n. others j n ∙ h.waiting j js n) refl refl (omega arith) (omega arith)
+        (data_holds maps spare limit new room (does the_views between i (Writes (change.table, change.key) change.after)) (logs between i its_act (Writes (change.table, change.key) change.after) (logs s.store i its_act (Takes wants) s.log)) s.definitions same_limit holds)
+        (put_reserved maps spare limit core s i h c deltas (sym (ap (λ (x : RowChange). x.before) can.puts.is)) can.owed_is can.data_small its_open.of_session wants its_act owes_none (change.table, change.key) change.after can.puts.is
+        room new.data_room bytes_kept kept_are same_data same_limit mine rest total)
+        same_counts (λ _. own) (λ j js n. others j n ∙ h.waiting j js n) refl refl (omega arith) (omega arith)
 
 -- the same Put in a core that has begun its step in the same state
 pub can_still : {M : Type 0} (maps : M → ℕ → Map) (spare : M → ℕ → ℕ) (limit : M → Option ℕ) (core new : CoreState M) (s : State) (i : ℕ) (change : Change) (wants : List Want) (deltas : List GroupDelta) (bytes entry_bytes : ℕ)
@@ -243,5 +255,7 @@ can_still maps spare limit core new s i change wants deltas bytes entry_bytes ca
   bytes_are = can.bytes_are;
   entry_bytes_are = can.entry_bytes_are;
   room = can.room;
+  data_room = can.data_room;
+  data_small = can.data_small;
   history_room = can.history_room;
 }

@@ -1,10 +1,13 @@
 //! Put.
 ghost use Rattle.std.specs.Prelude.{◌≡◌, ◌∷◌, [], ◌+◌, ◌-◌, ◌≤◌, ◌^◌, ℕ, List, map, min, ⊤, IfOk, IfSome, IfNone, OnErr};
 ghost use Rattle.std.specs.FinMap.{get};
+ghost use Rattle.std.specs.List.{sum};
+ghost use Rattle.iv_types.specs.Maps.{IsWithin, used};
+ghost use Rattle.iv_meaning.specs.Objects as defined;
 ghost use Rattle.iv_meaning.specs.Sound.{IsTable};
 ghost use Rattle.txn_machine.specs.Acts as act;
 ghost use Rattle.txn_machine.specs.Counts.{put_size, kept_change_size};
-ghost use Rattle.txn_machine.specs.Log.{Log};
+ghost use Rattle.txn_machine.specs.Log.{Log, growth_back, delta_entry};
 ghost use Rattle.txn_machine.specs.May.{MayAct};
 ghost use Rattle.txn_machine.specs.RowChanges.{row_change};
 ghost use Rattle.txn_machine.specs.State.{State};
@@ -14,7 +17,8 @@ ghost use Rattle.txn_book.specs.Acts.{answer_of};
 ghost use Rattle.txn_book.specs.Books.{IsOpenAnd, OfOpen, total_bytes};
 ghost use Rattle.core_state.specs.declared.limits.TheConstants.{MOST_OF_TRANSACTION, MOST_OF_HISTORY};
 ghost use Rattle.core_state.specs.Stands.{Began, Holds, Told};
-ghost use Rattle.core_changes.specs.Putting.{IsFreePut, CanPut, IsFull};
+ghost use Rattle.view_delta.specs.Owing.{RowsFit};
+ghost use Rattle.core_changes.specs.Putting.{IsFreePut, CanPut, DataFits, IsFull};
 
 use crate::ahead::reserve_ahead;
 use crate::room::make_room;
@@ -22,6 +26,7 @@ use core_effects::{Writing, take, write};
 use core_locks::ask_for;
 use core_state::{CoreState, MOST_OF_HISTORY, MOST_OF_TRANSACTION, fits};
 use data_past::{copied_deltas, ready_note, version_of};
+use data_room::rows_room;
 use iv_types::{
     Bytes, Change, DeltaList, EngineRefusal, GroupDelta, LockMode, NoMemory, Row, SortedMaps, Want,
     WantList, copied_perhaps,
@@ -77,20 +82,28 @@ fn wants_of(alloc: Global, owed: &[GroupDelta]) -> Result<Vec<WantList>, NoMemor
     Ok(wants)
 }
 
-// Why a change is refused that counts so many bytes in its session's transaction, and so many in the history, if it is.
+// Why a change is refused that counts so many bytes in its session's transaction, in the data and in the history, if it is.
 fn refusal<M: SortedMaps>(
     core: &CoreState<M>,
     session: u32,
     bytes: u64,
+    data_need: u64,
     entry_bytes: u64,
 ) -> Option<EngineRefusal>
-    requires { IsOpenAnd core.now.book session (λ o. ⊤) }
-    ensures none { IfNone result (OfOpen core.now.book session (λ o. o.txn_bytes + bytes ≤ MOST_OF_TRANSACTION) × (total_bytes core.now.book + entry_bytes ≤ MOST_OF_HISTORY)) }
-    ensures some { IfSome result (IsFull core.now.book session bytes entry_bytes) }
+    requires is_open { IsOpenAnd core.now.book session (λ o. ⊤) }
+    requires within { IsWithin core.now.data_room.limit (used (M.maps core.now.store.tables) + core.now.data_room.total) }
+    ensures none { IfNone result (OfOpen core.now.book session (λ o. o.txn_bytes + bytes ≤ MOST_OF_TRANSACTION) × DataFits M.maps core.now data_need × (total_bytes core.now.book + entry_bytes ≤ MOST_OF_HISTORY)) }
+    ensures some { IfSome result (IsFull M.maps core.now session bytes data_need entry_bytes) }
 {
     let kept = core.open_of(session).txn_bytes;
     if !fits(kept, bytes, MOST_OF_TRANSACTION) {
         return Some(EngineRefusal::TxnFull { kept, need: bytes });
+    }
+    if let Some(used) = core.full_of_data(data_need) {
+        return Some(EngineRefusal::DataFull {
+            used,
+            need: data_need,
+        });
     }
     let kept = core.book.history_bytes();
     if !fits(kept, entry_bytes, MOST_OF_HISTORY) {
@@ -100,6 +113,17 @@ fn refusal<M: SortedMaps>(
         });
     }
     None
+}
+
+// What a change keeps of the data for its transaction: by how much taking it back enlarges the entries, and the rows of the deltas
+// that it owes.
+fn kept_room<M: SortedMaps>(core: &CoreState<M>, change: &Change, owed: &[GroupDelta]) -> u64
+    requires { RowsFit (defined.schema_of core.now.store.catalog) change.now }
+    ensures { result ≡ min (growth_back (defined.schema_of core.now.store.catalog) (row_change change.now) + sum (map delta_entry owed.now)) (2 ^ 64 - 1) }
+{
+    core.store
+        .growth_back(change)
+        .saturating_add(rows_room(owed))
 }
 
 // Makes a change that is within the limits, whose locks are free.
@@ -132,6 +156,7 @@ fn put_within<M: SortedMaps>(
     let noting = ready_note(&core.store, change.table, change.key.as_slice())?;
     let version = version_of(core.alloc, &core.store.catalog, &change)?;
     let copies = copied_deltas(core.alloc, owed.as_slice())?;
+    let aside = kept_room(core, &change, owed.as_slice());
     let ready = core.store.tables.prepare(&core.store.catalog, change)?;
     take(core, session, wants);
     write(
@@ -148,6 +173,7 @@ fn put_within<M: SortedMaps>(
             history_bytes: entry_bytes,
         },
     );
+    core.data_room.set_aside(session, aside);
     Ok(Answer::Changed { before, owed: told })
 }
 
@@ -165,8 +191,9 @@ fn put_free<M: SortedMaps>(
     core.book.book_law();
     let owed = core.store.owed(&change)?;
     let bytes = core.store.put_size(&change, owed.as_slice());
+    let data_need = core.store.change_need(&change, owed.as_slice());
     let entry_bytes = core.store.kept_change_size(&change);
-    match refusal(core, session, bytes, entry_bytes) {
+    match refusal(core, session, bytes, data_need, entry_bytes) {
         Some(why) => Ok(Answer::Refused(why)),
         None => put_within(core, session, change, wants, owed, bytes, entry_bytes),
     }

@@ -1,29 +1,34 @@
 -- What is known of the first delta that a session owes.
-use Rattle.std.specs.Prelude.{◌≡◌, ◌≢◌, ℕ, zero, suc, ◌≤◌, ◌<◌, cond, List, [], ◌∷◌, drop, length, reverse, Option, None, Some, refl}
+use Rattle.std.specs.Prelude.{◌≡◌, ◌≢◌, ℕ, zero, suc, ◌+◌, ◌≤◌, ◌<◌, ℤ, cond, List, [], ◌∷◌, drop, length, reverse, Option, None, Some, refl}
 use Rattle.std.specs.List.{Contains}
-use Rattle.std.specs.FinMap.{insert}
+use Rattle.std.specs.FinMap.{get, insert}
+use Rattle.std.specs.Option.{option_map}
 use mathlib.Core.Path.{sym, ap, subst, ◌∙◌}
 use Rattle.std.proofs.Common.{arith}
 use Rattle.std.proofs.lemmas.Option.{slice_get_within}
 use Rattle.std.proofs.lemmas.List.Elements.{recursion_from_All, Contains-append_left}
 use Rattle.iv_types.specs.Maps.{Map, IsWithin, used, with_map}
 use Rattle.iv_types.specs.Encoding.{IsHuge}
+use Rattle.iv_types.proofs.MapSizes.{used_insert, used_present}
 use Rattle.iv_types.specs.declared.lock.GroupDelta.{GroupDelta}
 use Rattle.iv_types.specs.declared.lock.KeptStep.{KeptStep as BookStep}
 use Rattle.iv_types.specs.declared.lock.KeptStep.TheVariants as step
-use Rattle.iv_meaning.specs.Schema.{Schema, view, numbered}
+use Rattle.iv_meaning.specs.Schema.{Schema, view, ViewTree, numbered}
 use Rattle.table_laws.specs.Place.{Place}
 use Rattle.query_laws.specs.Limited.{IsLimited}
 use Rattle.query_laws.proofs.LimitedLemmas.{numbers_law}
 use Rattle.query_laws.proofs.Widths.{width_law}
 use Rattle.ghost_rows.specs.Kept as ghost
 use Rattle.ghost_rows.specs.Kept.{width}
+use Rattle.ghost_rows.specs.Numbers.{numbers_bytes}
 use Rattle.ghost_rows.specs.State.{IsReady, CanStore}
+use Rattle.ghost_rows.proofs.NumberSteps.{length_numbers}
 use Rattle.lock_desk.specs.PayWants.{wants_at}
 use Rattle.txn_machine.specs.Deltas.{place_of, is_for}
 use Rattle.txn_machine.specs.Keeping.{KeptStep, Put, Pay}
 use Rattle.txn_machine.specs.KeptLaws.{IsDelta}
-use Rattle.txn_machine.specs.Log.{Log}
+use Rattle.txn_machine.specs.Log.{Log, delta_entry}
+use Rattle.txn_machine.specs.Stored.{ViewRows, AreStored}
 use Rattle.txn_machine.specs.Store.{Store, now, schema_of}
 use Rattle.txn_book.specs.Opens.{open_at}
 use Rattle.txn_book.specs.Holding.{AreKept}
@@ -31,6 +36,8 @@ use Rattle.txn_book.specs.Txns.{txn_of}
 use Rattle.txn_book.specs.declared.open_table.Open.{Open as BookOpen}
 use Rattle.data_store.specs.Contents.{contents_of, pays_on}
 use Rattle.data_changes.specs.Paying.{HasFor}
+use Rattle.data_room.specs.Reserved.{Where}
+use Rattle.data_room.proofs.Wheres.{where_always, where_map, within_fewer}
 use Rattle.core_state.specs.Rooms.{IsCovered, still_owed, paid_on}
 use Rattle.core_state.specs.Stands.{Holds}
 use Rattle.core_state.specs.declared.state.CoreState.{CoreState}
@@ -72,11 +79,32 @@ module _ (objects : Schema) (limited : IsLimited objects) (d : GroupDelta) (is :
       let same : length d.group ≡ length (Rattle.iv_types.specs.Encoding.key_bytes _ is.group) = ap length is.key in
       omega (arith, most, bytes, same)
 
-  pub can_store : (maps : ℕ → Map) (limit : Option ℕ) → limit ≡ None → CanStore maps limit (place_of d) (width d)
-  can_store maps limit none value long = (
-    record { of_index = few_numbers objects d.view (view is.of) limited is.view_is; of_key = key_fits; of_value = let few = few_sums in omega (arith, long, few) },
-    subst (λ l. IsWithin l (used (with_map maps d.view (insert (maps d.view) d.group value)))) (sym none) tt,
+  -- its row takes the place of one that is as long, or there is room kept for its entry
+  pub can_store : (maps : ℕ → Map) (limit : Option ℕ) (rows : ViewRows) (total : ℕ) → AreStored objects rows → get (maps d.view) d.group ≡ option_map numbers_bytes (get rows (place_of d)) → IsWithin limit (used maps + total)
+      → (get rows (place_of d) ≡ None → Where limit (delta_entry d ≤ total)) → CanStore maps limit (place_of d) (width d)
+  can_store maps limit rows total shaped shows within room value long = (
+    record { of_index = at; of_key = key_fits; of_value = let few = few_sums in omega (arith, long, few) },
+    by (get rows (place_of d)) refl,
   )
+    where
+      at : d.view ≤ 192
+      at = few_numbers objects d.view (view is.of) limited is.view_is
+
+      by : (o : Option (List ℤ)) → get rows (place_of d) ≡ o → IsWithin limit (used (with_map maps d.view (insert (maps d.view) d.group value)))
+      by None e =
+          let more = used_insert maps d.view d.group value at (shows ∙ ap (option_map numbers_bytes) e) in
+          within_fewer limit (used maps + total) (used (with_map maps d.view (insert (maps d.view) d.group value)))
+          (where_map limit (λ (le : delta_entry d ≤ total). let less : used (with_map maps d.view (insert (maps d.view) d.group value)) ≤ used maps + total = omega (arith, more, long, le) in less) (room e)) within
+      by (Some ns) e =
+          let same = used_present maps d.view d.group value (numbers_bytes ns) at (shows ∙ ap (option_map numbers_bytes) e) in
+          let r = shaped (place_of d) ns e in
+          let one : Some (view r.of) ≡ Some (view is.of) = sym r.view_is ∙ is.view_is in
+          let of : r.of ≡ is.of = cc in
+          let wide : length ns ≡ suc (length is.of.sums) = r.width ∙ ap (λ (v : ViewTree). suc (length v.sums)) of in
+          let sums : length d.sums ≡ length is.of.sums = is.sums in
+          let bytes = length_numbers ns in
+          within_fewer limit (used maps + total) (used (with_map maps d.view (insert (maps d.view) d.group value)))
+          (where_always limit (let less : used (with_map maps d.view (insert (maps d.view) d.group value)) ≤ used maps + total = omega (arith, same, wide, sums, bytes, long) in less)) within
 
 module _ {M : Type 0} (maps : M → ℕ → Map) (spare : M → ℕ → ℕ) (limit : M → Option ℕ) (core : CoreState M) (s : Store) (l : Log) (texts : List (List ℕ)) (i : ℕ) (h : Holds maps spare limit core s l texts) (o : OwesFirst s i) where
   abbrev pub mine : Has (schema_of s) (open_at core.book.opens i) (now s i) (l.logged i)

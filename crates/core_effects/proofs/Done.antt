@@ -1,6 +1,6 @@
 -- What is told of an act whose effects are done.
 use Rattle.std.specs.Prelude.{◌≡◌, ◌≢◌, ℕ, ◌+◌, ◌≤◌, false, List, [], Option}
-use mathlib.Core.Path.{ap, ◌∙◌}
+use mathlib.Core.Path.{sym, ap, subst, ◌∙◌}
 use Rattle.iv_types.specs.Maps.{Map}
 use Rattle.iv_meaning.specs.Escrow.{IsSession}
 use Rattle.lock_manager.specs.Table as table
@@ -12,7 +12,7 @@ use Rattle.txn_machine.specs.State.{State, is_fault}
 use Rattle.txn_machine.specs.Steps.{Says, log_after, definitions_after}
 use Rattle.txn_machine.specs.Store.{Effect, run}
 use Rattle.core_state.specs.Seats.{machine_seat, machine_cleaner, seat_at}
-use Rattle.core_state.specs.Stands.{Began, Told, Holds, Counts, is_blocked}
+use Rattle.core_state.specs.Stands.{Began, Told, Holds, Reserves, Counts, IsOpening, is_blocked}
 use Rattle.core_state.specs.declared.state.CoreState.{CoreState}
 use Rattle.core_state.proofs.Unchanged.{not_blocked}
 use Rattle.core_effects.specs.Underway.{IsUnderway}
@@ -23,9 +23,10 @@ pub record AreUncounted {M : Type 0} (core new : CoreState M) : Type 0 where
   pub seats : new.seats ≡ core.seats
   pub cleaner : new.cleaner ≡ core.cleaner
   pub stop : new.stop ≡ core.stop
+  pub limit : new.data_room.limit ≡ core.data_room.limit
 
 pub uncounted_twice : {M : Type 0} (one two three : CoreState M) → AreUncounted one two → AreUncounted two three → AreUncounted one three
-uncounted_twice one two three a b = record { steps = b.steps ∙ a.steps; seats = b.seats ∙ a.seats; cleaner = b.cleaner ∙ a.cleaner; stop = b.stop ∙ a.stop }
+uncounted_twice one two three a b = record { steps = b.steps ∙ a.steps; seats = b.seats ∙ a.seats; cleaner = b.cleaner ∙ a.cleaner; stop = b.stop ∙ a.stop; limit = b.limit ∙ a.limit }
 
 module _ {M : Type 0} (maps : M → ℕ → Map) (spare : M → ℕ → ℕ) (limit : M → Option ℕ) (core new : CoreState M) (s : State) (i : ℕ) (h : Began maps spare limit core s i) where
   pub counts_as : AreUncounted core new → Counts maps spare limit new s
@@ -42,16 +43,18 @@ module _ {M : Type 0} (maps : M → ℕ → Map) (spare : M → ℕ → ℕ) (li
   }
 
   pub done_told : (a : Act) (said : Answer) (es : List Effect) → Says s i a said es → Holds maps spare limit new (run the_views s.store i es) (log_after s i a said es) (definitions_after s.definitions a said)
+      → Reserves maps spare limit new (run the_views s.store i es) (log_after s i a said es) (definitions_after s.definitions a said)
       → AreUncounted core new → (IsSession i → table.waiting_of new.locks i ≡ []) → ((j : ℕ) → IsSession j → j ≢ i → table.waiting_of new.locks j ≡ s.waiting j)
       → is_blocked said ≡ false → is_fault said ≡ false → (log_after s i a said es).begun ≤ s.log.begun + 1 → (log_after s i a said es).next ≤ s.log.next + 1
       → Told maps spare limit s i a said new
-  done_told a said es says holds same own others not fine begins appends = record {
+  done_told a said es says holds reserves same own others not fine begins appends = record {
     reached = h.reached;
-    opening = h.opening;
+    opening = subst (λ m. IsOpening m s) (sym same.limit) h.opening;
     runs = h.runs;
     effects = es;
     says = says;
     holds = holds;
+    reserves = reserves;
     own = λ sessions b. absurd (not_blocked said sessions b not);
     none = λ _ is. own is;
     waiting = others;
@@ -70,7 +73,7 @@ pub still_underway : {M : Type 0} (maps : M → ℕ → Map) (spare : M → ℕ 
     → (IsSession i → table.waiting_of new.locks i ≡ []) → ((j : ℕ) → j ≢ i → table.waiting_of new.locks j ≡ table.waiting_of core.locks j) → IsUnderway maps spare limit s i new
 still_underway maps spare limit core new s i u same own others = record {
   reached = u.reached;
-  opening = u.opening;
+  opening = subst (λ m. IsOpening m s) (sym same.limit) u.opening;
   runs = u.runs;
   own = own;
   waiting = λ j js n. others j n ∙ u.waiting j js n;
@@ -89,15 +92,17 @@ still_underway maps spare limit core new s i u same own others = record {
 
 pub told_by : {M : Type 0} (maps : M → ℕ → Map) (spare : M → ℕ → ℕ) (limit : M → Option ℕ) (new : CoreState M) (s : State) (i : ℕ) → IsUnderway maps spare limit s i new → (a : Act) (said : Answer) (es : List Effect) → Says s i a said es
     → Holds maps spare limit new (run the_views s.store i es) (log_after s i a said es) (definitions_after s.definitions a said)
+    → Reserves maps spare limit new (run the_views s.store i es) (log_after s i a said es) (definitions_after s.definitions a said)
     → is_blocked said ≡ false → is_fault said ≡ false → (log_after s i a said es).begun ≤ s.log.begun + 1 → (log_after s i a said es).next ≤ s.log.next + 1
     → Told maps spare limit s i a said new
-told_by maps spare limit new s i u a said es says holds not fine begins appends = record {
+told_by maps spare limit new s i u a said es says holds reserves not fine begins appends = record {
   reached = u.reached;
   opening = u.opening;
   runs = u.runs;
   effects = es;
   says = says;
   holds = holds;
+  reserves = reserves;
   own = λ sessions b. absurd (not_blocked said sessions b not);
   none = λ _ is. u.own is;
   waiting = u.waiting;

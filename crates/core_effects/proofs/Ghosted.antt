@@ -73,10 +73,11 @@ module _ {M : Type 0} (maps : M → ℕ → Map) (spare : M → ℕ → ℕ) (li
         next = h.next;
         row_mark = h.row_mark;
         delta_mark = h.delta_mark;
+        most = h.most;
         past = h.past;
         ahead = h.ahead;
-        rooms = rooms_changed (spare core.store.tables) (spare core.store.tables) (limit core.store.tables) (limit core.store.tables) core.store.catalog core.store.views core.store.views core.book after core.locks core.locks core.wants core.wants i
-            (ghosting (txn_of mine.txn)) good o.of_session h.rooms refl changes (λ n. let same : gone_if n (open_at core.book.opens i) ≡ gone_if n (Some mine.txn) = ap (gone_if n) mine.there in omega (arith, same)) (elsewhere_same i core.store.views core.locks core.wants)
+        rooms = rooms_changed (spare core.store.tables) (spare core.store.tables) core.store.catalog core.store.views core.store.views core.book after core.locks core.locks core.wants core.wants i
+            (ghosting (txn_of mine.txn)) good o.of_session h.rooms changes (λ n. let same : gone_if n (open_at core.book.opens i) ≡ gone_if n (Some mine.txn) = ap (gone_if n) mine.there in omega (arith, same)) (elsewhere_same i core.store.views core.locks core.wants)
             (covered_alike core.store.catalog core.store.views core.locks (wants_at core.wants i) i (txn_of mine.txn) (ghosting (txn_of mine.txn)) refl refl refl (h.rooms.each i o.of_session mine.txn mine.there).small (h.rooms.each i o.of_session mine.txn mine.there));
       }
 
@@ -85,9 +86,8 @@ module _ {M : Type 0} (maps : M → ℕ → Map) (spare : M → ℕ → ℕ) (li
 module _ {M : Type 0} (maps : M → ℕ → Map) (spare : M → ℕ → ℕ) (limit : M → Option ℕ) (core : CoreState M) (s : Store) (l : Log) (texts : List (List ℕ)) (i : ℕ) (h : Holds maps spare limit core s l texts) (o : OwesFirst s i)
     (tables : M) (views : ViewState) (same_limit : limit tables ≡ limit core.store.tables) (rows : views.rows ≡ core.store.views.rows) (rooms : views.rooms ≡ core.store.views.rooms)
     (spares : spare core.store.tables o.first.view ≤ spare tables o.first.view + 1) (other_spares : (n : ℕ) → n ≢ o.first.view → spare core.store.tables n ≤ spare tables n) (are : AreNumbered core.store.catalog) (good : IsBook core.book) where
-  rooms_made : HasRooms (spare tables) (limit tables) core.store.catalog views core.book.opens core.locks core.wants
+  rooms_made : HasRooms (spare tables) core.store.catalog views core.book.opens core.locks core.wants
   rooms_made = record {
-    unlimited = same_limit ∙ h.rooms.unlimited;
     limited = h.rooms.limited;
     undo = λ n. by_session n o.first.view
         (λ e. let none : all_gone n core.book.opens ≡ 0 = view_all_gone core.store.catalog are o.delta.of n (subst (λ k. numbered (defined.schema_of core.store.catalog) k ≡ Some (view o.delta.of)) (sym e) (subst (λ os. numbered os o.first.view ≡ Some (view o.delta.of)) (sym h.stored.objects) o.delta.view_is)) core.book.opens each_back in omega (arith, none))
@@ -106,7 +106,7 @@ module _ {M : Type 0} (maps : M → ℕ → Map) (spare : M → ℕ → ℕ) (li
       each_back (suc k) t there = let lt = has_place core.book.opens (suc k) t there in (h.rooms.each (suc k) (omega arith, omega (arith, lt, good.places)) t there).kept
 
   pub unmade_holds : IsHeld core.store.catalog (maps tables) views (contents_of s) → Holds maps spare limit (record core { store = record core.store { tables = tables; views = views } }) s l texts
-  unmade_holds stored = record { stored = stored; book = h.book; locks = h.locks; begun = h.begun; next = h.next; row_mark = h.row_mark; delta_mark = h.delta_mark; past = h.past; ahead = h.ahead; rooms = rooms_made }
+  unmade_holds stored = record { stored = stored; book = h.book; locks = h.locks; begun = h.begun; next = h.next; row_mark = h.row_mark; delta_mark = h.delta_mark; past = h.past; ahead = h.ahead; rooms = rooms_made; most = same_limit ∙ h.most }
 
   as_logged : (j : ℕ) → with_one l.logged i (l.logged i) j ≡ l.logged j
   as_logged j = by_session j i (λ e. one_same l.logged i (l.logged i) j e ∙ ap l.logged (sym e)) (λ n. one_other l.logged i (l.logged i) j n)
@@ -121,6 +121,7 @@ module _ {M : Type 0} (maps : M → ℕ → Map) (spare : M → ℕ → ℕ) (li
     next = ap (λ n. n + 1) h.next;
     row_mark = h.row_mark;
     delta_mark = h.delta_mark;
+    most = same_limit ∙ h.most;
     past = past_ghosts core.store.row_versions.versions core.store.delta_versions.versions core.store.pending.entries s h.past i (place_of o.first) (length (columns_of o.first));
     ahead = ahead_ghosts core.ahead core.store.row_versions.room core.store.delta_versions.room s h.ahead i (place_of o.first) (length (columns_of o.first));
     rooms = rooms_made;

@@ -5,13 +5,16 @@ use mathlib.Core.Logic.{inl, inr}
 use Rattle.iv_types.specs.Maps.{Map}
 use Rattle.iv_types.specs.declared.lock.KeptStep.{KeptStep as Step}
 use Rattle.iv_types.specs.declared.lock.KeptStep.TheVariants as step
+use Rattle.ghost_rows.specs.Kept.{width}
+use Rattle.ghost_rows.specs.State.{CanStore}
+use Rattle.txn_machine.specs.Deltas.{place_of}
 use Rattle.txn_machine.specs.Log.{Log}
-use Rattle.txn_machine.specs.Store.{Store}
+use Rattle.txn_machine.specs.Store.{Store, schema_of}
 use Rattle.txn_book.specs.Opens.{open_at}
 use Rattle.txn_book.specs.declared.open_table.Open.{Open as BookOpen}
 use Rattle.core_state.specs.Stands.{Holds}
 use Rattle.core_state.specs.declared.state.CoreState.{CoreState}
-use Rattle.core_effects.specs.Undoing.{KeepsPay, KeepsPut, KeepsOne, IsPay}
+use Rattle.core_effects.specs.Undoing.{KeepsPay, KeepsPut, KeepsOne, FitsBack, CanGoBack, IsPay}
 use Rattle.core_effects.proofs.Unpaid as pay
 use Rattle.core_effects.proofs.Unput as put
 
@@ -36,6 +39,17 @@ module _ {M : Type 0} (maps : M → ℕ → Map) (spare : M → ℕ → ℕ) (li
       a_pay e (inl o) = o
       a_pay e (inr o) = let it = put.last maps spare limit core s l texts i h o in
           absurd ((is (step.Put it.kept it.txn_bytes it.history_bytes it.number) it.steps (put.there_latest maps spare limit core s l texts i h o t there)).0 (subst IsTrue (sym e) refl))
+
+      -- with room to take it back
+      pub pay_room : (rows : ℕ → Map) (most : Option ℕ) → b ≡ true → (one : KeepsOne s i) → CanGoBack rows most s i one → (o : KeepsPay s i) × CanStore rows most (place_of o.latest) (width o.latest)
+      pay_room rows most e (inl o) room = (o, room)
+      pay_room rows most e (inr o) room = let it = put.last maps spare limit core s l texts i h o in
+          absurd ((is (step.Put it.kept it.txn_bytes it.history_bytes it.number) it.steps (put.there_latest maps spare limit core s l texts i h o t there)).0 (subst IsTrue (sym e) refl))
+
+      pub put_room : (rows : ℕ → Map) (most : Option ℕ) → b ≡ false → (one : KeepsOne s i) → CanGoBack rows most s i one → (o : KeepsPut s i) × FitsBack rows most (schema_of s) o.change
+      put_room rows most e (inr o) room = (o, room)
+      put_room rows most e (inl o) room = let it = pay.last maps spare limit core s l texts i h o in
+          absurd (is_false b e ((is (step.Pay o.latest it.before it.number) it.steps (pay.there_latest maps spare limit core s l texts i h o t there)).1 tt))
 
       pub a_put : b ≡ false → KeepsOne s i → KeepsPut s i
       a_put e (inr o) = o

@@ -56,9 +56,10 @@ module _ {M : Type 0} (maps : M → ℕ → Map) (spare : M → ℕ → ℕ) (li
         next = h.next;
         row_mark = h.row_mark;
         delta_mark = h.delta_mark;
+        most = h.most;
         past = past_notes core.store.row_versions.versions core.store.delta_versions.versions core.store.pending.entries s h.past i n o.of_session;
         ahead = ahead_notes core.ahead core.store.row_versions.room core.store.delta_versions.room s h.ahead i n;
-        rooms = rooms_changed (spare core.store.tables) (spare core.store.tables) (limit core.store.tables) (limit core.store.tables) core.store.catalog core.store.views core.store.views core.book after core.locks core.locks core.wants core.wants i
-            (noting (txn_of mine.txn) bytes) good o.of_session h.rooms refl changes (λ index. let same : gone_if index (open_at core.book.opens i) ≡ gone_if index (Some mine.txn) = ap (gone_if index) mine.there in omega (arith, same)) (elsewhere_same i core.store.views core.locks core.wants)
+        rooms = rooms_changed (spare core.store.tables) (spare core.store.tables) core.store.catalog core.store.views core.store.views core.book after core.locks core.locks core.wants core.wants i
+            (noting (txn_of mine.txn) bytes) good o.of_session h.rooms changes (λ index. let same : gone_if index (open_at core.book.opens i) ≡ gone_if index (Some mine.txn) = ap (gone_if index) mine.there in omega (arith, same)) (elsewhere_same i core.store.views core.locks core.wants)
             (covered_alike core.store.catalog core.store.views core.locks (wants_at core.wants i) i (txn_of mine.txn) (noting (txn_of mine.txn) bytes) refl refl refl (fits mine.txn mine.there) (h.rooms.each i o.of_session mine.txn mine.there));
       }

@@ -86,10 +86,10 @@ module _ {M : Type 0} (maps : M → ℕ → Map) (spare : M → ℕ → ℕ) (li
     next = h.next;
     row_mark = h.row_mark;
     delta_mark = h.delta_mark;
+    most = same_limit ∙ h.most;
     past = h.past;
     ahead = h.ahead;
     rooms = record {
-      unlimited = same_limit ∙ h.rooms.unlimited;
       limited = h.rooms.limited;
       undo = λ index. subst (λ t. Rattle.core_state.specs.Rooms.all_gone index core.book.opens ≤ spare t index) (sym same) (h.rooms.undo index);
       each = λ j js t there. let c = h.rooms.each j js t there in record {
@@ -168,10 +168,11 @@ module _ {M : Type 0} (maps : M → ℕ → Map) (spare : M → ℕ → ℕ) (li
           next = ap (λ n. n + 1) h.next;
           row_mark = h.row_mark;
           delta_mark = h.delta_mark;
+          most = same_limit ∙ h.most;
           past = subst (IsPast core.store.row_versions.versions core.store.delta_versions.versions core.store.pending.entries) does_is (past_pays core.store.row_versions.versions core.store.delta_versions.versions core.store.pending.entries s h.past i o.is_open.of_session);
           ahead = subst (IsAhead core.ahead core.store.row_versions.room core.store.delta_versions.room) does_is (ahead_pays core.ahead core.store.row_versions.room core.store.delta_versions.room s h.ahead i d o.others o.owed_is);
-          rooms = rooms_changed (spare core.store.tables) (spare tables) (limit core.store.tables) (limit tables) core.store.catalog core.store.views views core.book after core.locks core.locks core.wants wants i
-              (paying t d o.others before core.next) good o.is_open.of_session h.rooms same_limit changes
+          rooms = rooms_changed (spare core.store.tables) (spare tables) core.store.catalog core.store.views views core.book after core.locks core.locks core.wants wants i
+              (paying t d o.others before core.next) good o.is_open.of_session h.rooms changes
               (λ index. let same : gone_if index (open_at core.book.opens i) ≡ gone_if index (Some (mine maps spare limit core s l texts i h o).txn) = ap (gone_if index) (mine maps spare limit core s l texts i h o).there in let more = spares index in omega (arith, same, more))
               (record { of_locks = λ j n. refl; of_wants = others; of_buffers = λ j n. let same = moves.others j n in omega (arith, same); of_seats = λ j place n has. seats j place has })
               (covered_after moves prefixes next);

@@ -46,6 +46,7 @@ module _ {M : Type 0} (maps : M → ℕ → Map) (spare : M → ℕ → ℕ) (li
   locks_began after more reserved = record {
     reached = h.reached;
     opening = h.opening;
+    reserves = h.reserves;
     runs = h.runs;
     holds = record {
       stored = h.holds.stored;
@@ -55,9 +56,10 @@ module _ {M : Type 0} (maps : M → ℕ → Map) (spare : M → ℕ → ℕ) (li
       next = h.holds.next;
       row_mark = h.holds.row_mark;
       delta_mark = h.holds.delta_mark;
+      most = h.holds.most;
       past = h.holds.past;
       ahead = h.holds.ahead;
-      rooms = rooms_with (spare core.store.tables) (spare core.store.tables) (limit core.store.tables) (limit core.store.tables) core.store.catalog core.store.views core.store.views core.book.opens core.book.opens core.locks after core.wants core.wants i (open_at core.book.opens i) h.holds.rooms refl h.holds.rooms.undo refl (λ j n. refl)
+      rooms = rooms_with (spare core.store.tables) (spare core.store.tables) core.store.catalog core.store.views core.store.views core.book.opens core.book.opens core.locks after core.wants core.wants i (open_at core.book.opens i) h.holds.rooms h.holds.rooms.undo refl (λ j n. refl)
           (record { of_locks = reserved.others; of_wants = λ j n. refl; of_buffers = λ j n. omega arith; of_seats = λ j place n has. has })
           (λ t is js. let c = h.holds.rooms.each i js t is in record {
             wanted = subst (λ (p : SessionLocks). AreWanted p.room p.locks p.waiting (wants_at core.wants i) (still_owed (txn_of t))) (sym reserved.changed)

@@ -68,7 +68,7 @@ module _ {M : Type 0} (maps : M → ℕ → Map) (spare : M → ℕ → ℕ) (li
       (subst (λ x. book.IsSame (schema_of s) (open_at core.book.opens j) (s.open_of j) x) (sym (one_other l.logged i (l.logged i) j n)) (h.book.txns j js))))
 
   -- whatever stands ready then
-  pub taken_holds : HasRooms (spare core.store.tables) (limit core.store.tables) core.store.catalog core.store.views core.book.opens after back
+  pub taken_holds : HasRooms (spare core.store.tables) core.store.catalog core.store.views core.book.opens after back
       → Holds maps spare limit (record core { locks = after; wants = back }) (does the_views s i (Takes wants)) (logs s i a (Takes wants) l) texts
   taken_holds rooms = record {
     stored = subst (IsHeld core.store.catalog (maps core.store.tables) core.store.views)
@@ -83,6 +83,7 @@ module _ {M : Type 0} (maps : M → ℕ → Map) (spare : M → ℕ → ℕ) (li
     next = h.next;
     row_mark = h.row_mark;
     delta_mark = h.delta_mark;
+    most = h.most;
     past = past_takes core.store.row_versions.versions core.store.delta_versions.versions core.store.pending.entries s h.past i wants o.of_session;
     ahead = ahead_takes core.ahead core.store.row_versions.room core.store.delta_versions.room s h.ahead i wants;
     rooms = rooms;
@@ -90,9 +91,9 @@ module _ {M : Type 0} (maps : M → ℕ → Map) (spare : M → ℕ → ℕ) (li
 
   -- a session that owes nothing
   pub none_rooms : back ≡ core.wants → ((t : Rattle.txn_book.specs.declared.open_table.Open.Open) → open_at core.book.opens i ≡ Some t → still_owed (txn_of t) ≡ [])
-      → HasRooms (spare core.store.tables) (limit core.store.tables) core.store.catalog core.store.views core.book.opens after back
+      → HasRooms (spare core.store.tables) core.store.catalog core.store.views core.book.opens after back
   none_rooms same nothing =
-      rooms_with (spare core.store.tables) (spare core.store.tables) (limit core.store.tables) (limit core.store.tables) core.store.catalog core.store.views core.store.views core.book.opens core.book.opens core.locks after core.wants back i (open_at core.book.opens i) h.rooms refl h.rooms.undo refl (λ j n. refl)
+      rooms_with (spare core.store.tables) (spare core.store.tables) core.store.catalog core.store.views core.store.views core.book.opens core.book.opens core.locks after core.wants back i (open_at core.book.opens i) h.rooms h.rooms.undo refl (λ j n. refl)
       (record { of_locks = granted.others; of_wants = λ j n. ap (λ ws. wants_at ws j) same; of_buffers = λ j n. omega arith; of_seats = λ j place n has. has })
       (λ t is js. let c = h.rooms.each i js t is in record {
         wanted = subst (AreWanted (table.room_of after i) (table.locks_of after i) (table.waiting_of after i) (wants_at back i)) (sym (nothing t is)) tt;

@@ -172,10 +172,11 @@ module _ {M : Type 0} (maps : M → ℕ → Map) (spare : M → ℕ → ℕ) (li
           next = ap (λ n. n + 1) h.next;
           row_mark = h.row_mark;
           delta_mark = h.delta_mark;
+          most = same_limit ∙ h.most;
           past = subst (IsPast core.store.row_versions.versions core.store.delta_versions.versions core.store.pending.entries) does_is (past_unpaid core.store.row_versions.versions core.store.delta_versions.versions core.store.pending.entries s h.past i o.is_open.of_session d o.earlier o.kept_is);
           ahead = subst (IsAhead core.ahead core.store.row_versions.room core.store.delta_versions.room) does_is (ahead_unpaid core.ahead core.store.row_versions.room core.store.delta_versions.room s h.ahead i d o.earlier o.kept_is);
-          rooms = rooms_changed (spare core.store.tables) (spare tables) (limit core.store.tables) (limit tables) core.store.catalog core.store.views views core.book after core.locks core.locks core.wants core.wants i
-              t_after good o.is_open.of_session h.rooms same_limit changes
+          rooms = rooms_changed (spare core.store.tables) (spare tables) core.store.catalog core.store.views views core.book after core.locks core.locks core.wants core.wants i
+              t_after good o.is_open.of_session h.rooms changes
               (λ index. let same : gone_if index (open_at core.book.opens i) ≡ gone_of index last.steps = ap (gone_if index) mine.there ∙ ap (gone_of index) last.is in let more = spares index in omega (arith, same, more))
               (record { of_locks = λ j n. refl; of_wants = λ j n. refl; of_buffers = λ j n. let same = moves.others j n in omega (arith, same); of_seats = λ j place n has. seats j place has })
               (covered_after moves);

@@ -14,7 +14,8 @@ use Rattle.iv_types.specs.declared.lock.Kept.{Kept}
 use Rattle.iv_types.specs.declared.lock.KeptStep.{KeptStep as BookStep}
 use Rattle.iv_types.specs.declared.lock.KeptStep.TheVariants as step
 use Rattle.iv_meaning.specs.Database.{Row}
-use Rattle.iv_meaning.specs.Schema.{numbered, table}
+use Rattle.iv_meaning.specs.Objects as defined
+use Rattle.iv_meaning.specs.Schema.{Schema, numbered, table}
 use Rattle.table_store.specs.Stored.{table_of, IsTableAnd, StandsUnder}
 use Rattle.table_store.specs.Changes.{IsKept, CanTakeBack, TakesRoom, how_many, gone_by, sizes}
 use Rattle.table_store.proofs.Fresh.{in_schema}
@@ -27,7 +28,7 @@ use Rattle.txn_machine.specs.Deltas.{RowChange}
 use Rattle.txn_machine.specs.Ghosts.{the_views}
 use Rattle.txn_machine.specs.Keeping.{KeptStep, Put, Open, changes_of}
 use Rattle.txn_machine.specs.Locks.{with_one}
-use Rattle.txn_machine.specs.Log.{Log, Logged, logs, undoes, undo_record, appended, with_logged, rest}
+use Rattle.txn_machine.specs.Log.{Log, Logged, logs, perhaps_entries, undoes, undo_record, appended, with_logged, rest}
 use Rattle.txn_machine.specs.May.{FitsUnder}
 use Rattle.txn_machine.specs.Records.{Undo}
 use Rattle.txn_machine.specs.RowChanges.{row_change}
@@ -54,12 +55,14 @@ use Rattle.data_past.specs.declared.versions.Versions.{Versions}
 use Rattle.data_past.proofs.Aheads.{ahead_unput, rows_many, deltas_many}
 use Rattle.data_past.proofs.Effects.{past_unput}
 use Rattle.spare_map.specs.Spared.{Spared}
+use Rattle.data_room.proofs.Counted.{change_sizes}
+use Rattle.data_room.proofs.Wheres.{where_always, within_fewer}
 use Rattle.core_state.specs.Rooms.{IsCovered, CanBeTakenBack, gone_if, gone_of, still_owed, paid}
 use Rattle.core_state.specs.Stands.{Holds}
 use Rattle.core_state.specs.declared.state.CoreState.{CoreState}
 use Rattle.core_state.proofs.Rooms.{rooms_changed, gone_set}
 use Rattle.core_state.proofs.Sessions.{contents_as, kept_of, locks_same}
-use Rattle.core_effects.specs.Undoing.{KeepsPut}
+use Rattle.core_effects.specs.Undoing.{KeepsPut, FitsBack}
 use Rattle.core_effects.proofs.Opened.{Has, own}
 use Rattle.core_effects.proofs.Entries.{each_held}
 use Rattle.core_effects.proofs.Gone.{its_number}
@@ -96,7 +99,7 @@ module _ {M : Type 0} (maps : M → ℕ → Map) (spare : M → ℕ → ℕ) (li
   covered : IsCovered core.store.catalog core.store.views core.locks (wants_at core.wants i) i (txn_of mine.txn)
   covered = h.rooms.each i o.is_open.of_session mine.txn mine.there
 
-  back_of : CanBeTakenBack core.store.catalog (step.Put last.kept last.txn_bytes last.history_bytes last.number ∷ last.steps)
+  pub back_of : CanBeTakenBack core.store.catalog (step.Put last.kept last.txn_bytes last.history_bytes last.number ∷ last.steps)
   back_of = subst (CanBeTakenBack core.store.catalog) last.is covered.kept
 
   gone_here : (n : ℕ) → gone_if n (open_at core.book.opens i) ≡ how_many n last.kept.gone + gone_of n last.steps
@@ -110,8 +113,8 @@ module _ {M : Type 0} (maps : M → ℕ → Map) (spare : M → ℕ → ℕ) (li
       let here = gone_here n in
       omega (arith, all, room, here)
 
-  pub can_take_back : AreNumbered core.store.catalog → IsTableAnd core.store.catalog last.kept.change.table (CanTakeBack core.store.catalog last.kept (maps core.store.tables) (spare core.store.tables) (limit core.store.tables))
-  can_take_back are =
+  pub can_take_back : AreNumbered core.store.catalog → FitsBack (maps core.store.tables) (limit core.store.tables) (schema_of s) o.change → IsTableAnd core.store.catalog last.kept.change.table (CanTakeBack core.store.catalog last.kept (maps core.store.tables) (spare core.store.tables) (limit core.store.tables))
+  can_take_back are fits_back =
       let is = back_of.0 in
       let t : TableDef = is.0 in
       let here : table_of core.store.catalog t.number ≡ Some t = its_number core.store.catalog are last.kept.change.table t is.1 in
@@ -124,10 +127,27 @@ module _ {M : Type 0} (maps : M → ℕ → Map) (spare : M → ℕ → ℕ) (li
           there = record { rows = s.rows; held = h.stored.tables t here; is = subst (λ n. get s.rows (n, last.kept.change.key) ≡ last.kept.change.after) (sym same_number) (subst (λ (c : RowChange). get s.rows c.key ≡ c.after) (sym last.change) o.there) };
           row_before = stands_under t last.kept.change.key last.kept.change.before before;
           can_hold = subst Rattle.table_store.specs.Changes.CanHoldEach (sym is.2.removed) (each_held core.store.catalog are h.rooms.limited t here last.kept.change.key last.kept.change.before last.kept.change.after (stands_under t last.kept.change.key last.kept.change.before before));
-          room = record { places = λ n. let fits = gone_fits n in omega (arith, fits); within = subst (λ m. IsWithin m (used (maps core.store.tables) + sizes last.kept.gone - sizes last.kept.made)) (sym h.rooms.unlimited) tt };
+          room = record { places = λ n. let fits = gone_fits n in omega (arith, fits); within = within_then t is.1 same_number is.2 };
         },
       )
     where
+      within_then : (t : TableDef) → table_of core.store.catalog last.kept.change.table ≡ Some t → t.number ≡ last.kept.change.table → IsKept core.store.catalog last.kept.change last.kept t
+          → IsWithin (limit core.store.tables) (used (maps core.store.tables) + sizes last.kept.gone - sizes last.kept.made)
+      within_then t found same kept =
+          let key : List ℕ = last.kept.change.key in
+          let n : ℕ = last.kept.change.table in
+          let objects : Schema = defined.schema_of core.store.catalog in
+          let changed = change_sizes core.store.catalog t n same (in_schema core.store.catalog n t found) key last.kept.change.before last.kept.change.after in
+          let gone = ap sizes kept.removed in
+          let made = ap sizes kept.made in
+          let fits : FitsBack (maps core.store.tables) (limit core.store.tables) objects (row_change last.kept.change) =
+          subst (λ (os : Schema). FitsBack (maps core.store.tables) (limit core.store.tables) os (row_change last.kept.change)) (sym h.stored.objects)
+          (subst (FitsBack (maps core.store.tables) (limit core.store.tables) (schema_of s)) (sym last.change) fits_back) in
+          let before : ℕ = perhaps_entries objects (n, key) last.kept.change.before in
+          let after : ℕ = perhaps_entries objects (n, key) last.kept.change.after in
+          within_fewer (limit core.store.tables) (used (maps core.store.tables) + before - after) (used (maps core.store.tables) + sizes last.kept.gone - sizes last.kept.made)
+          (where_always (limit core.store.tables) (let less : used (maps core.store.tables) + sizes last.kept.gone - sizes last.kept.made ≤ used (maps core.store.tables) + before - after = omega (arith, changed, gone, made) in less)) fits
+
       number_is : (t : TableDef) (n : ℕ) → table_of core.store.catalog n ≡ Some t → AreNumbered core.store.catalog → t.number ≡ n
       number_is t n e are = Rattle.table_store.proofs.TableIndexes.table_number core.store.catalog n t are e
 
@@ -215,13 +235,14 @@ module _ {M : Type 0} (maps : M → ℕ → Map) (spare : M → ℕ → ℕ) (li
           next = ap (λ n. n + 1) h.next;
           row_mark = h.row_mark;
           delta_mark = h.delta_mark;
+          most = same_limit ∙ h.most;
           past = subst (IsPast core.store.row_versions.versions core.store.delta_versions.versions pending.entries) does_is
               (past_unput core.store.row_versions.versions core.store.delta_versions.versions core.store.pending.entries s h.past i o.is_open.of_session pending.entries o.change o.owed o.earlier o.kept_is
               (subst (λ (c : RowChange). ChangesAt c.key one_less core.store.pending.entries pending.entries) last.change forgot));
           ahead = subst (IsAhead ahead core.store.row_versions.room core.store.delta_versions.room) does_is
               (ahead_unput core.ahead core.store.row_versions.room core.store.delta_versions.room s h.ahead i o.change o.owed o.earlier o.kept_is owed (owed_is ∙ owed_many) ahead removed);
-          rooms = rooms_changed (spare core.store.tables) (spare tables) (limit core.store.tables) (limit tables) core.store.catalog core.store.views core.store.views core.book after core.locks core.locks core.wants core.wants i
-              t_after good o.is_open.of_session h.rooms same_limit changes
+          rooms = rooms_changed (spare core.store.tables) (spare tables) core.store.catalog core.store.views core.store.views core.book after core.locks core.locks core.wants core.wants i
+              t_after good o.is_open.of_session h.rooms changes
               (λ index. let here = gone_here index in let room = takes index in omega (arith, here, room))
               (record { of_locks = λ j n. refl; of_wants = λ j n. refl; of_buffers = λ j n. omega arith; of_seats = λ j place n has. has })
               covered_after;

@@ -132,14 +132,15 @@ module _ {M : Type 0} (maps : M → ℕ → Map) (spare : M → ℕ → ℕ) (li
         next = ap (λ n. n + 1) h.next;
         row_mark = h.row_mark;
         delta_mark = h.delta_mark;
+        most = same_limit ∙ h.most;
         past = subst (IsPast core.store.row_versions.versions core.store.delta_versions.versions pending.entries) does_is
             (past_writes core.store.row_versions.versions core.store.delta_versions.versions core.store.pending.entries s h.past i can.is_open.of_session c.key pending.entries c.after w.noting.committed can.noted.committed
             (subst (λ (p : Place). ChangesAt p (one_more w.noting.committed) core.store.pending.entries pending.entries) can.noted.is_of counts));
         ahead = ahead_writes core.ahead core.store.row_versions.room core.store.delta_versions.room s h.ahead i can.owes_none c owed store_after refl refl w.version version_is ahead
             (subst (λ ds. Becomes core.ahead ahead i (rows_at core.ahead i ++ w.version ∷ []) (deltas_at core.ahead i ++ ds)) can.ahead.copies added) can.ahead.row_room
             (subst (λ ds. all_deltas core.ahead + length ds ≤ core.store.delta_versions.room) can.ahead.copies can.ahead.delta_room);
-        rooms = rooms_moved (spare core.store.tables) (spare tables) (limit core.store.tables) (limit tables) core.store.catalog core.store.views core.store.views core.book after core.locks core.locks core.wants wants i
-            t_after good can.is_open.of_session h.rooms same_limit changes
+        rooms = rooms_moved (spare core.store.tables) (spare tables) core.store.catalog core.store.views core.store.views core.book after core.locks core.locks core.wants wants i
+            t_after good can.is_open.of_session h.rooms changes
             (λ index. let here : gone_if index (open_at core.book.opens i) ≡ gone_of index (txn_of mine.txn).kept = ap (gone_if index) mine.there in let room = takes index in let undo = can.undo index in omega (arith, here, room, undo))
             (record { of_locks = λ j n. refl; of_wants = others; of_buffers = λ j n. omega arith; of_seats = λ j place n has. has })
             (covered_after wants (set ∙ can.wants));

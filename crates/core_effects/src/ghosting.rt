@@ -2,6 +2,8 @@
 ghost use Rattle.std.specs.Prelude.{◌≡◌, ◌<◌, ◌^◌, ℕ, List, length, is_some, None, OnOk, OnErr};
 ghost use Rattle.std.specs.FinMap.{get};
 ghost use Rattle.iv_meaning.specs.Escrow.{IsSession};
+ghost use Rattle.ghost_rows.specs.Kept.{width};
+ghost use Rattle.ghost_rows.specs.State.{CanStore};
 ghost use Rattle.txn_machine.specs.Acts.{Act};
 ghost use Rattle.txn_machine.specs.Deltas.{place_of, columns_of};
 ghost use Rattle.txn_machine.specs.Ghosts.{the_views};
@@ -37,7 +39,8 @@ pub fn has_row<M: SortedMaps>(core: &CoreState<M>, session: u32) -> bool
 /// Where there is no memory for it. Nothing is changed then but room.
 pub fn make_row<M: SortedMaps>(core: &mut CoreState<M>, session: u32) -> Result<(), NoMemory>
     requires next { core.old.next < 2 ^ 63 }
-    requires absent { (s : Store) × (l : Log) × (texts : List (List ℕ)) × Holds M.maps M.spare M.limit core.old s l texts × (o : OwesFirst s session) × (get s.view (place_of o.first) ≡ None) }
+    requires absent { (s : Store) × (l : Log) × (texts : List (List ℕ)) × Holds M.maps M.spare M.limit core.old s l texts × (o : OwesFirst s session) × (get s.view (place_of o.first) ≡ None)
+        × CanStore (M.maps core.old.store.tables) (M.limit core.old.store.tables) (place_of o.first) (width o.first) }
     ensures made { OnOk result ((s : Store) (l : Log) (texts : List (List ℕ)) (o : OwesFirst s session) (a : Act) → Holds M.maps M.spare M.limit core.old s l texts → get s.view (place_of o.first) ≡ None
         → Holds M.maps M.spare M.limit core.new (does the_views s session (Ghosts (place_of o.first) (length (columns_of o.first)))) (logs s session a (Ghosts (place_of o.first) (length (columns_of o.first))) l) texts) }
     ensures err { OnErr result ((s : Store) (l : Log) (texts : List (List ℕ)) → OwesFirst s session → Holds M.maps M.spare M.limit core.old s l texts → Holds M.maps M.spare M.limit core.new s l texts) }

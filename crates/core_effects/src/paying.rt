@@ -5,7 +5,7 @@ ghost use Rattle.table_laws.specs.Place.{Place};
 ghost use Rattle.iv_types.specs.declared.lock.GroupDelta.{GroupDelta as Delta};
 ghost use Rattle.iv_meaning.specs.Escrow.{IsSession};
 ghost use Rattle.ghost_rows.specs.Kept.{width, ArePrefixes};
-ghost use Rattle.ghost_rows.specs.State.{HasSeat, MovesRoom};
+ghost use Rattle.ghost_rows.specs.State.{CanStore, HasSeat, MovesRoom};
 ghost use Rattle.txn_machine.specs.Acts.{Act};
 ghost use Rattle.txn_machine.specs.Deltas.{place_of};
 ghost use Rattle.txn_machine.specs.Ghosts.{the_views};
@@ -37,7 +37,8 @@ pub fn first_owed(txn: &Open) -> &GroupDelta
 // Adds the first owed delta to its row, and answers the session's prefixes on the row before it.
 fn add_first<M: SortedMaps>(core: &mut CoreState<M>, session: u32) -> Result<PrefixList, PayRefusal>
     requires session { IsSession session }
-    requires owes { (s : Store) × (l : Log) × (texts : List (List ℕ)) × Holds M.maps M.spare M.limit core.old s l texts × OwesFirst s session }
+    requires owes { (s : Store) × (l : Log) × (texts : List (List ℕ)) × Holds M.maps M.spare M.limit core.old s l texts × (o : OwesFirst s session)
+        × CanStore (M.maps core.old.store.tables) (M.limit core.old.store.tables) (place_of o.first) (width o.first) }
     ensures paid { OnOk result ((s : Store) (l : Log) (texts : List (List ℕ)) (o : OwesFirst s session) → Holds M.maps M.spare M.limit core.old s l texts → IsHeld core.new.store.catalog (M.maps core.new.store.tables) core.new.store.views (with_pay (contents_of s) session o.first)) }
     ensures before { IfOk result (λ before. (s : Store) (l : Log) (texts : List (List ℕ)) (o : OwesFirst s session) → Holds M.maps M.spare M.limit core.old s l texts → ArePrefixes before (width o.first) (pays_on (place_of o.first) ((contents_of s).kept session))) }
     ensures allowed { OnOk result ((s : Store) (l : Log) (texts : List (List ℕ)) (o : OwesFirst s session) → Holds M.maps M.spare M.limit core.old s l texts → Allows s session o × (get s.view (place_of o.first) ≡ None → ⊥)) }
@@ -65,7 +66,8 @@ fn add_first<M: SortedMaps>(core: &mut CoreState<M>, session: u32) -> Result<Pre
 pub fn pay_first<M: SortedMaps>(core: &mut CoreState<M>, session: u32) -> Result<(), PayRefusal>
     requires session { IsSession session }
     requires next { core.old.next < 2 ^ 63 }
-    requires owes { (s : Store) × (l : Log) × (texts : List (List ℕ)) × Holds M.maps M.spare M.limit core.old s l texts × OwesFirst s session }
+    requires owes { (s : Store) × (l : Log) × (texts : List (List ℕ)) × Holds M.maps M.spare M.limit core.old s l texts × (o : OwesFirst s session)
+        × CanStore (M.maps core.old.store.tables) (M.limit core.old.store.tables) (place_of o.first) (width o.first) }
     ensures paid { OnOk result ((s : Store) (l : Log) (texts : List (List ℕ)) (a : Act) → Holds M.maps M.spare M.limit core.old s l texts → OwesFirst s session
         → Holds M.maps M.spare M.limit core.new (does the_views s session Pays) (logs s session a Pays l) texts) }
     ensures allowed { OnOk result ((s : Store) (l : Log) (texts : List (List ℕ)) (o : OwesFirst s session) → Holds M.maps M.spare M.limit core.old s l texts → Allows s session o × (get s.view (place_of o.first) ≡ None → ⊥)) }

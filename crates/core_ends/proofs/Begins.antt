@@ -19,7 +19,7 @@ use Rattle.txn_machine.specs.Keeping as machine
 use Rattle.txn_machine.specs.Keeping.{Open, idle}
 use Rattle.txn_machine.specs.Store.{committed, schema_of, with_txn, Opens}
 use Rattle.txn_machine.specs.Counts.{definition_sizes, entry_size, most_of_history}
-use Rattle.txn_machine.specs.Log.{Log, Logged, Within, begins, begun_after, reserved, end_bytes}
+use Rattle.txn_machine.specs.Log.{Log, Logged, Within, begins, begun_after, reserved, end_bytes, room_kept}
 use Rattle.txn_machine.specs.State.{State}
 use Rattle.txn_machine.specs.Steps.{MayBegin, history_bytes}
 use Rattle.std.proofs.lemmas.Option.{none-some}
@@ -36,6 +36,7 @@ use Rattle.data_store.specs.Contents.{contents_of}
 use Rattle.data_store.specs.Held.{IsHeld}
 use Rattle.data_past.proofs.Aheads.{ahead_opens}
 use Rattle.data_past.proofs.Effects.{past_opens}
+use Rattle.data_room.proofs.Kept.{reserved_one}
 use Rattle.core_state.specs.Stands.{Began, Told}
 use Rattle.core_state.proofs.Unchanged.{unchanged_told}
 use Rattle.core_state.specs.declared.state.CoreState.{CoreState}
@@ -59,7 +60,7 @@ module _ {M : Type 0} (maps : M → ℕ → Map) (spare : M → ℕ → ℕ) (li
 
   -- a serial one fits where it was looked for
   pub may_begin : total_bytes core.book + entry_size ≤ most_of_history → MayBegin s Serial
-  may_begin room = (subst (λ o. Within o.log_limit (s.log.used + reserved s.store s.log + end_bytes)) (sym h.opening) tt, subst (λ n. n + entry_size ≤ most_of_history) counted room)
+  may_begin room = (subst (λ o. Within o.log_limit (s.log.used + reserved s.store s.log + end_bytes)) (sym h.opening.is) tt, subst (λ n. n + entry_size ≤ most_of_history) counted room)
 
   abbrev number : ℕ
   number = (committed s.store).number
@@ -74,6 +75,11 @@ module _ {M : Type 0} (maps : M → ℕ → Map) (spare : M → ℕ → ℕ) (li
       (λ j n. (one_other s.store.open_of i (Some (machine.begun mode number)) j n, one_other s.log.logged i l j n))
       (begun mode number id) (machine.begun mode number) (subst (λ n. Changes core.book after i (begun mode n id)) h.holds.book.number changes) (one_same s.store.open_of i (Some (machine.begun mode number)) i refl)
       (subst (book.IsTxn (schema_of s.store) (begun mode number id) (machine.begun mode number)) (sym (one_same s.log.logged i l i refl ∙ logged)) (begun_is (schema_of s.store) mode number id))
+
+  -- it keeps nothing of the data yet
+  begun_keeps : (mode : Mode) → room_kept (schema_of s.store) (Some (machine.begun mode number)) (begins mode s.log).ghosted ≡ 0
+  begun_keeps Serial = refl
+  begun_keeps Snapshot = refl
 
   pub begun_told : (mode : Mode) (id more told defs : ℕ) (after : Books) → MayBegin s mode → Changes core.book after i (begun mode (number_of core.book) id)
       → begins mode s.log ≡ record { transaction = id; kept = []; wrote = false; ghosted = false } → more ≡ begun_after (Opens mode) s.log.begun → more ≤ s.log.begun + 1
@@ -100,11 +106,14 @@ module _ {M : Type 0} (maps : M → ℕ → Map) (spare : M → ℕ → ℕ) (li
       next = h.holds.next;
       row_mark = h.holds.row_mark;
       delta_mark = h.holds.delta_mark;
+      most = h.holds.most;
       past = past_opens core.store.row_versions.versions core.store.delta_versions.versions core.store.pending.entries s.store h.holds.past i mode is none;
       ahead = ahead_opens core.ahead core.store.row_versions.room core.store.delta_versions.room s.store h.holds.ahead i mode none;
-      rooms = rooms_changed (spare core.store.tables) (spare core.store.tables) (limit core.store.tables) (limit core.store.tables) core.store.catalog core.store.views core.store.views core.book after core.locks core.locks core.wants core.wants i
-          (begun mode (number_of core.book) id) good is h.holds.rooms refl changes (λ index. omega arith) (elsewhere_same i core.store.views core.locks core.wants) (covered_begun core.store.catalog core.store.views core.locks (wants_at core.wants i) i mode (number_of core.book) id);
+      rooms = rooms_changed (spare core.store.tables) (spare core.store.tables) core.store.catalog core.store.views core.store.views core.book after core.locks core.locks core.wants core.wants i
+          (begun mode (number_of core.book) id) good is h.holds.rooms changes (λ index. omega arith) (elsewhere_same i core.store.views core.locks core.wants) (covered_begun core.store.catalog core.store.views core.locks (wants_at core.wants i) i mode (number_of core.book) id);
     };
+    reserves = reserved_one (schema_of s.store) s.store.open_of s.log.logged (with_one s.log.logged i (begins mode s.log)) i (Some (machine.begun mode number)) (begins mode s.log) (λ j. refl) core.data_room s.definitions
+        (begun_keeps mode ∙ sym (ap (λ o. room_kept (schema_of s.store) o (s.log.logged i).ghosted) none)) h.reserves;
     own = λ sessions e. absurd (cc);
     none = λ _ js. h.own js;
     waiting = h.waiting;
@@ -118,7 +127,7 @@ module _ {M : Type 0} (maps : M → ℕ → Map) (spare : M → ℕ → ℕ) (li
   pub full_told : (kept need : ℕ) → kept ≡ total_bytes core.book → need ≡ entry_size → (kept + need ≤ most_of_history → ⊥) → Told maps spare limit s i (act.Begin Serial) (answer.Refused (refusal.HistoryFull kept need)) core
   full_told kept need kept_is need_is full =
       unchanged_told maps spare limit core s i (act.Begin Serial) (answer.Refused (refusal.HistoryFull kept need)) h
-      (refl, need_is, record { kept_is = kept_is ∙ counted; full = omega (arith, full) }, refl, subst (λ o. Within o.log_limit (s.log.used + reserved s.store s.log + end_bytes)) (sym h.opening) tt) refl refl refl refl
+      (refl, need_is, record { kept_is = kept_is ∙ counted; full = omega (arith, full) }, refl, subst (λ o. Within o.log_limit (s.log.used + reserved s.store s.log + end_bytes)) (sym h.opening.is) tt) refl refl refl refl
 
 -- what the log knows of it
 pub begins_as : (mode : Mode) (l : Log) (id : ℕ) → id ≡ number_in_log mode (begun_after (Opens mode) l.begun) → begins mode l ≡ record { transaction = id; kept = []; wrote = false; ghosted = false }

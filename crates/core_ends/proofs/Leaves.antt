@@ -1,5 +1,5 @@
 -- A transaction ends.
-use Rattle.std.specs.Prelude.{◌≡◌, ◌≢◌, ℕ, ◌+◌, ◌≤◌, cond, Bool, true, false, List, [], ◌∷◌, ◌++◌, length, Option, None, Some, slice_set, refl}
+use Rattle.std.specs.Prelude.{◌≡◌, ◌≢◌, ℕ, ◌+◌, ◌-◌, ◌≤◌, cond, Bool, true, false, List, [], ◌∷◌, ◌++◌, length, Option, None, Some, slice_set, refl}
 use Rattle.std.specs.Option.{unwrap_or}
 use mathlib.Core.Path.{sym, ap, subst, ◌∙◌}
 use Rattle.std.proofs.Common.{arith}
@@ -22,7 +22,7 @@ use Rattle.txn_machine.specs.Store.{Store, Effect, committed, schema_of, changes
 use Rattle.txn_machine.specs.Counts.{definition_sizes}
 use Rattle.txn_machine.specs.Ghosts.{the_views}
 use Rattle.txn_machine.specs.Fresh.{fresh}
-use Rattle.txn_machine.specs.Log.{Log, log_all, appended, not_logged, with_logged}
+use Rattle.txn_machine.specs.Log.{Log, Logged, log_all, appended, not_logged, with_logged}
 use Rattle.txn_machine.specs.State.{State, is_fault}
 use Rattle.txn_machine.specs.May.{IsOpen, IsReady}
 use Rattle.txn_machine.specs.Deltas.{RowChange}
@@ -44,7 +44,11 @@ use Rattle.data_changes.specs.Effects.{keeping}
 use Rattle.data_past.specs.Ahead.{Becomes, rows_at, deltas_at}
 use Rattle.data_past.proofs.Aheads.{ahead_gone}
 use Rattle.core_state.specs.Seats.{machine_seat, machine_cleaner, seat_at}
-use Rattle.core_state.specs.Stands.{Began, Told, Holds, Counts, is_blocked}
+use Rattle.data_room.specs.Reserved.{IsReserved, share_at}
+use Rattle.data_room.specs.declared.room.DataRoom.{DataRoom}
+use Rattle.data_room.proofs.Kept.{reserved_moved, settled_moves}
+use Rattle.core_state.specs.Stands.{IsOpening, Began, Told, Holds, Counts, is_blocked}
+use Rattle.core_state.proofs.Data.{data_holds, data_counts}
 use Rattle.core_state.proofs.Unchanged.{not_blocked}
 use Rattle.core_state.specs.declared.state.CoreState.{CoreState}
 use Rattle.core_ends.specs.Ends.{Left}
@@ -76,7 +80,7 @@ module _ {M : Type 0} (maps : M → ℕ → Map) (spare : M → ℕ → ℕ) (li
     (stored : (c : Contents) → IsHeld core.store.catalog (maps core.store.tables) core.store.views c → IsHeld new.store.catalog (maps new.store.tables) new.store.views (keeping c i []))
     (rows : (q : Place) → row_at new.store.views.rows q ≡ settled_at i (row_at core.store.views.rows q)) (rooms : (j : ℕ) → j ≢ i → room_of new.store.views j ≡ room_of core.store.views j)
     (tables : new.store.tables ≡ core.store.tables) (catalog : new.store.catalog ≡ core.store.catalog) (wants : new.wants ≡ core.wants)
-    (row_mark : new.store.row_versions.pruned ≡ core.store.row_versions.pruned) (delta_mark : new.store.delta_versions.pruned ≡ core.store.delta_versions.pruned) (begun : new.begun ≡ core.begun) (steps : new.steps ≡ core.steps) (seats : new.seats ≡ core.seats) (cleaner : new.cleaner ≡ core.cleaner) (stop : new.stop ≡ core.stop) where
+    (row_mark : new.store.row_versions.pruned ≡ core.store.row_versions.pruned) (delta_mark : new.store.delta_versions.pruned ≡ core.store.delta_versions.pruned) (begun : new.begun ≡ core.begun) (steps : new.steps ≡ core.steps) (seats : new.seats ≡ core.seats) (cleaner : new.cleaner ≡ core.cleaner) (stop : new.stop ≡ core.stop) (same_data : new.data_room ≡ core.data_room) where
   left_locks : (u : Store) → ((j : ℕ) → u.open_of j ≡ with_one s.store.open_of i None j) → (j : ℕ) → IsSession j → HasLocks (table.locks_of new.locks j) (locks_of u j)
   left_locks u opens j js =
       subst (λ o. HasLocks (table.locks_of new.locks j) (unwrap_or o idle).locks) (sym (opens j))
@@ -86,11 +90,11 @@ module _ {M : Type 0} (maps : M → ℕ → Map) (spare : M → ℕ → ℕ) (li
       (λ ne. subst (λ (y : SessionLocks). HasLocks y.locks (unwrap_or (with_one s.store.open_of i None j) idle).locks) (sym (released.others j ne))
       (subst (λ oo. HasLocks (table.locks_of core.locks j) (unwrap_or oo idle).locks) (sym (one_other s.store.open_of i None j ne)) (h.holds.locks j js))))
 
-  left_rooms : new.book.opens ≡ slice_set core.book.opens i None → HasRooms (spare new.store.tables) (limit new.store.tables) new.store.catalog new.store.views new.book.opens new.locks new.wants
+  left_rooms : new.book.opens ≡ slice_set core.book.opens i None → HasRooms (spare new.store.tables) new.store.catalog new.store.views new.book.opens new.locks new.wants
   left_rooms opens =
-      subst (λ t. HasRooms (spare t) (limit t) new.store.catalog new.store.views new.book.opens new.locks new.wants) (sym tables)
-      (subst (λ c. HasRooms (spare core.store.tables) (limit core.store.tables) c new.store.views new.book.opens new.locks new.wants) (sym catalog)
-      (rooms_closed (spare core.store.tables) (spare core.store.tables) (limit core.store.tables) (limit core.store.tables) core.store.catalog core.store.views new.store.views core.book new.book.opens core.locks new.locks core.wants new.wants i good is h.holds.rooms refl opens
+      subst (λ t. HasRooms (spare t) new.store.catalog new.store.views new.book.opens new.locks new.wants) (sym tables)
+      (subst (λ c. HasRooms (spare core.store.tables) c new.store.views new.book.opens new.locks new.wants) (sym catalog)
+      (rooms_closed (spare core.store.tables) (spare core.store.tables) core.store.catalog core.store.views new.store.views core.book new.book.opens core.locks new.locks core.wants new.wants i good is h.holds.rooms opens
       (λ index. omega arith)
       (record {
         of_locks = released.others;
@@ -98,6 +102,9 @@ module _ {M : Type 0} (maps : M → ℕ → Map) (spare : M → ℕ → ℕ) (li
         of_buffers = λ j n. let same : room_of new.store.views j ≡ room_of core.store.views j = rooms j n in omega (arith, same);
         of_seats = λ j place n has. seats_left core.store.views new.store.views i j place n (rows place) has;
       })))
+
+  left_most : limit new.store.tables ≡ new.data_room.limit
+  left_most = ap limit tables ∙ (h.holds.most ∙ sym (ap (λ (d : DataRoom). d.limit) same_data))
 
   left_counts : Counts maps spare limit new s
   left_counts = record {
@@ -135,6 +142,7 @@ module _ {M : Type 0} (maps : M → ℕ → Map) (spare : M → ℕ → ℕ) (li
       next = next ∙ (ap (λ n. cond (s.log.logged i).wrote (n + 1) n) h.holds.next ∙ sym (appended_next (schema_of s.store) (Abort (s.log.logged i).transaction) (with_logged s.log i not_logged) (s.log.logged i).wrote));
       row_mark = row_mark ∙ h.holds.row_mark;
       delta_mark = delta_mark ∙ h.holds.delta_mark;
+      most = left_most;
       past = past;
       ahead = ahead_gone core.ahead core.store.row_versions.room core.store.delta_versions.room s.store h.holds.ahead i (with_txn s.store i None) refl refl new.ahead gone new.store.row_versions.room new.store.delta_versions.room row_room delta_room;
       rooms = left_rooms seated.opens;
@@ -142,6 +150,9 @@ module _ {M : Type 0} (maps : M → ℕ → Map) (spare : M → ℕ → ℕ) (li
     own = ap (λ (y : SessionLocks). y.waiting) released.changed;
     others = λ j n. ap (λ (y : SessionLocks). y.waiting) (released.others j n);
     counts = left_counts;
+    same_data = same_data;
+    reserves = λ a room same moves. reserved_moved (schema_of s.store) s.store.open_of s.log.logged (log_all s.store i a (Ends ∷ []) s.log).logged i None not_logged (λ j. ap (λ (f : ℕ → Logged). f j) (logs_logged s.store i a Ends s.log))
+        core.data_room room s.definitions is same h.reserves moves;
     appends_one = λ a. subst (λ n. n ≤ s.log.next + 1) (sym (appended_next (schema_of s.store) (Abort (s.log.logged i).transaction) (with_logged s.log i not_logged) (s.log.logged i).wrote)) (next_few (s.log.logged i).wrote s.log.next);
   }
 
@@ -169,6 +180,7 @@ module _ {M : Type 0} (maps : M → ℕ → Map) (spare : M → ℕ → ℕ) (li
           next = next ∙ ap (λ n. n + 1) h.holds.next;
           row_mark = row_mark ∙ h.holds.row_mark;
           delta_mark = delta_mark ∙ h.holds.delta_mark;
+          most = left_most;
           past = past;
           ahead = ahead_gone core.ahead core.store.row_versions.room core.store.delta_versions.room s.store h.holds.ahead i u refl objects new.ahead gone new.store.row_versions.room new.store.delta_versions.room row_room delta_room;
           rooms = left_rooms did.opens;
@@ -176,27 +188,37 @@ module _ {M : Type 0} (maps : M → ℕ → Map) (spare : M → ℕ → ℕ) (li
         own = ap (λ (y : SessionLocks). y.waiting) released.changed;
         others = λ j n. ap (λ (y : SessionLocks). y.waiting) (released.others j n);
         counts = left_counts;
+        same_data = same_data;
+        reserves = λ a room same moves.
+            subst (λ os. IsReserved room os (with_one s.store.open_of i None) (log_all s.store i a (Commits ∷ []) s.log).logged s.definitions) (sym objects)
+            (reserved_moved (schema_of s.store) s.store.open_of s.log.logged (log_all s.store i a (Commits ∷ []) s.log).logged i None not_logged (λ j. ap (λ (f : ℕ → Logged). f j) (logs_logged s.store i a Commits s.log))
+            core.data_room room s.definitions is same h.reserves moves);
         appends_one = λ a. omega arith;
       }
 
 -- ---- the answer
 
--- of an act whose one effect ends the transaction
-pub left_told : {M : Type 0} (maps : M → ℕ → Map) (spare : M → ℕ → ℕ) (limit : M → Option ℕ) (core new : CoreState M) (s : State) (i : ℕ) (a : Act) (said : Answer) (e : Effect) → Began maps spare limit core s i → IsSession i → Left maps spare limit s i e core new → Says s i a said (e ∷ [])
+-- of an act whose one effect ends the transaction, for which nothing of the data is kept then
+pub left_told : {M : Type 0} (maps : M → ℕ → Map) (spare : M → ℕ → ℕ) (limit : M → Option ℕ) (core new : CoreState M) (room : DataRoom) (s : State) (i : ℕ) (a : Act) (said : Answer) (e : Effect) → Began maps spare limit core s i → IsSession i → Left maps spare limit s i e core new
+    → room.limit ≡ new.data_room.limit → share_at room.shares i ≡ 0 → ((j : ℕ) → j ≢ i → share_at room.shares j ≡ share_at new.data_room.shares j) → room.total ≡ new.data_room.total - share_at new.data_room.shares i → Says s i a said (e ∷ [])
     → log_after s i a said (e ∷ []) ≡ log_all s.store i a (e ∷ []) s.log → definitions_after s.definitions a said ≡ s.definitions → is_blocked said ≡ false → is_fault said ≡ false → (log_all s.store i a (e ∷ []) s.log).begun ≤ s.log.begun + 1
-    → Told maps spare limit s i a said new
-left_told maps spare limit core new s i a said e h is left says logs_same definitions not fine few = record {
+    → Told maps spare limit s i a said (record new { data_room = room })
+left_told maps spare limit core new room s i a said e h is left same none others total says logs_same definitions not fine few = record {
   reached = h.reached;
-  opening = h.opening;
+  opening = subst (λ m. IsOpening m s) (sym (same ∙ ap (λ (d : DataRoom). d.limit) left.same_data)) h.opening;
   runs = h.runs;
   effects = e ∷ [];
   says = says;
-  holds = subst (λ ds. Holds maps spare limit new (run the_views s.store i (e ∷ [])) (log_after s i a said (e ∷ [])) ds) (sym definitions)
-      (subst (λ l. Holds maps spare limit new (run the_views s.store i (e ∷ [])) l s.definitions) (sym logs_same) (left.holds a));
+  holds = subst (λ ds. Holds maps spare limit (record new { data_room = room }) (run the_views s.store i (e ∷ [])) (log_after s i a said (e ∷ [])) ds) (sym definitions)
+      (subst (λ l. Holds maps spare limit (record new { data_room = room }) (run the_views s.store i (e ∷ [])) l s.definitions) (sym logs_same)
+      (data_holds maps spare limit new room (run the_views s.store i (e ∷ [])) (log_all s.store i a (e ∷ []) s.log) s.definitions same (left.holds a)));
+  reserves = subst (λ ds. IsReserved room (schema_of (run the_views s.store i (e ∷ []))) (run the_views s.store i (e ∷ [])).open_of (log_after s i a said (e ∷ [])).logged ds) (sym definitions)
+      (subst (λ (l : Log). IsReserved room (schema_of (run the_views s.store i (e ∷ []))) (run the_views s.store i (e ∷ [])).open_of l.logged s.definitions) (sym logs_same)
+      (left.reserves a room (same ∙ ap (λ (d : DataRoom). d.limit) left.same_data) (settled_moves core.data_room new.data_room room i left.same_data none others total)));
   own = λ sessions b. absurd (not_blocked said sessions b not);
   none = λ _ _. left.own;
   waiting = λ j js n. left.others j n ∙ h.waiting j js n;
-  counts = left.counts;
+  counts = data_counts maps spare limit new room s left.counts;
   no_fault = fine;
   begins_one = subst (λ (l : Log). l.begun ≤ s.log.begun + 1) (sym logs_same) few;
   appends_one = subst (λ (l : Log). l.next ≤ s.log.next + 1) (sym logs_same) (left.appends_one a);

@@ -7,10 +7,12 @@ use Rattle.iv_types.specs.declared.statement.Mode.{Mode}
 use Rattle.iv_types.specs.declared.statement.Mode.TheVariants.{Serial, Snapshot}
 use Rattle.lock_manager.specs.Table as table
 use Rattle.txn_machine.specs.Acts.{Act}
-use Rattle.txn_machine.specs.Store.{Effect, run}
+use Rattle.txn_machine.specs.Store.{Effect, run, schema_of}
 use Rattle.txn_machine.specs.Ghosts.{the_views}
 use Rattle.txn_machine.specs.Log.{log_all}
 use Rattle.txn_machine.specs.State.{State}
+use Rattle.data_room.specs.Reserved.{Where, IsReserved, Moves}
+use Rattle.data_room.specs.declared.room.DataRoom.{DataRoom}
 use Rattle.core_state.specs.Stands.{Holds, Counts}
 use Rattle.core_state.specs.declared.state.CoreState.{CoreState}
 
@@ -26,4 +28,8 @@ pub record Left {M : Type 0} (maps : M → ℕ → Map) (spare : M → ℕ → �
   pub own : table.waiting_of new.locks session ≡ []
   pub others : (other : ℕ) → other ≢ session → table.waiting_of new.locks other ≡ table.waiting_of old.locks other
   pub counts : Counts maps spare limit new s
+  -- what is kept of the data is as before, and is what the machine says once nothing is kept for the session
+  pub same_data : new.data_room ≡ old.data_room
+  pub reserves : (a : Act) (room : DataRoom) → room.limit ≡ old.data_room.limit → Where old.data_room.limit (Moves old.data_room room session 0)
+      → IsReserved room (schema_of (run the_views s.store session (e ∷ []))) (run the_views s.store session (e ∷ [])).open_of (log_all s.store session a (e ∷ []) s.log).logged s.definitions
   pub appends_one : (a : Act) → (log_all s.store session a (e ∷ []) s.log).next ≤ s.log.next + 1

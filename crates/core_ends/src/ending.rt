@@ -52,12 +52,13 @@ fn end_it<M: SortedMaps>(core: &mut CoreState<M>, session: u32)
     }
 }
 
-/// Ends a transaction that keeps no change, without an entry. Takes no memory.
+/// Ends a transaction that keeps no change, without an entry. Nothing is kept for it then. Takes no memory.
 pub fn end<M: SortedMaps>(core: &mut CoreState<M>, session: u32) -> Answer
     requires { (s : State) × Began M.maps M.spare M.limit core.old s session × MayAct s.store session act.End }
     ensures { (s : State) → Began M.maps M.spare M.limit core.old s session → MayAct s.store session act.End → Told M.maps M.spare M.limit s session act.End (answer_of result) core.new }
 {
     end_it(core, session);
+    core.data_room.settle(session);
     Answer::Ended
 }
 
@@ -81,9 +82,12 @@ pub fn commit<M: SortedMaps>(core: &mut CoreState<M>, session: u32) -> Answer
 {
     core.book.book_law();
     if core.open_of(session).puts > 0 {
-        return Answer::Committed(enter_it(core, session));
+        let number = enter_it(core, session);
+        core.data_room.settle(session);
+        return Answer::Committed(number);
     }
     let number = own_number(core, session);
     end_it(core, session);
+    core.data_room.settle(session);
     Answer::Committed(number)
 }

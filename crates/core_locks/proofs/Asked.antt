@@ -20,7 +20,7 @@ use Rattle.txn_machine.specs.Answers.{Answer}
 use Rattle.txn_machine.specs.Keeping.{Open}
 use Rattle.txn_machine.specs.Locks.{Locks, with_one, AreInTheWay, IsDeadlock}
 use Rattle.txn_machine.specs.Waiting.{WaitsOn, IsRing}
-use Rattle.txn_machine.specs.Log.{Log, logs, log_all}
+use Rattle.txn_machine.specs.Log.{Log, Logged, logs, log_all}
 use Rattle.txn_machine.specs.Store.{Effect, Loses, now, schema_of, committed, locks_of, with_txn}
 use Rattle.txn_machine.specs.Counts.{definition_sizes}
 use Rattle.txn_machine.specs.State.{State}
@@ -35,6 +35,9 @@ use Rattle.txn_book.specs.Holding as book
 use Rattle.txn_book.proofs.Holding.{changed_holds, lost_is}
 use Rattle.data_store.specs.Contents.{contents_of}
 use Rattle.data_store.specs.Held.{IsHeld}
+use Rattle.data_room.specs.Reserved.{IsReserved}
+use Rattle.data_room.proofs.Kept.{reserved_one}
+use Rattle.data_room.proofs.Transactions.{now_room}
 use Rattle.core_state.specs.Stands.{Began, Told, Holds}
 use Rattle.core_state.specs.declared.state.CoreState.{CoreState}
 use Rattle.lock_desk.specs.PayWants.{wants_at}
@@ -103,7 +106,7 @@ module _ {M : Type 0} (maps : M → ℕ → Map) (spare : M → ℕ → ℕ) (li
   module _ (a : Act) (wants : List Want) (asks : Asks s i a wants) where
     -- it waits
     pub waits_told : (after : Table) (back : List (List (List Want))) (sessions : Sessions) → IsRecorded core.locks after i wants
-        → HasRooms (spare core.store.tables) (limit core.store.tables) core.store.catalog core.store.views core.book.opens after back → HasToWait (locks_of s.store) (others_wait s.waiting i) i wants sessions → Told maps spare limit s i a (answer.Blocked sessions) (record core { locks = after; wants = back })
+        → HasRooms (spare core.store.tables) core.store.catalog core.store.views core.book.opens after back → HasToWait (locks_of s.store) (others_wait s.waiting i) i wants sessions → Told maps spare limit s i a (answer.Blocked sessions) (record core { locks = after; wants = back })
     waits_told after back sessions recorded rooms waits = record {
       reached = h.reached;
       opening = h.opening;
@@ -129,10 +132,13 @@ module _ {M : Type 0} (maps : M → ℕ → Map) (spare : M → ℕ → ℕ) (li
             next = h.holds.next;
             row_mark = h.holds.row_mark;
             delta_mark = h.holds.delta_mark;
+            most = h.holds.most;
             past = h.holds.past;
             ahead = h.holds.ahead;
             rooms = rooms;
           }));
+      reserves = subst (λ ds. IsReserved core.data_room (schema_of s.store) s.store.open_of (log_after s i a (answer.Blocked sessions) []).logged ds) (sym (plain_definitions s.definitions a (answer.Blocked sessions) asks.0))
+          (subst (λ (l : Log). IsReserved core.data_room (schema_of s.store) s.store.open_of l.logged s.definitions) (sym same_log) h.reserves);
       own = λ all e. ap (λ (x : SessionLocks). x.waiting) recorded.changed ∙ sym asks.1;
       none = λ b. absurd (cc);
       waiting = λ k is n. ap (λ (x : SessionLocks). x.waiting) (recorded.others k n) ∙ h.waiting k is n;
@@ -177,12 +183,17 @@ module _ {M : Type 0} (maps : M → ℕ → Map) (spare : M → ℕ → ℕ) (li
             next = h.holds.next;
             row_mark = h.holds.row_mark;
             delta_mark = h.holds.delta_mark;
+            most = h.holds.most;
             past = past_loses core.store.row_versions.versions core.store.delta_versions.versions core.store.pending.entries s.store h.holds.past i o.of_session;
             ahead = ahead_loses core.ahead core.store.row_versions.room core.store.delta_versions.room s.store h.holds.ahead i;
-            rooms = rooms_changed (spare core.store.tables) (spare core.store.tables) (limit core.store.tables) (limit core.store.tables) core.store.catalog core.store.views core.store.views core.book after core.locks core.locks core.wants core.wants i
-                (lost (txn_of own.txn)) good o.of_session h.holds.rooms refl changes (λ index. let same : gone_if index (open_at core.book.opens i) ≡ gone_if index (Some own.txn) = ap (gone_if index) own.there in omega (arith, same)) (elsewhere_same i core.store.views core.locks core.wants)
+            rooms = rooms_changed (spare core.store.tables) (spare core.store.tables) core.store.catalog core.store.views core.store.views core.book after core.locks core.locks core.wants core.wants i
+                (lost (txn_of own.txn)) good o.of_session h.holds.rooms changes (λ index. let same : gone_if index (open_at core.book.opens i) ≡ gone_if index (Some own.txn) = ap (gone_if index) own.there in omega (arith, same)) (elsewhere_same i core.store.views core.locks core.wants)
                 (covered_alike core.store.catalog core.store.views core.locks (wants_at core.wants i) i (txn_of own.txn) (lost (txn_of own.txn)) refl refl refl (h.holds.rooms.each i o.of_session own.txn own.there).small (h.holds.rooms.each i o.of_session own.txn own.there));
           }));
+      reserves = subst (λ ds. IsReserved core.data_room (schema_of s.store) (with_one s.store.open_of i (Some lost_one)) (log_after s i a (answer.Refused (refusal.Deadlock cycle)) (Loses ∷ [])).logged ds) (sym (plain_definitions s.definitions a (answer.Refused (refusal.Deadlock cycle)) asks.0))
+          (subst (λ (l : Log). IsReserved core.data_room (schema_of s.store) (with_one s.store.open_of i (Some lost_one)) l.logged s.definitions) (sym same_log)
+          (reserved_one (schema_of s.store) s.store.open_of s.log.logged (logs s.store i a Loses s.log).logged i (Some lost_one) (s.log.logged i) (λ j. ap (λ (f : ℕ → Logged). f j) (logs_logged s.store i a Loses s.log))
+          core.data_room s.definitions (now_room (schema_of s.store) (s.store.open_of i) (s.log.logged i).ghosted) h.reserves));
       own = λ sessions e. absurd (cc);
       none = λ _ is. h.own is;
       waiting = h.waiting;

@@ -1,5 +1,5 @@
 -- How a Pay is answered whose lock is held.
-use Rattle.std.specs.Prelude.{◌≡◌, ℕ, suc, ◌+◌, ◌*◌, ◌<◌, ◌≤◌, ◌^◌, [], ◌∷◌, ◌++◌, map, length, Option, None, Some, IsSome, refl}
+use Rattle.std.specs.Prelude.{◌≡◌, ◌≢◌, ℕ, suc, ◌+◌, ◌-◌, ◌*◌, ◌<◌, ◌≤◌, ◌^◌, min, [], ◌∷◌, ◌++◌, map, length, Option, None, Some, IsSome, refl}
 use Rattle.std.specs.Option.{unwrap_or}
 use Rattle.std.specs.List.{sum}
 use Rattle.std.specs.FinMap.{get}
@@ -15,23 +15,30 @@ use Rattle.txn_machine.specs.Acts as act
 use Rattle.txn_machine.specs.Answers as answer
 use Rattle.txn_machine.specs.Counts.{most_of_transaction, kept_size, note_size}
 use Rattle.txn_machine.specs.Deltas.{place_of}
-use Rattle.iv_meaning.specs.Escrow.{value}
+use Rattle.iv_meaning.specs.Escrow.{IsSession, value}
 use Rattle.txn_machine.specs.Ghosts.{the_views, account_of}
 use Rattle.txn_machine.specs.Stored.{stored_number}
 use Rattle.txn_machine.specs.Keeping.{Open, Pay, idle}
 use Rattle.txn_machine.specs.Locks.{with_one}
 use Rattle.txn_machine.specs.Stored.{add_to}
-use Rattle.txn_machine.specs.Log.{Log, logs, appended}
+use Rattle.txn_machine.specs.Log.{Log, Logged, logs, keeps, appended}
 use Rattle.txn_machine.specs.Records.{Record}
 use Rattle.txn_machine.specs.State.{State}
 use Rattle.txn_machine.specs.Steps.{PaysFirst, asked}
 use Rattle.txn_machine.specs.Store.{Store, Takes, Pays, does, now, schema_of, paid_first}
 use Rattle.txn_machine.proofs.Basics.{one_same}
+use Rattle.txn_machine.proofs.LogRoom.{logs_logged}
 use Rattle.txn_machine.proofs.Reached.{reached, stored_law}
 use Rattle.txn_book.specs.Opens.{open_at}
 use Rattle.txn_book.specs.declared.open_table.Open.{Open as BookOpen}
 use Rattle.data_store.specs.Contents.{contents_of}
-use Rattle.core_state.specs.Stands.{Told, Holds}
+use Rattle.ghost_rows.specs.Kept.{width}
+use Rattle.ghost_rows.specs.State.{CanStore}
+use Rattle.data_room.specs.Reserved.{share_at, first_bytes, IsReserved}
+use Rattle.data_room.specs.declared.room.DataRoom.{DataRoom}
+use Rattle.data_room.proofs.Kept.{reserved_one, reserved_back}
+use Rattle.data_room.proofs.Transactions.{now_room, paid_room}
+use Rattle.core_state.specs.Stands.{Told, Holds, Reserves}
 use Rattle.core_state.specs.declared.state.CoreState.{CoreState}
 use Rattle.core_state.proofs.Sessions.{kept_same}
 use Rattle.core_effects.specs.Owing.{OwesFirst, Allows, IsUnpaid}
@@ -39,6 +46,7 @@ use Rattle.core_effects.specs.Underway.{IsUnderway}
 use Rattle.core_effects.proofs.Done.{told_by}
 use Rattle.core_effects.proofs.Opened.{Has, own}
 use Rattle.core_pays.specs.Holding.{IsHolding, unpaid_as}
+use Rattle.core_pays.proofs.Reserving.{can_store_it, first_fits}
 use Rattle.data_changes.proofs.Accounts.{committed_here, all_allow, refused_by, fresh_at}
 use Rattle.core_state.proofs.Few.{kept_few}
 
@@ -97,8 +105,8 @@ module _ {M : Type 0} (maps : M → ℕ → Map) (spare : M → ℕ → ℕ) (li
 
   module _ (new : CoreState M) (u : IsUnderway maps spare limit s i new) where
     pub paid_told : (left : ℕ) → left ≡ length h.owes.others → Allows between i the_first → (get s.store.view (place_of h.owes.first) ≡ None → ⊥)
-        → Holds maps spare limit new (does the_views between i Pays) (logs between i act.Pay Pays log_between) s.definitions → Told maps spare limit s i act.Pay (answer.Paid left) new
-    paid_told left left_is allowed there holds =
+        → Holds maps spare limit new (does the_views between i Pays) (logs between i act.Pay Pays log_between) s.definitions → Reserves maps spare limit new (does the_views between i Pays) (logs between i act.Pay Pays log_between) s.definitions → Told maps spare limit s i act.Pay (answer.Paid left) new
+    paid_told left left_is allowed there holds reserves =
         told_by maps spare limit new s i u act.Pay (answer.Paid left) (Takes (asked s.store i act.Pay) ∷ Pays ∷ [])
         (record {
           pays = pays_it;
@@ -106,12 +114,12 @@ module _ {M : Type 0} (maps : M → ℕ → Map) (spare : M → ℕ → ℕ) (li
           allowed = all_allow s.store (contents_of between) kept_between refl h.owes.first i (allowed (fresh_at s.store (place_of h.owes.first)) (committed_here s.store (contents_of between) kept_between refl h.owes.first law_here));
           left_is = left_is;
           effects = refl;
-        }) holds refl refl (omega arith) (next_few (schema_of between) _ _)
+        }) holds reserves refl refl (omega arith) (next_few (schema_of between) _ _)
 
-    pub unpaid_told : (why : PayRefusal) → IsUnpaid between i the_first why → Holds maps spare limit new between log_between s.definitions → Told maps spare limit s i act.Pay (unpaid_as why) new
-    unpaid_told Absent absent holds =
-        told_by maps spare limit new s i u act.Pay answer.NeedsGhost (Takes (asked s.store i act.Pay) ∷ []) (record { pays = pays_it; absent = absent; effects = refl }) holds refl refl (omega arith) (omega arith)
-    unpaid_told (Escrow column low high) refused holds =
+    pub unpaid_told : (why : PayRefusal) → IsUnpaid between i the_first why → Holds maps spare limit new between log_between s.definitions → Reserves maps spare limit new between log_between s.definitions → Told maps spare limit s i act.Pay (unpaid_as why) new
+    unpaid_told Absent absent holds reserves =
+        told_by maps spare limit new s i u act.Pay answer.NeedsGhost (Takes (asked s.store i act.Pay) ∷ []) (record { pays = pays_it; absent = absent; effects = refl }) holds reserves refl refl (omega arith) (omega arith)
+    unpaid_told (Escrow column low high) refused holds reserves =
         told_by maps spare limit new s i u act.Pay (answer.Refused (refusal.Escrow column low high)) (Takes (asked s.store i act.Pay) ∷ [])
         (record {
           pays = pays_it;
@@ -119,7 +127,24 @@ module _ {M : Type 0} (maps : M → ℕ → Map) (spare : M → ℕ → ℕ) (li
           refused = refused_by s.store (contents_of between) kept_between refl h.owes.first i column low high
               (refused.1 (fresh_at s.store (place_of h.owes.first)) (committed_here s.store (contents_of between) kept_between refl h.owes.first law_here));
           effects = refl;
-        }) holds refl refl (omega arith) (omega arith)
+        }) holds reserves refl refl (omega arith) (omega arith)
+
+  -- ---- what is kept of the data
+
+  session : IsSession i
+  session = h.owes.goes_on.of_session
+
+  -- the lock moves nothing
+  pub between_reserves : IsReserved core.data_room (schema_of s.store) between.open_of log_between.logged s.definitions
+  between_reserves =
+      reserved_one (schema_of s.store) s.store.open_of s.log.logged log_between.logged i (Some with_lock) (s.log.logged i) (λ j. ap (λ (f : ℕ → Logged). f j) (logs_logged s.store i act.Pay (Takes (asked s.store i act.Pay)) s.log))
+      core.data_room s.definitions (now_room (schema_of s.store) (s.store.open_of i) (s.log.logged i).ghosted) h.reserves
+
+  -- the row of the delta can be stored
+  pub can_store_first : CanStore (maps core.store.tables) (limit core.store.tables) (place_of h.owes.first) (width h.owes.first)
+  can_store_first =
+      can_store_it maps spare limit core s i h.underway h.reserves between log_between h.holds refl refl refl h.owes.first first_delta
+      (first_fits maps spare limit core s i h.underway h.reserves session h.owes.goes_on.transaction h.owes.goes_on.is_open h.owes.first h.owes.others h.owes.owed_is h.owes.none_back)
 
   -- ---- how many are left
 
@@ -143,6 +168,16 @@ module _ {M : Type 0} (maps : M → ℕ → Map) (spare : M → ℕ → ℕ) (li
 
   after_is : does the_views between i Pays ≡ store_after
   after_is = ap (paid_first between i (now between i)) the_first.owed_is
+
+  pub paid_reserved : (room was : DataRoom) (bytes : ℕ) → was ≡ core.data_room → room.limit ≡ was.limit → bytes ≡ min (first_bytes (log_between.logged i).ghosted h.owes.first) (2 ^ 64 - 1)
+      → share_at was.shares i < 2 ^ 64 → share_at room.shares i ≡ share_at was.shares i - bytes → ((j : ℕ) → j ≢ i → share_at room.shares j ≡ share_at was.shares j) → room.total ≡ was.total - (share_at was.shares i - share_at room.shares i)
+      → IsReserved room (schema_of (does the_views between i Pays)) (does the_views between i Pays).open_of (logs between i act.Pay Pays log_between).logged s.definitions
+  paid_reserved room was bytes same same_limit bytes_are small mine others total =
+      subst (λ (u : Store). IsReserved room (schema_of u) u.open_of (logs between i act.Pay Pays log_between).logged s.definitions) (sym after_is)
+      (reserved_back (schema_of s.store) between.open_of log_between.logged (logs between i act.Pay Pays log_between).logged i (Some paid_one) (keeps (log_between.logged i) log_between.next) (λ j. ap (λ (f : ℕ → Logged). f j) (logs_logged between i act.Pay Pays log_between))
+      core.data_room was room s.definitions session between_reserves same same_limit bytes (first_bytes (log_between.logged i).ghosted h.owes.first) bytes_are
+      (paid_room (schema_of s.store) (now between i) (log_between.logged i).ghosted h.owes.first h.owes.others the_first.owed_is the_first.none_back ∙ now_room (schema_of s.store) (between.open_of i) (log_between.logged i).ghosted)
+      small mine others total)
 
   mine_after : (new : CoreState M) (l : Log) → Holds maps spare limit new (does the_views between i Pays) l s.definitions → Has (schema_of store_after) (open_at new.book.opens i) (now store_after i) (l.logged i)
   mine_after new l holds =

@@ -53,9 +53,9 @@ module _ {M : Type 0} (maps : M → ℕ → Map) (spare : M → ℕ → ℕ) (li
   -- what stands ready where the first wants are taken out
   rooms_after : (after : Table) (back : List (List (List Want))) → ((j : ℕ) → j ≢ i → table.of_session after j ≡ table.of_session core.locks j) → ((j : ℕ) → j ≢ i → wants_at back j ≡ wants_at core.wants j)
       → AreWanted (table.room_of after i) (table.locks_of after i) (table.waiting_of after i) (wants_at back i) (o.first ∷ o.others)
-      → HasRooms (spare core.store.tables) (limit core.store.tables) core.store.catalog core.store.views core.book.opens after back
+      → HasRooms (spare core.store.tables) core.store.catalog core.store.views core.book.opens after back
   rooms_after after back of_locks of_wants wanted =
-      rooms_with (spare core.store.tables) (spare core.store.tables) (limit core.store.tables) (limit core.store.tables) core.store.catalog core.store.views core.store.views core.book.opens core.book.opens core.locks after core.wants back i (open_at core.book.opens i) h.holds.rooms refl h.holds.rooms.undo refl (λ j n. refl)
+      rooms_with (spare core.store.tables) (spare core.store.tables) core.store.catalog core.store.views core.store.views core.book.opens core.book.opens core.locks after core.wants back i (open_at core.book.opens i) h.holds.rooms h.holds.rooms.undo refl (λ j n. refl)
       (record { of_locks = of_locks; of_wants = of_wants; of_buffers = λ j n. omega arith; of_seats = λ j place n has. has })
       (λ t is js. let c = h.holds.rooms.each i js t is in record {
         wanted = subst (AreWanted (table.room_of after i) (table.locks_of after i) (table.waiting_of after i) (wants_at back i)) (sym (still_all t is)) wanted;
@@ -102,7 +102,7 @@ module _ {M : Type 0} (maps : M → ℕ → Map) (spare : M → ℕ → ℕ) (li
         let room = granted_it.room in
         let had = first_there.2 in
         record {
-          underway = still_underway maps spare limit core (record core { locks = after; wants = back }) s i (begun_underway maps spare limit core s i h) (record { steps = refl; seats = refl; cleaner = refl; stop = refl })
+          underway = still_underway maps spare limit core (record core { locks = after; wants = back }) s i (begun_underway maps spare limit core s i h) (record { steps = refl; seats = refl; cleaner = refl; stop = refl; limit = refl })
               (λ _. granted_it.waiting) (λ j n. ap (λ (x : SessionLocks). x.waiting) (granted_it.others j n));
           owes = o;
           free = subst (IsFree s.store i) (sym (asked_is maps spare limit core s i h o)) free;
@@ -111,6 +111,7 @@ module _ {M : Type 0} (maps : M → ℕ → Map) (spare : M → ℕ → ℕ) (li
               (rooms_after after back granted_it.others others
               (subst (λ b. AreWanted (table.room_of after i) (table.locks_of after i) (table.waiting_of after i) b (o.first ∷ o.others)) (sym left_is)
               (inr (inl (refl, granted_it.waiting, (granted_it.locks want).1 (inr (0, omega arith, refl)), omega (arith, room, had))), first_there.3))));
+          reserves = h.reserves;
         }
 
   -- ---- it has the lock already
@@ -137,4 +138,5 @@ module _ {M : Type 0} (maps : M → ℕ → Map) (spare : M → ℕ → ℕ) (li
       free = subst (IsFree s.store i) (sym (asked_is maps spare limit core s i h o)) free_already;
       holds = subst (λ ws. Holds maps spare limit core (does the_views s.store i (Takes ws)) (logs s.store i act.Pay (Takes ws) s.log) s.definitions) (sym (asked_is maps spare limit core s i h o))
           (taken_holds maps spare limit core s.store s.log s.definitions i h.holds (the_open maps spare limit core s i h o) act.Pay (want ∷ []) core.locks core.wants again h.holds.rooms);
+      reserves = h.reserves;
     }

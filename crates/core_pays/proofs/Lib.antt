@@ -1,5 +1,6 @@
 pub mod Firsts
 pub mod Held
+pub mod Reserving
 pub mod Answered
 pub mod Ghosted
 pub mod Undone

@@ -1,5 +1,5 @@
 -- A transaction's latest kept step, and what is told where it is taken back.
-use Rattle.std.specs.Prelude.{◌≡◌, ◌≢◌, ℕ, suc, ◌+◌, ◌*◌, ◌<◌, ◌≤◌, ◌^◌, List, [], ◌∷◌, map, length, Option, Some, IsSome, refl}
+use Rattle.std.specs.Prelude.{◌≡◌, ◌≢◌, ℕ, suc, ◌+◌, ◌-◌, ◌*◌, ◌<◌, ◌≤◌, ◌^◌, min, List, [], ◌∷◌, map, length, Option, Some, IsSome, refl}
 use Rattle.std.specs.Option.{unwrap_or}
 use Rattle.std.specs.List.{Contains, sum}
 use Rattle.std.specs.FinMap.{get}
@@ -19,7 +19,8 @@ use Rattle.txn_machine.specs.Answers as answer
 use Rattle.txn_machine.specs.Counts.{most_of_transaction, kept_size, note_size}
 use Rattle.txn_machine.specs.Ghosts.{the_views}
 use Rattle.txn_machine.specs.Keeping.{KeptStep, Put, Pay, Open, changes_of, idle}
-use Rattle.txn_machine.specs.Log.{Log, logs}
+use Rattle.txn_machine.specs.Locks.{with_one}
+use Rattle.txn_machine.specs.Log.{Log, Logged, logs, undoes, growth_back, delta_entry, unghosted, still_owed, room_kept}
 use Rattle.txn_machine.specs.Laws.{IsReached}
 use Rattle.txn_machine.specs.May.{IsOpen, MayAct, FitsUnder}
 use Rattle.txn_machine.specs.State.{State}
@@ -27,31 +28,30 @@ use Rattle.txn_machine.specs.Store.{Store, Undoes, does, undone, now, schema_of,
 use Rattle.txn_machine.specs.ViewLaws.{AreSound}
 use Rattle.txn_machine.proofs.Agreeing.{written_at}
 use Rattle.txn_machine.proofs.Basics.{one_same}
+use Rattle.txn_machine.proofs.LogRoom.{logs_logged}
 use Rattle.txn_machine.proofs.Entered.{AreProper, sound_redo}
 use Rattle.txn_machine.proofs.Reached.{reached}
 use Rattle.txn_machine.proofs.Shapes.{delta_law}
 use Rattle.txn_book.specs.Opens.{open_at}
 use Rattle.txn_book.specs.Txns.{txn_of}
 use Rattle.txn_book.specs.declared.open_table.Open.{Open as BookOpen}
+use Rattle.data_room.specs.Reserved.{share_at, kept_for, IsReserved}
+use Rattle.data_room.specs.declared.room.DataRoom.{DataRoom}
+use Rattle.data_room.proofs.Kept.{reserved_back}
+use Rattle.data_room.proofs.Transactions.{now_room, unput_room, unpaid_room}
 use Rattle.core_state.specs.Stands.{Began, Told, Holds}
+use Rattle.core_state.proofs.Data.{data_holds}
 use Rattle.core_state.specs.declared.state.CoreState.{CoreState}
 use Rattle.core_effects.specs.Undoing.{KeepsOne}
 use Rattle.core_state.proofs.Few.{kept_few}
 use Rattle.core_effects.proofs.Counted.{many_same}
 use Rattle.core_effects.proofs.Done.{told_by, begun_underway, still_underway}
 use Rattle.core_effects.proofs.Opened.{Has, own}
+use Rattle.core_pays.specs.Keeping.{latest_bytes}
 use Rattle.core_pays.proofs.Answered.{next_few}
+use Rattle.core_pays.proofs.Reserving.{data_underway, fits_there}
 
 -- ---- what is kept last
-
--- a row that is there fits the table of its place
-fits_there : (objects : Schema) (rows : Rows) (key : _) (row : Option Row) → AreSound objects rows → row ≡ get rows key → (t : TableDef) → numbered objects key.0 ≡ Some (table t) → FitsUnder t key.1 row
-fits_there objects rows key Option.None sound e t is = tt
-fits_there objects rows key (Some row) sound e t is =
-    let r : IsRow objects key row = sound.rows key row (sym e) in
-    let one : Some (table r.of) ≡ Some (table t) = sym r.table_is ∙ is in
-    let same : r.of ≡ t = cc in
-    subst (λ (x : TableDef). FitsUnder x key.1 (Some row)) same (r.key, r.fits)
 
 module _ (s : State) (r : IsReached s) (i : ℕ) (o : IsOpen s.store i) where
   keeps : (ks : List KeptStep) → (now s.store i).kept ≡ ks → ks ≢ [] → KeepsOne s.store i
@@ -137,11 +137,43 @@ module _ {M : Type 0} (maps : M → ℕ → Map) (spare : M → ℕ → ℕ) (li
         let one : length (now s.store i).kept ≡ suc (length earlier) = ap length kept_is in
         omega (arith, small, bytes, few, one)
 
-  pub undone_told : new ≡ record core { store = new.store; book = new.book; ahead = new.ahead; next = new.next } → (left : ℕ) → left ≡ length earlier → Holds maps spare limit new after (logs s.store i act.UndoOne Undoes s.log) s.definitions
-      → Told maps spare limit s i act.UndoOne (answer.Undone left) new
-  undone_told rest left left_is holds =
-      told_by maps spare limit new s i
-      (still_underway maps spare limit core new s i (begun_underway maps spare limit core s i h)
-      (record { steps = ap (λ (x : CoreState M). x.steps) rest; seats = ap (λ (x : CoreState M). x.seats) rest; cleaner = ap (λ (x : CoreState M). x.cleaner) rest; stop = ap (λ (x : CoreState M). x.stop) rest })
-      (λ js. ap (λ (x : CoreState M). table.waiting_of x.locks i) rest ∙ h.own js) (λ j n. ap (λ (x : CoreState M). table.waiting_of x.locks j) rest))
-      act.UndoOne (answer.Undone left) (Undoes ∷ []) (record { latest = latest; earlier = earlier; kept_is = kept_is; left_is = left_is; effects = refl }) holds refl refl (omega arith) (next_few (schema_of s.store) _ _)
+  abbrev its_room : ℕ
+  its_room = latest_bytes (schema_of s.store) (now s.store i) (s.log.logged i).ghosted (now s.store i).kept
+
+  abbrev logged_after : ℕ → Logged
+  logged_after = (logs s.store i act.UndoOne Undoes s.log).logged
+
+  module _ (room was : DataRoom) (bytes : ℕ) (same : was ≡ core.data_room) (same_limit : room.limit ≡ was.limit) (bytes_are : bytes ≡ min its_room (2 ^ 64 - 1)) (small : share_at was.shares i < 2 ^ 64)
+      (own_share : share_at room.shares i ≡ share_at was.shares i - bytes) (others : (j : ℕ) → j ≢ i → share_at room.shares j ≡ share_at was.shares j) (total : room.total ≡ was.total - (share_at was.shares i - share_at room.shares i)) where
+    without : (o : KeepsOne s.store i) → IsReserved room (schema_of after) after.open_of logged_after s.definitions
+    without (inl o) =
+        subst (λ (u : Store). IsReserved room (schema_of u) u.open_of logged_after s.definitions) (sym (ap (undone s.store i (now s.store i)) o.kept_is))
+        (reserved_back (schema_of s.store) s.store.open_of s.log.logged logged_after i (Some (record (now s.store i) { kept = o.earlier; owed = o.latest ∷ (now s.store i).owed; back = (now s.store i).back + 1 })) (undoes (s.log.logged i) (Pay o.latest ∷ o.earlier))
+        (λ j. ap (λ (f : ℕ → Logged). f j) (logs_logged s.store i act.UndoOne Undoes s.log) ∙ ap (λ ks. with_one s.log.logged i (undoes (s.log.logged i) ks) j) o.kept_is)
+        core.data_room was room s.definitions the_open.of_session h.reserves same same_limit bytes 0 (bytes_are ∙ ap (λ ks. min (latest_bytes (schema_of s.store) (now s.store i) (s.log.logged i).ghosted ks) (2 ^ 64 - 1)) o.kept_is)
+        (let same_room = unpaid_room (schema_of s.store) (now s.store i) (s.log.logged i).ghosted o.latest o.earlier o.kept_is in
+        let held = now_room (schema_of s.store) (s.store.open_of i) (s.log.logged i).ghosted in
+        let all : room_kept (schema_of s.store) (Some (record (now s.store i) { kept = o.earlier; owed = o.latest ∷ (now s.store i).owed; back = (now s.store i).back + 1 })) (s.log.logged i).ghosted + 0 ≡ kept_for (schema_of s.store) s.store.open_of s.log.logged i = omega (arith, same_room, held) in
+        all)
+        small own_share others total)
+    without (inr o) =
+        subst (λ (u : Store). IsReserved room (schema_of u) u.open_of logged_after s.definitions) (sym (ap (undone s.store i (now s.store i)) o.kept_is))
+        (reserved_back (schema_of s.store) s.store.open_of s.log.logged logged_after i (Some (record (now s.store i) { kept = o.earlier; owed = []; back = 0; notes = notes_before (length o.earlier) (now s.store i).notes })) (undoes (s.log.logged i) (Put o.change o.owed ∷ o.earlier))
+        (λ j. ap (λ (f : ℕ → Logged). f j) (logs_logged s.store i act.UndoOne Undoes s.log) ∙ ap (λ ks. with_one s.log.logged i (undoes (s.log.logged i) ks) j) o.kept_is)
+        core.data_room was room s.definitions the_open.of_session h.reserves same same_limit bytes (growth_back (schema_of s.store) o.change + sum (map delta_entry (unghosted (s.log.logged i).ghosted (still_owed (now s.store i)))))
+        (bytes_are ∙ ap (λ ks. min (latest_bytes (schema_of s.store) (now s.store i) (s.log.logged i).ghosted ks) (2 ^ 64 - 1)) o.kept_is)
+        (unput_room (schema_of s.store) (now s.store i) (s.log.logged i).ghosted o.change o.owed o.earlier (notes_before (length o.earlier) (now s.store i).notes) o.kept_is ∙ now_room (schema_of s.store) (s.store.open_of i) (s.log.logged i).ghosted)
+        small own_share others total)
+
+    -- with what was kept for it given back
+    pub undone_reserved : IsReserved room (schema_of after) after.open_of logged_after s.definitions
+    undone_reserved = without keeps_here
+
+  pub undone_told : new ≡ record core { store = new.store; book = new.book; ahead = new.ahead; next = new.next } → (room : DataRoom) → room.limit ≡ new.data_room.limit → (left : ℕ) → left ≡ length earlier → Holds maps spare limit new after (logs s.store i act.UndoOne Undoes s.log) s.definitions
+      → IsReserved room (schema_of after) after.open_of logged_after s.definitions → Told maps spare limit s i act.UndoOne (answer.Undone left) (record new { data_room = room })
+  undone_told rest room same_limit left left_is holds reserves =
+      told_by maps spare limit (record new { data_room = room }) s i
+      (data_underway maps spare limit new room s i (still_underway maps spare limit core new s i (begun_underway maps spare limit core s i h)
+      (record { steps = ap (λ (x : CoreState M). x.steps) rest; seats = ap (λ (x : CoreState M). x.seats) rest; cleaner = ap (λ (x : CoreState M). x.cleaner) rest; stop = ap (λ (x : CoreState M). x.stop) rest; limit = ap (λ (x : CoreState M). x.data_room.limit) rest })
+      (λ js. ap (λ (x : CoreState M). table.waiting_of x.locks i) rest ∙ h.own js) (λ j n. ap (λ (x : CoreState M). table.waiting_of x.locks j) rest)) same_limit)
+      act.UndoOne (answer.Undone left) (Undoes ∷ []) (record { latest = latest; earlier = earlier; kept_is = kept_is; left_is = left_is; effects = refl }) (data_holds maps spare limit new room after (logs s.store i act.UndoOne Undoes s.log) s.definitions same_limit holds) reserves refl refl (omega arith) (next_few (schema_of s.store) _ _)

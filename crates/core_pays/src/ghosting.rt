@@ -6,12 +6,13 @@ ghost use Rattle.txn_machine.specs.State.{State};
 ghost use Rattle.txn_book.specs.Acts.{answer_of};
 ghost use Rattle.core_state.specs.Stands.{Began, Told};
 
+use crate::keeping::room_of_first;
 use core_effects::{has_row, make_row, mark_ghosted};
 use core_state::CoreState;
 use iv_types::{NoMemory, SortedMaps};
 use txn_book::Answer;
 
-/// Makes the row of the first delta that a session owes, a row of zeros, where it is absent.
+/// Makes the row of the first delta that a session owes, a row of zeros, where it is absent. What was kept for it is given back.
 ///
 /// # Errors
 ///
@@ -21,11 +22,14 @@ pub fn make_ghost<M: SortedMaps>(core: &mut CoreState<M>, session: u32) -> Resul
     ensures told { IfOk result (λ said. (s : State) → Began M.maps M.spare M.limit core.old s session → MayAct s.store session act.Ghost → Told M.maps M.spare M.limit s session act.Ghost (answer_of said) core.new) }
     ensures err { OnErr result ((s : State) → Began M.maps M.spare M.limit core.old s session → MayAct s.store session act.Ghost → Began M.maps M.spare M.limit core.new s session) }
 {
+    let room = room_of_first(core, session);
     if has_row(core, session) {
         mark_ghosted(core, session);
+        core.data_room.give_back(session, room);
         return Ok(Answer::Ghosted);
     }
     make_row(core, session)?;
     mark_ghosted(core, session);
+    core.data_room.give_back(session, room);
     Ok(Answer::Ghosted)
 }

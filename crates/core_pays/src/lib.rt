@@ -3,6 +3,7 @@
 
 mod ghosting;
 mod holding;
+mod keeping;
 mod paying;
 mod undoing;
 

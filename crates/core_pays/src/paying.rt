@@ -8,6 +8,7 @@ ghost use Rattle.core_state.specs.Stands.{Began, Told};
 ghost use Rattle.core_pays.specs.Holding.{IsHolding, unpaid_as};
 
 use crate::holding::hold_first;
+use crate::keeping::room_of_first;
 use core_effects::pay_first;
 use core_state::CoreState;
 use ghost_rows::PayRefusal;
@@ -26,15 +27,19 @@ fn unpaid(why: PayRefusal) -> Answer
     }
 }
 
-// Pays, where the lock is held.
+// Pays, where the lock is held. What was kept for the delta's row is given back.
 fn pay_held<M: SortedMaps>(core: &mut CoreState<M>, session: u32) -> Answer
     requires { (s : State) × IsHolding M.maps M.spare M.limit s session core.old }
     ensures { (s : State) → IsHolding M.maps M.spare M.limit s session core.old → Told M.maps M.spare M.limit s session act.Pay (answer_of result) core.new }
 {
+    let room = room_of_first(core, session);
     match pay_first(core, session) {
-        Ok(()) => Answer::Paid {
-            left: core.open_of(session).owed.len() as u32,
-        },
+        Ok(()) => {
+            core.data_room.give_back(session, room);
+            Answer::Paid {
+                left: core.open_of(session).owed.len() as u32,
+            }
+        }
         Err(why) => unpaid(why),
     }
 }

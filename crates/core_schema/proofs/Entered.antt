@@ -1,5 +1,5 @@
 -- A definition is entered.
-use Rattle.std.specs.Prelude.{◌≡◌, ℕ, suc, ◌+◌, ◌≤◌, List, [], ◌∷◌, ◌++◌, map, length, slice_get, Option, None, Some}
+use Rattle.std.specs.Prelude.{◌≡◌, ℕ, suc, ◌+◌, ◌-◌, ◌<◌, ◌≤◌, ◌^◌, min, List, [], ◌∷◌, ◌++◌, map, length, slice_get, Option, None, Some}
 use Rattle.std.specs.List.{sum}
 use Rattle.std.specs.Option.{option_and_then}
 use mathlib.Core.Path.{refl, sym, ap, subst, ◌∙◌}
@@ -23,7 +23,7 @@ use Rattle.txn_machine.specs.Counts.{entry_size, definition_size, definition_siz
 use Rattle.txn_machine.specs.Fresh.{fresh, made_of}
 use Rattle.txn_machine.specs.Ghosts.{the_views}
 use Rattle.txn_machine.specs.Keeping.{Open}
-use Rattle.txn_machine.specs.Log.{Logged, logs}
+use Rattle.txn_machine.specs.Log.{Logged, logs, definition_entries}
 use Rattle.txn_machine.specs.State.{State}
 use Rattle.txn_machine.specs.Steps.{history_bytes}
 use Rattle.txn_machine.specs.Store.{Store, committed, schema_of, locks_of, Defines, does}
@@ -47,7 +47,8 @@ use Rattle.data_store.specs.Held.{IsHeld}
 use Rattle.data_defining.specs.Defining.{with_object, AreFirst, CanDefine}
 use Rattle.lock_manager.specs.Table as table
 use Rattle.lock_desk.specs.Asking.{HasLocks}
-use Rattle.core_state.specs.Stands.{Began, Told, Counts}
+use Rattle.data_room.specs.declared.room.DataRoom.{DataRoom}
+use Rattle.core_state.specs.Stands.{Began, Told, Counts, IsOpening}
 use Rattle.core_state.proofs.Rooms.{no_rooms}
 use Rattle.core_state.proofs.Sessions.{contents_as}
 use Rattle.data_past.specs.Ahead.{IsAhead}
@@ -61,7 +62,8 @@ use Rattle.iv_types.specs.Definitions.{CanAdd}
 use Rattle.data_defining.proofs.Adding.{can_add}
 use Rattle.data_defining.proofs.Defined.{number_is}
 use Rattle.core_schema.proofs.Names.{name_is_free}
-use Rattle.core_schema.proofs.Made.{accepted, can_define, fits_log, fits_data}
+use Rattle.core_schema.proofs.Made.{accepted, can_define, fits_log}
+use Rattle.core_schema.proofs.Needs.{defined_reserved}
 
 none_there : (objects : Schema) (a : Option BookOpen) (o : Option Open) (l : Logged) → book.IsSame objects a o l → o ≡ None → a ≡ None
 none_there objects None o l h e = refl
@@ -83,6 +85,8 @@ module _ {M : Type 0} (maps : M → ℕ → Map) (spare : M → ℕ → ℕ) (li
     first_are = subst (λ ds. AreFirst ds (maps new.store.tables) (contents_of s.store) d first) (sym catalog)
         (let P : (ℕ → Map) → Type 0 = λ ms. AreFirst core.store.catalog ms (contents_of s.store) d first in subst P (λ x k. sym (same k) x) m.first_are);
     text_is = m.text_is;
+    data_room = m.data_room;
+    data_small = m.data_small;
     need_is = m.need_is;
     room = m.room;
   }
@@ -147,7 +151,8 @@ module _ {M : Type 0} (maps : M → ℕ → Map) (spare : M → ℕ → ℕ) (li
 
     module _ (new : CoreState M) (change : Change) (is_text : IsTextOf text change) (did : Defined core.book new.book i (change ∷ []) need)
         (stored : IsHeld new.store.catalog (maps new.store.tables) new.store.views (with_object (contents_of s.store) o)) (limits : limit new.store.tables ≡ limit core.store.tables)
-        (rest : new ≡ record core { store = record core.store { catalog = new.store.catalog; tables = new.store.tables; views = new.store.views }; book = new.book; next = core.next + 1 }) where
+        (rest : new ≡ record core { store = record core.store { catalog = new.store.catalog; tables = new.store.tables; views = new.store.views }; book = new.book; data_room = new.data_room; next = core.next + 1 })
+        (bytes : ℕ) (bytes_are : bytes ≡ min (definition_entries text) (2 ^ 64 - 1)) (room_is : new.data_room ≡ record core.data_room { total = new.data_room.total }) (more : core.data_room.total + bytes < 2 ^ 64 → new.data_room.total ≡ core.data_room.total + bytes) where
       book_then : book.Holds new.book (schema_of u) u.open_of (logs s.store i a (Defines o) s.log).logged u.history (committed u).number (definition_sizes (s.definitions ++ statement_text statement ∷ []))
       book_then =
           let size : need ≡ entry_size + definition_size statement = m.need_is in
@@ -172,7 +177,7 @@ module _ {M : Type 0} (maps : M → ℕ → Map) (spare : M → ℕ → ℕ) (li
       pub entered_told : (number : ℕ) → number ≡ number_of core.book + 1 → Told maps spare limit s i a (answer.Committed number) new
       entered_told number number_is = record {
         reached = h.reached;
-        opening = h.opening;
+        opening = subst (λ x. IsOpening x s) (sym (ap (λ (x : DataRoom). x.limit) room_is)) h.opening;
         runs = h.runs;
         effects = Defines o ∷ [];
         says = record {
@@ -181,7 +186,7 @@ module _ {M : Type 0} (maps : M → ℕ → Map) (spare : M → ℕ → ℕ) (li
           none_open = m.may.none;
           accepted = (0, defines o ∷ [], accepted maps spare limit core s i statement d m.may first m.first_are);
           log_room = fits_log maps spare limit core s i statement d m.may first m.first_are;
-          data_room = fits_data maps spare limit core s i statement d m.may first m.first_are;
+          data_room = m.data_room;
           room = subst (λ n. history_bytes s + n ≤ most_of_history) m.need_is m.room;
           number_is = number_is ∙ ap (λ n. n + 1) h.holds.book.number;
           effects = refl;
@@ -194,14 +199,15 @@ module _ {M : Type 0} (maps : M → ℕ → Map) (spare : M → ℕ → ℕ) (li
           next = ap (λ (x : CoreState M). x.next) rest ∙ ap (λ n. n + 1) h.holds.next;
           row_mark = ap (λ (x : CoreState M). x.store.row_versions.pruned) rest ∙ h.holds.row_mark;
           delta_mark = ap (λ (x : CoreState M). x.store.delta_versions.pruned) rest ∙ h.holds.delta_mark;
+          most = limits ∙ (h.holds.most ∙ sym (ap (λ (x : DataRoom). x.limit) room_is));
           past = subst (λ (st : DataStore M). IsPast st.row_versions.versions st.delta_versions.versions st.pending.entries u) (sym (ap (λ (x : CoreState M). x.store) rest))
               (leaves_law s h.reached core.store.row_versions.versions core.store.delta_versions.versions core.store.pending.entries h.holds.past i (Defines o) m.may.none);
           ahead = subst (λ (x : CoreState M). IsAhead x.ahead x.store.row_versions.room x.store.delta_versions.room u) (sym rest)
               (ahead_defines core.ahead core.store.row_versions.room core.store.delta_versions.room s.store h.holds.ahead i o
               (λ j. elim (session_or j) [ inl js ↦ m.may.none j js | inr n ↦ nobody_open s h.reached j n ]));
-          rooms = no_rooms (spare new.store.tables) (limit new.store.tables) new.store.catalog new.store.views new.book.opens new.locks new.wants (limits ∙ h.holds.rooms.unlimited)
-              (subst IsLimited (sym stored.objects) can.evaluated.limited) (λ j. ap (λ os. open_at os j) did.opens ∙ nobody j);
+          rooms = no_rooms (spare new.store.tables) new.store.catalog new.store.views new.book.opens new.locks new.wants (subst IsLimited (sym stored.objects) can.evaluated.limited) (λ j. ap (λ os. open_at os j) did.opens ∙ nobody j);
         };
+        reserves = defined_reserved maps spare limit core s i statement d m.may first m.first_are (schema_of u) (logs s.store i a (Defines o) s.log).logged text m.text_is new.data_room bytes bytes_are m.data_small room_is more;
         own = λ sessions e. absurd (cc);
         none = λ _ js. subst (λ ls. table.waiting_of ls i ≡ []) (sym (ap (λ (x : CoreState M). x.locks) rest)) (h.own js);
         waiting = λ j js n. subst (λ ls. table.waiting_of ls j ≡ s.waiting j) (sym (ap (λ (x : CoreState M). x.locks) rest)) (h.waiting j js n);

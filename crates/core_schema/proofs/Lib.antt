@@ -1,5 +1,6 @@
 pub mod Names
 pub mod Made
+pub mod Needs
 pub mod Roomier
 pub mod Entered
 pub mod Fitting

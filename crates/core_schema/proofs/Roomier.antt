@@ -42,15 +42,16 @@ roomier maps spare limit core s i after tables h same as_before more limits = re
     next = h.holds.next;
     row_mark = h.holds.row_mark;
     delta_mark = h.holds.delta_mark;
+    most = limits ∙ h.holds.most;
     past = h.holds.past;
     ahead = h.holds.ahead;
     rooms = record {
-      unlimited = limits ∙ h.holds.rooms.unlimited;
       limited = h.holds.rooms.limited;
       undo = λ k. let were = h.holds.rooms.undo k in let gone : all_gone k after.opens ≡ all_gone k core.book.opens = ap (all_gone k) same.opens in let room = more k in omega (arith, were, gone, room);
       each = λ j js t there. h.holds.rooms.each j js t (sym (ap (λ os. open_at os j) same.opens) ∙ there);
     };
   };
+  reserves = h.reserves;
   own = h.own;
   waiting = h.waiting;
   counts = record { steps = h.counts.steps; seats = h.counts.seats; few = h.counts.few; cleaner = h.counts.cleaner; removed = h.counts.removed; running = h.counts.running; begun = h.counts.begun; next = h.counts.next; stop = h.counts.stop };

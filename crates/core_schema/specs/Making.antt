@@ -1,7 +1,7 @@
 -- No clause of `run` rests on this module: it serves contracts between crates.
 --
 -- When a definition can be made, and the change that its entry in the history has.
-use Rattle.std.specs.Prelude.{◌≡◌, ℕ, ◌+◌, ◌≤◌, List, [], ◌∷◌, Option, None, Some}
+use Rattle.std.specs.Prelude.{◌≡◌, ℕ, ◌+◌, ◌<◌, ◌≤◌, ◌^◌, List, [], ◌∷◌, Option, None, Some}
 use Rattle.iv_types.specs.Maps.{Map}
 use Rattle.iv_types.specs.Printing.{statement_text}
 use Rattle.iv_types.specs.Syntax.{StatementTree}
@@ -14,9 +14,10 @@ use Rattle.txn_machine.specs.Acts as act
 use Rattle.txn_machine.specs.Counts.{entry_size, definition_size, most_of_history}
 use Rattle.txn_machine.specs.May.{MayAct}
 use Rattle.txn_machine.specs.State.{State}
-use Rattle.txn_machine.specs.Steps.{Makes, NoneIsOpen, history_bytes}
+use Rattle.txn_machine.specs.Steps.{Makes, NoneIsOpen, FitsData, made_need, used_data, history_bytes}
 use Rattle.data_store.specs.Contents.{contents_of}
 use Rattle.data_defining.specs.Defining.{AreFirst}
+use Rattle.data_room.specs.Reserved.{Where}
 use Rattle.core_state.specs.Stands.{Began}
 use Rattle.core_state.specs.declared.state.CoreState.{CoreState}
 
@@ -45,11 +46,21 @@ module _ {M : Type 0} (maps : M → ℕ → Map) (spare : M → ℕ → ℕ) (li
     pub first_are : AreFirst core.store.catalog (maps core.store.tables) (contents_of s.store) definition first
     pub text_is : text ≡ statement_text statement
 
-  -- it begins with these entries, and the history has room for its text
+  -- it begins with these entries, this is its text, and the data have room for them
+  pub record MayKeep (s : State) (core : CoreState M) (session : ℕ) (statement : StatementTree) (definition : Definition) (first : List IndexEntry) (text : List ℕ) : Type 0 where
+    pub may : MayMake s core session statement definition
+    pub first_are : AreFirst core.store.catalog (maps core.store.tables) (contents_of s.store) definition first
+    pub text_is : text ≡ statement_text statement
+    pub data_room : FitsData s (made_need s.store statement (object_of definition))
+    pub data_small : Where s.opening.data_limit (used_data s + made_need s.store statement (object_of definition) < 2 ^ 32)
+
+  -- it begins with these entries, and the data and the history have room for them and for its text
   pub record MayEnter (s : State) (core : CoreState M) (session : ℕ) (statement : StatementTree) (definition : Definition) (first : List IndexEntry) (text : List ℕ) (need : ℕ) : Type 0 where
     pub may : MayMake s core session statement definition
     pub first_are : AreFirst core.store.catalog (maps core.store.tables) (contents_of s.store) definition first
     pub text_is : text ≡ statement_text statement
+    pub data_room : FitsData s (made_need s.store statement (object_of definition))
+    pub data_small : Where s.opening.data_limit (used_data s + made_need s.store statement (object_of definition) < 2 ^ 32)
     pub need_is : need ≡ entry_size + definition_size statement
     pub room : history_bytes s + need ≤ most_of_history
 

@@ -13,9 +13,9 @@ ghost use Rattle.txn_machine.specs.State.{State};
 ghost use Rattle.txn_book.specs.Acts.{answer_of};
 ghost use Rattle.txn_book.specs.declared.step.Answer.TheVariants as answer;
 ghost use Rattle.core_state.specs.Stands.{Began, Told};
-ghost use Rattle.core_schema.specs.Making.{IsMade, MayMake, MayBegin, MayFit};
+ghost use Rattle.core_schema.specs.Making.{IsMade, MayMake, MayBegin, MayFit, MayKeep};
 
-use crate::entering::{enter, entry_need};
+use crate::entering::{data_need, enter, entry_need};
 use core_state::{CoreState, MOST_OF_HISTORY, fits};
 use data_defining::first_entries;
 use iv_types::{
@@ -49,7 +49,30 @@ fn denied(refusal: Refusal) -> Result<Answer, NoMemory>
     }
 }
 
-// Enters a definition of this text, where the history has room for it.
+// Enters a definition of this text, for which the data have room, where the history has room for it.
+fn enter_kept<M: SortedMaps>(
+    core: &mut CoreState<M>,
+    session: u32,
+    definition: Definition,
+    first: IndexEntryList,
+    text: Bytes,
+) -> Result<Answer, NoMemory>
+    requires { (s : State) × (statement : StatementTree) × MayKeep M.maps M.spare M.limit s core.old session statement definition first text }
+    ensures told { IfOk result (λ said. (s : State) (statement : StatementTree) → MayKeep M.maps M.spare M.limit s core.old session statement definition first text
+        → Told M.maps M.spare M.limit s session (act.Schema statement) (answer_of said) core.new) }
+    ensures err { OnErr result ((s : State) → Began M.maps M.spare M.limit core.old s session → Began M.maps M.spare M.limit core.new s session) }
+{
+    core.book.book_law();
+    let need = entry_need(text.as_slice());
+    let kept = core.book.history_bytes();
+    if fits(kept, need, MOST_OF_HISTORY) {
+        return enter(core, session, definition, first, text, need);
+    }
+    definition.let_go();
+    Ok(Answer::Refused(EngineRefusal::HistoryFull { kept, need }))
+}
+
+// Enters a definition of this text, where the data and the history have room for it.
 fn enter_fitting<M: SortedMaps>(
     core: &mut CoreState<M>,
     session: u32,
@@ -62,14 +85,14 @@ fn enter_fitting<M: SortedMaps>(
         → Told M.maps M.spare M.limit s session (act.Schema statement) (answer_of said) core.new) }
     ensures err { OnErr result ((s : State) → Began M.maps M.spare M.limit core.old s session → Began M.maps M.spare M.limit core.new s session) }
 {
-    core.book.book_law();
-    let need = entry_need(text.as_slice());
-    let kept = core.book.history_bytes();
-    if fits(kept, need, MOST_OF_HISTORY) {
-        return enter(core, session, definition, first, text, need);
+    let need = data_need(text.as_slice(), first.as_slice());
+    match core.full_of_data(need) {
+        Some(used) => {
+            definition.let_go();
+            Ok(Answer::Refused(EngineRefusal::DataFull { used, need }))
+        }
+        None => enter_kept(core, session, definition, first, text),
     }
-    definition.let_go();
-    Ok(Answer::Refused(EngineRefusal::HistoryFull { kept, need }))
 }
 
 // Makes an object that begins with these entries.
@@ -132,7 +155,7 @@ fn make<M: SortedMaps>(
 }
 
 /// Runs a CREATE statement: it is refused for what it means where that can be told without rows, then where a transaction is
-/// open, then where a view's rows can't be evaluated, and where the history has no room for it. Else the object is defined, as an
+/// open, then where a view's rows can't be evaluated, and where the data or the history have no room for it. Else the object is defined, as an
 /// entry of the next number, with the entries of its index or the rows of its view.
 ///
 /// # Errors

@@ -3,7 +3,9 @@ ghost use Rattle.std.specs.Prelude.{◌≡◌, ◌+◌, ◌-◌, ◌^◌, ◌≤
 ghost use Rattle.iv_types.specs.declared.lock.Change.{Change as AnyChange};
 ghost use Rattle.iv_types.specs.Syntax.{StatementTree};
 ghost use Rattle.txn_machine.specs.Acts as act;
+ghost use Rattle.table_store.specs.Changes.{sizes};
 ghost use Rattle.txn_machine.specs.Counts.{entry_size, text_size};
+ghost use Rattle.txn_machine.specs.Log.{definition_entries};
 ghost use Rattle.txn_machine.specs.State.{State};
 ghost use Rattle.txn_book.specs.Acts.{answer_of};
 ghost use Rattle.txn_book.specs.Books.{how_many_open};
@@ -12,7 +14,7 @@ ghost use Rattle.core_schema.specs.Making.{MayEnter, IsTextOf};
 
 use core_state::CoreState;
 use data_defining::{define, reserve_first};
-use data_store::definition_size;
+use data_store::{definition_entries as text_entries, definition_size};
 use iv_types::{
     Bytes, Change, ChangeList, Definition, IndexEntry, IndexEntryList, NoMemory, Row, SortedMaps,
     Value,
@@ -25,6 +27,26 @@ pub(crate) fn entry_need(text: &[u8]) -> u64
     ensures { result ≡ min (entry_size + text_size text.now) (2 ^ 64 - 1) }
 {
     ENTRY_BYTES.saturating_add(definition_size(text))
+}
+
+// What these entries count in the data.
+fn entries_size(entries: &[IndexEntry]) -> u64
+    ensures { result ≡ min (sizes entries.now) (2 ^ 64 - 1) }
+{
+    let mut size: u64 = 0;
+    for entry in entries {
+        let key = entry.key.as_slice().len() as u64;
+        let value = entry.value.as_slice().len() as u64;
+        size = size.saturating_add(key.saturating_add(value).saturating_add(8));
+    }
+    size
+}
+
+/// What a definition of this text counts in the data, with the entries that its object begins with.
+pub(crate) fn data_need(text: &[u8], first: &[IndexEntry]) -> u64
+    ensures { result ≡ min (definition_entries text.now + sizes first.now) (2 ^ 64 - 1) }
+{
+    text_entries(text).saturating_add(entries_size(first))
 }
 
 // The change of an entry of a definition: table 0, as key the four bytes of the object number, and its text as the one Word of
@@ -70,7 +92,7 @@ fn reserve<M: SortedMaps>(
     reserve_first(&mut core.store, number, first)
 }
 
-/// Enters a definition, for which the history has room, with the entries that it begins with. No transaction is open.
+/// Enters a definition, for which the data and the history have room, with the entries that it begins with. No transaction is open.
 ///
 /// # Errors
 ///
@@ -89,11 +111,13 @@ pub(crate) fn enter<M: SortedMaps>(
     ensures err { OnErr result ((s : State) → Began M.maps M.spare M.limit core.old s session → Began M.maps M.spare M.limit core.new s session) }
 {
     let number = definition.number();
+    let text_bytes = text_entries(text.as_slice());
     let changes = text_changes(core.alloc, number, text)?;
     reserve(core, number, first.as_slice())?;
     core.book.book_law();
     define(&mut core.store, definition, first)?;
     let number = core.book.define(session, changes, need);
     core.next += 1;
+    core.data_room.define(text_bytes);
     Ok(Answer::Committed(number))
 }

@@ -32,6 +32,7 @@ use Rattle.txn_book.specs.declared.step.Answer.{Answer as Said}
 use Rattle.txn_book.specs.declared.step.Answer.TheVariants as said
 use Rattle.core_state.specs.Seats.{machine_seat, machine_cleaner, seat_at, refusal_in, tells, told, cleaned}
 use Rattle.core_state.specs.Stands.{Stands, Told, Moved, is_blocked, Holds}
+use Rattle.core_state.proofs.Data.{steps_on}
 use Rattle.core_state.specs.declared.seat.Seat.{Seat}
 use Rattle.core_state.specs.declared.seat.Cleaner.{Cleaner}
 use Rattle.core_state.specs.declared.state.CoreState.{CoreState}
@@ -212,8 +213,9 @@ module _ {M : Type 0} (maps : M → ℕ → Map) (spare : M → ℕ → ℕ) (li
         does = does;
         stands = record {
           reached = leads_on s i a (answer_of x) the_after t.reached does;
-          opening = t.opening;
-          holds = record { stored = h.stored; book = h.book; locks = h.locks; begun = h.begun; next = h.next; row_mark = h.row_mark; delta_mark = h.delta_mark; past = h.past; ahead = h.ahead; rooms = h.rooms };
+          opening = steps_on core.data_room.limit s i a (answer_of x) the_after t.opening does refl;
+          reserves = t.reserves;
+          holds = record { stored = h.stored; book = h.book; locks = h.locks; begun = h.begun; next = h.next; row_mark = h.row_mark; delta_mark = h.delta_mark; past = h.past; ahead = h.ahead; rooms = h.rooms; most = h.most };
           waiting = λ j js. by_session j i
               (λ e. subst (λ k. table.waiting_of core.locks k ≡ with_one s.waiting i the_waits k) (sym e)
               (waits_are s.store i a (answer_of x) (table.waiting_of core.locks i) t.own (λ not. t.none not (subst IsSession e js)) ∙ sym (one_same s.waiting i the_waits i refl)))
@@ -266,8 +268,9 @@ stop_told maps spare limit core s i a stop seats may within h stopped own others
       does = does;
       stands = record {
         reached = leads_on s i a (answer.Refused (refused.Stopped stop.step)) (machine.told_of_stop s i) h.reached does;
-        opening = h.opening;
-        holds = record { stored = h.holds.stored; book = h.holds.book; locks = h.holds.locks; begun = h.holds.begun; next = h.holds.next; row_mark = h.holds.row_mark; delta_mark = h.holds.delta_mark; past = h.holds.past; ahead = h.holds.ahead; rooms = h.holds.rooms };
+        opening = steps_on core.data_room.limit s i a (answer.Refused (refused.Stopped stop.step)) (machine.told_of_stop s i) h.opening does refl;
+        reserves = h.reserves;
+        holds = record { stored = h.holds.stored; book = h.holds.book; locks = h.holds.locks; begun = h.holds.begun; next = h.holds.next; row_mark = h.holds.row_mark; delta_mark = h.holds.delta_mark; past = h.holds.past; ahead = h.holds.ahead; rooms = h.holds.rooms; most = h.holds.most };
         waiting = h.waiting;
         counts = record {
           steps = h.counts.steps;

@@ -5,3 +5,4 @@ pub mod Opened
 pub mod Closed
 pub mod Counted
 pub mod Few
+pub mod Data

@@ -1,9 +1,11 @@
 -- A core as it is made, and as a step begins.
-use Rattle.std.specs.Prelude.{◌≡◌, ◌≢◌, ℕ, List, [], ◌∷◌, length, Option, None, refl}
-use Rattle.std.specs.List.{AllZip}
-use Rattle.std.specs.FinMap.{empty}
+use Rattle.std.specs.Prelude.{◌≡◌, ◌≢◌, ℕ, ◌+◌, ℤ, List, [], ◌∷◌, map, length, Option, None, Some, refl}
+use Rattle.std.specs.List.{AllZip, sum}
+use Rattle.std.specs.FinMap.{empty, entries, len-entries, len-empty}
 use mathlib.Core.Path.{sym, ap, subst, ◌∙◌}
 use Rattle.std.proofs.Common.{arith}
+use Rattle.std.proofs.lemmas.List.{nil_from_length}
+use Rattle.table_laws.specs.Place.{Place, place_cmp}
 use Rattle.table_laws.proofs.Stored.{by_session}
 use Rattle.iv_types.specs.Maps.{Map}
 use Rattle.lock_manager.specs.Table as table
@@ -14,11 +16,15 @@ use Rattle.iv_types.specs.declared.lock.Want.{Want}
 use Rattle.query_laws.specs.Limited.{IsLimited}
 use Rattle.query_laws.proofs.LimitedLemmas.{numbers_law}
 use Rattle.core_state.proofs.Rooms.{rooms_back, no_rooms}
-use Rattle.iv_meaning.specs.Database.{Database}
-use Rattle.txn_machine.specs.Laws.{EmptyLaw}
-use Rattle.txn_machine.specs.Log.{unlimited, not_logged}
+use Rattle.iv_meaning.specs.Database.{Row, Database}
+use Rattle.txn_machine.specs.Laws.{EmptyLaw, IsReached}
+use Rattle.txn_machine.specs.Counts.{sum_over}
+use Rattle.txn_machine.specs.Log.{Within, not_logged, row_entries, view_entry, view_entries}
 use Rattle.txn_machine.specs.Store.{locks_of, opened}
 use Rattle.txn_machine.specs.State.{State, opened_state}
+use Rattle.txn_machine.specs.Steps.{used_data}
+use Rattle.txn_machine.proofs.LogSums.{sum_none}
+use Rattle.txn_log.specs.Room.{rows_bytes, OpensWithin}
 use Rattle.txn_book.specs.Holding as book
 use Rattle.txn_book.specs.Opens.{open_at}
 use Rattle.txn_book.specs.declared.open_table.Open.{Open}
@@ -30,8 +36,10 @@ use Rattle.data_store.specs.ViewPast.{DeltaVersions}
 use Rattle.data_past.specs.Ahead.{rows_at, deltas_at}
 use Rattle.data_past.proofs.Aheads.{ahead_opened}
 use Rattle.data_past.proofs.Effects.{past_opened}
+use Rattle.data_room.specs.Reserved.{share_at, kept_for}
+use Rattle.data_room.proofs.Kept.{reserved_none}
 use Rattle.core_state.specs.Seats.{new_seat, seat_at, machine_seat, machine_cleaner}
-use Rattle.core_state.specs.Stands.{Stands, Began}
+use Rattle.core_state.specs.Stands.{Stands, Began, limited}
 use Rattle.core_state.specs.declared.state.CoreState.{CoreState}
 
 module _ {M : Type 0} (maps : M → ℕ → Map) (spare : M → ℕ → ℕ) (limit : M → Option ℕ) (core : CoreState M) (t : Table) (back : List (List (List Want))) (s : State) (i : ℕ) where
@@ -48,6 +56,7 @@ module _ {M : Type 0} (maps : M → ℕ → Map) (spare : M → ℕ → ℕ) (li
     reached = h.reached;
     opening = h.opening;
     runs = runs;
+    reserves = h.reserves;
     holds = record {
       stored = h.holds.stored;
       book = h.holds.book;
@@ -58,7 +67,8 @@ module _ {M : Type 0} (maps : M → ℕ → Map) (spare : M → ℕ → ℕ) (li
       delta_mark = h.holds.delta_mark;
       past = h.holds.past;
       ahead = h.holds.ahead;
-      rooms = rooms_back (spare core.store.tables) (limit core.store.tables) core.store.catalog core.store.views core.book.opens core.locks t core.wants back i h.holds.rooms cancelled put there others;
+      most = h.holds.most;
+      rooms = rooms_back (spare core.store.tables) core.store.catalog core.store.views core.book.opens core.locks t core.wants back i h.holds.rooms cancelled put there others;
     };
     own = λ _. ap (λ (x : SessionLocks). x.waiting) cancelled.changed;
     waiting = λ j js n. ap (λ (x : SessionLocks). x.waiting) (cancelled.others j n) ∙ h.waiting j js;
@@ -82,7 +92,23 @@ module _ {M : Type 0} (maps : M → ℕ → Map) (spare : M → ℕ → ℕ) (li
   the_db = record { number = number; schema = []; rows = empty }
 
   abbrev the_state : State
-  the_state = opened_state unlimited (opened the_db empty)
+  the_state = opened_state (limited core.data_room.limit) (opened the_db empty)
+
+  abbrev reached_here : EmptyLaw → IsReached the_state
+  reached_here law = record { db = the_db; view = empty; opening = limited core.data_room.limit; was_opened = law number; steps = []; run = refl }
+
+  no_entries : {X : Type 0} → entries (empty {X = X} {R = place_cmp}) ≡ []
+  no_entries {X} = nil_from_length _ (sym (len-entries (empty {X = X} {R = place_cmp})) ∙ len-empty place_cmp X)
+
+  -- nothing is used
+  within_here : (most : Option ℕ) → OpensWithin (limited most) (record { db = the_db; view = empty })
+  within_here None = tt
+  within_here (Some most) =
+      let rows : rows_bytes [] empty ≡ 0 = ap (λ (es : List (Place × Row)). sum (map (λ e. row_entries [] e.0 e.1) es)) no_entries in
+      let views : view_entries empty ≡ 0 = ap (λ (es : List (Place × List ℤ)). sum (map (λ e. view_entry e.0 (length e.1)) es)) no_entries in
+      let kept : sum_over 64 (kept_for [] (λ session. None) (λ session. not_logged)) ≡ 0 = sum_none 64 (kept_for [] (λ session. None) (λ session. not_logged)) (λ j lo hi. refl) in
+      let all : used_data (opened_state (limited (Some most)) (opened the_db empty)) ≡ rows_bytes [] empty + view_entries empty + 0 + sum_over 64 (kept_for [] (λ session. None) (λ session. not_logged)) = refl in
+      omega (arith, rows, views, kept, all)
 
   nobody : (o : Option Open) → o ≡ None → book.IsSame [] o None not_logged
   nobody o e = subst (λ x. book.IsSame [] x None not_logged) (sym e) tt
@@ -97,10 +123,11 @@ module _ {M : Type 0} (maps : M → ℕ → Map) (spare : M → ℕ → ℕ) (li
   -- it stands where the machine begins
   pub made : EmptyLaw → IsHeld core.store.catalog (maps core.store.tables) core.store.views no_contents → (core.store.row_versions.pruned ≡ number) × (core.store.delta_versions.pruned ≡ number)
       → (core.store.row_versions.versions ≡ []) × (core.store.delta_versions.versions ≡ []) × (core.store.pending.entries ≡ empty) → core.book.opened ≡ number → core.book.history ≡ [] → core.book.entry_bytes ≡ 0 → ((session : ℕ) → open_at core.book.opens session ≡ None)
-      → IsNew core.locks → ((session : ℕ) → rows_at core.ahead session ≡ []) → ((session : ℕ) → deltas_at core.ahead session ≡ []) → limit core.store.tables ≡ None → core.begun ≡ 0 → core.next ≡ 1 → core.steps ≡ 0 → ((session : ℕ) → seat_at core.seats session ≡ new_seat) → machine_cleaner core.cleaner ≡ the_state.cleaner → core.stop ≡ None → Stands maps spare limit core the_state
-  made law stored marks past opened_at history bytes none new no_rows no_deltas unlimited_maps begun next steps seats cleaner stop = record {
-    reached = record { db = the_db; view = empty; opening = unlimited; was_opened = law number; steps = []; run = refl };
-    opening = refl;
+      → IsNew core.locks → ((session : ℕ) → rows_at core.ahead session ≡ []) → ((session : ℕ) → deltas_at core.ahead session ≡ []) → limit core.store.tables ≡ core.data_room.limit → core.data_room.total ≡ 0 → ((session : ℕ) → share_at core.data_room.shares session ≡ 0) → core.begun ≡ 0 → core.next ≡ 1 → core.steps ≡ 0 → ((session : ℕ) → seat_at core.seats session ≡ new_seat) → machine_cleaner core.cleaner ≡ the_state.cleaner → core.stop ≡ None → Stands maps spare limit core the_state
+  made law stored marks past opened_at history bytes none new no_rows no_deltas most total shares begun next steps seats cleaner stop = record {
+    reached = reached_here law;
+    opening = record { is = refl; reached = reached_here law; was = refl; within = within_here core.data_room.limit };
+    reserves = reserved_none core.data_room [] (λ session. None) (λ session. not_logged) total shares (λ session. refl);
     holds = record {
       stored = stored;
       book = record {
@@ -117,7 +144,8 @@ module _ {M : Type 0} (maps : M → ℕ → Map) (spare : M → ℕ → ℕ) (li
       delta_mark = marks.1;
       past = past_of past.0 past.1 past.2;
       ahead = ahead_opened core.ahead core.store.row_versions.room core.store.delta_versions.room the_db empty no_rows no_deltas;
-      rooms = no_rooms (spare core.store.tables) (limit core.store.tables) core.store.catalog core.store.views core.book.opens core.locks core.wants unlimited_maps (subst IsLimited (sym stored.objects) numbers_law.0) none;
+      most = most;
+      rooms = no_rooms (spare core.store.tables) core.store.catalog core.store.views core.book.opens core.locks core.wants (subst IsLimited (sym stored.objects) numbers_law.0) none;
     };
     waiting = λ j js. ap (λ (x : SessionLocks). x.waiting) (new j);
     counts = record {

@@ -74,15 +74,14 @@ covered_by definitions views views_after locks locks_after wants wants_after j t
 }
 
 -- what stands ready, where one session's transaction is another, or none
-pub rooms_with : (spare spare_after : ℕ → ℕ) (limit limit_after : Option ℕ) (definitions : Definitions) (views views_after : ViewState) (opens opens_after : List (Option Open)) (locks locks_after : Table)
+pub rooms_with : (spare spare_after : ℕ → ℕ) (definitions : Definitions) (views views_after : ViewState) (opens opens_after : List (Option Open)) (locks locks_after : Table)
     (wants wants_after : List (List (List Want))) (i : ℕ) (o : Option Open)
-    → HasRooms spare limit definitions views opens locks wants → limit_after ≡ limit → ((index : ℕ) → all_gone index opens_after ≤ spare_after index)
+    → HasRooms spare definitions views opens locks wants → ((index : ℕ) → all_gone index opens_after ≤ spare_after index)
     → open_at opens_after i ≡ o → ((j : ℕ) → j ≢ i → open_at opens_after j ≡ open_at opens j)
     → IsElsewhere i views views_after locks locks_after wants wants_after
     → ((t : Open) → o ≡ Some t → IsSession i → IsCovered definitions views_after locks_after (wants_at wants_after i) i (txn_of t))
-    → HasRooms spare_after limit_after definitions views_after opens_after locks_after wants_after
-rooms_with spare spare_after limit limit_after definitions views views_after opens opens_after locks locks_after wants wants_after i o h same_limit undo here there others own = record {
-  unlimited = same_limit ∙ h.unlimited;
+    → HasRooms spare_after definitions views_after opens_after locks_after wants_after
+rooms_with spare spare_after definitions views views_after opens opens_after locks locks_after wants wants_after i o h undo here there others own = record {
   limited = h.limited;
   undo = undo;
   each = λ j js t is. by_session j i
@@ -162,24 +161,23 @@ seats_left old new i j place differ e h = seat_of (row_at old.rows place) (row_a
 
 -- ---- a core as it is made, and as a step begins
 
-pub no_rooms : (spare : ℕ → ℕ) (limit : Option ℕ) (definitions : Definitions) (views : ViewState) (opens : List (Option Open)) (locks : Table) (wants : List (List (List Want))) → limit ≡ None → IsLimited (defined.schema_of definitions)
-    → ((session : ℕ) → open_at opens session ≡ None) → HasRooms spare limit definitions views opens locks wants
-no_rooms spare limit definitions views opens locks wants unlimited limited none = record {
-  unlimited = unlimited;
+pub no_rooms : (spare : ℕ → ℕ) (definitions : Definitions) (views : ViewState) (opens : List (Option Open)) (locks : Table) (wants : List (List (List Want))) → IsLimited (defined.schema_of definitions)
+    → ((session : ℕ) → open_at opens session ≡ None) → HasRooms spare definitions views opens locks wants
+no_rooms spare definitions views opens locks wants limited none = record {
   limited = limited;
   undo = λ index. let zero : all_gone index opens ≡ 0 = nothing_gone index opens none in omega (arith, zero);
   each = λ j js t is. let bad : None ≡ Some t = sym (none j) ∙ is in absurd cc;
 }
 
 -- a session's step begins
-pub rooms_back : (spare : ℕ → ℕ) (limit : Option ℕ) (definitions : Definitions) (views : ViewState) (opens : List (Option Open)) (locks after : Table) (wants back : List (List (List Want))) (i : ℕ)
-    → HasRooms spare limit definitions views opens locks wants → IsCancelled locks after i
+pub rooms_back : (spare : ℕ → ℕ) (definitions : Definitions) (views : ViewState) (opens : List (Option Open)) (locks after : Table) (wants back : List (List (List Want))) (i : ℕ)
+    → HasRooms spare definitions views opens locks wants → IsCancelled locks after i
     → ((more : List (List Want)) → wants_at wants i ≡ [] ∷ more → wants_at back i ≡ table.waiting_of locks i ∷ more)
     → ((want : Want) (others : List Want) (more : List (List Want)) → wants_at wants i ≡ (want ∷ others) ∷ more → wants_at back i ≡ wants_at wants i)
     → ((j : ℕ) → j ≢ i → wants_at back j ≡ wants_at wants j)
-    → HasRooms spare limit definitions views opens after back
-rooms_back spare limit definitions views opens locks after wants back i h cancelled put there others =
-    rooms_with spare spare limit limit definitions views views opens opens locks after wants back i (open_at opens i) h refl h.undo refl (λ j n. refl)
+    → HasRooms spare definitions views opens after back
+rooms_back spare definitions views opens locks after wants back i h cancelled put there others =
+    rooms_with spare spare definitions views views opens opens locks after wants back i (open_at opens i) h h.undo refl (λ j n. refl)
     (record { of_locks = cancelled.others; of_wants = others; of_buffers = λ j n. omega arith; of_seats = λ j place n has. has })
     (λ t is js. let c = h.each i js t is in record {
       wanted = subst (λ (p : SessionLocks). AreWanted p.room p.locks p.waiting (wants_at back i) (still_owed (txn_of t))) (sym cancelled.changed)
@@ -193,41 +191,41 @@ rooms_back spare limit definitions views opens locks after wants back i h cancel
 -- ---- a transaction that changes, or ends
 
 -- with room for what is to go back in then
-pub rooms_moved : (spare spare_after : ℕ → ℕ) (limit limit_after : Option ℕ) (definitions : Definitions) (views views_after : ViewState) (b after : Books) (locks locks_after : Table)
+pub rooms_moved : (spare spare_after : ℕ → ℕ) (definitions : Definitions) (views views_after : ViewState) (b after : Books) (locks locks_after : Table)
     (wants wants_after : List (List (List Want))) (i : ℕ) (t : Txn)
-    → IsBook b → IsSession i → HasRooms spare limit definitions views b.opens locks wants → limit_after ≡ limit → Changes b after i t
+    → IsBook b → IsSession i → HasRooms spare definitions views b.opens locks wants → Changes b after i t
     → ((index : ℕ) → all_gone index b.opens + gone_of index t.kept ≤ spare_after index + gone_if index (open_at b.opens i))
     → IsElsewhere i views views_after locks locks_after wants wants_after → IsCovered definitions views_after locks_after (wants_at wants_after i) i t
-    → HasRooms spare_after limit_after definitions views_after after.opens locks_after wants_after
-rooms_moved spare spare_after limit limit_after definitions views views_after b after locks locks_after wants wants_after i t good is h same_limit changes more others covered =
+    → HasRooms spare_after definitions views_after after.opens locks_after wants_after
+rooms_moved spare spare_after definitions views views_after b after locks locks_after wants wants_after i t good is h changes more others covered =
     let lt : i < length b.opens = omega (arith, good.places, is.1) in
     let opens : after.opens ≡ slice_set b.opens i (Some changes.after) = changes.seats.opens in
-    rooms_with spare spare_after limit limit_after definitions views views_after b.opens after.opens locks locks_after wants wants_after i (Some changes.after) h same_limit
+    rooms_with spare spare_after definitions views views_after b.opens after.opens locks locks_after wants wants_after i (Some changes.after) h
     (λ index. subst (λ os. all_gone index os ≤ spare_after index) (sym opens)
     (let same : gone_if index (Some changes.after) ≡ gone_of index t.kept = ap (λ (u : Txn). gone_of index u.kept) changes.is in let set = gone_set index b.opens i (Some changes.after) lt in omega (arith, same, more index, set)))
     (ap (λ os. open_at os i) opens ∙ set_at b.opens i (Some changes.after) lt)
     (λ j n. ap (λ os. open_at os j) opens ∙ set_other b.opens i j (Some changes.after) n) others
     (λ u e js. let same : changes.after ≡ u = cc in subst (λ x. IsCovered definitions views_after locks_after (wants_at wants_after i) i (txn_of x)) same (subst (IsCovered definitions views_after locks_after (wants_at wants_after i) i) (sym changes.is) covered))
 
-pub rooms_changed : (spare spare_after : ℕ → ℕ) (limit limit_after : Option ℕ) (definitions : Definitions) (views views_after : ViewState) (b after : Books) (locks locks_after : Table)
+pub rooms_changed : (spare spare_after : ℕ → ℕ) (definitions : Definitions) (views views_after : ViewState) (b after : Books) (locks locks_after : Table)
     (wants wants_after : List (List (List Want))) (i : ℕ) (t : Txn)
-    → IsBook b → IsSession i → HasRooms spare limit definitions views b.opens locks wants → limit_after ≡ limit → Changes b after i t
+    → IsBook b → IsSession i → HasRooms spare definitions views b.opens locks wants → Changes b after i t
     → ((index : ℕ) → spare index + gone_of index t.kept ≤ spare_after index + gone_if index (open_at b.opens i))
     → IsElsewhere i views views_after locks locks_after wants wants_after → IsCovered definitions views_after locks_after (wants_at wants_after i) i t
-    → HasRooms spare_after limit_after definitions views_after after.opens locks_after wants_after
-rooms_changed spare spare_after limit limit_after definitions views views_after b after locks locks_after wants wants_after i t good is h same_limit changes more others covered =
-    rooms_moved spare spare_after limit limit_after definitions views views_after b after locks locks_after wants wants_after i t good is h same_limit changes
+    → HasRooms spare_after definitions views_after after.opens locks_after wants_after
+rooms_changed spare spare_after definitions views views_after b after locks locks_after wants wants_after i t good is h changes more others covered =
+    rooms_moved spare spare_after definitions views views_after b after locks locks_after wants wants_after i t good is h changes
     (λ index. let had = h.undo index in omega (arith, had, more index)) others covered
 
-pub rooms_closed : (spare spare_after : ℕ → ℕ) (limit limit_after : Option ℕ) (definitions : Definitions) (views views_after : ViewState) (b : Books) (opens : List (Option Open)) (locks locks_after : Table)
+pub rooms_closed : (spare spare_after : ℕ → ℕ) (definitions : Definitions) (views views_after : ViewState) (b : Books) (opens : List (Option Open)) (locks locks_after : Table)
     (wants wants_after : List (List (List Want))) (i : ℕ)
-    → IsBook b → IsSession i → HasRooms spare limit definitions views b.opens locks wants → limit_after ≡ limit → opens ≡ slice_set b.opens i None
+    → IsBook b → IsSession i → HasRooms spare definitions views b.opens locks wants → opens ≡ slice_set b.opens i None
     → ((index : ℕ) → spare index ≤ spare_after index)
     → IsElsewhere i views views_after locks locks_after wants wants_after
-    → HasRooms spare_after limit_after definitions views_after opens locks_after wants_after
-rooms_closed spare spare_after limit limit_after definitions views views_after b opens locks locks_after wants wants_after i good is h same_limit closed more others =
+    → HasRooms spare_after definitions views_after opens locks_after wants_after
+rooms_closed spare spare_after definitions views views_after b opens locks locks_after wants wants_after i good is h closed more others =
     let lt : i < length b.opens = omega (arith, good.places, is.1) in
-    rooms_with spare spare_after limit limit_after definitions views views_after b.opens opens locks locks_after wants wants_after i None h same_limit
+    rooms_with spare spare_after definitions views views_after b.opens opens locks locks_after wants wants_after i None h
     (λ index. subst (λ os. all_gone index os ≤ spare_after index) (sym closed) (undo_set index b.opens i None (spare index) (spare_after index) lt (h.undo index) (omega (arith, more index))))
     (ap (λ os. open_at os i) closed ∙ set_at b.opens i None lt)
     (λ j n. ap (λ os. open_at os j) closed ∙ set_other b.opens i j None n) others
@@ -244,10 +242,10 @@ covered_begun definitions views locks wants j mode number id = record {
 }
 
 -- a session that owes nothing waits
-pub rooms_waiting : (spare : ℕ → ℕ) (limit : Option ℕ) (definitions : Definitions) (views : ViewState) (opens : List (Option Open)) (locks after : Table) (wants : List (List (List Want))) (i : ℕ) (ws : List Want)
-    → HasRooms spare limit definitions views opens locks wants → IsRecorded locks after i ws → ((t : Open) → open_at opens i ≡ Some t → still_owed (txn_of t) ≡ []) → HasRooms spare limit definitions views opens after wants
-rooms_waiting spare limit definitions views opens locks after wants i ws h recorded nothing =
-    rooms_with spare spare limit limit definitions views views opens opens locks after wants wants i (open_at opens i) h refl h.undo refl (λ j n. refl)
+pub rooms_waiting : (spare : ℕ → ℕ) (definitions : Definitions) (views : ViewState) (opens : List (Option Open)) (locks after : Table) (wants : List (List (List Want))) (i : ℕ) (ws : List Want)
+    → HasRooms spare definitions views opens locks wants → IsRecorded locks after i ws → ((t : Open) → open_at opens i ≡ Some t → still_owed (txn_of t) ≡ []) → HasRooms spare definitions views opens after wants
+rooms_waiting spare definitions views opens locks after wants i ws h recorded nothing =
+    rooms_with spare spare definitions views views opens opens locks after wants wants i (open_at opens i) h h.undo refl (λ j n. refl)
     (record { of_locks = recorded.others; of_wants = λ j n. refl; of_buffers = λ j n. omega arith; of_seats = λ j place n has. has })
     (λ t is js. let c = h.each i js t is in record {
       wanted = subst (AreWanted (table.room_of after i) (table.locks_of after i) (table.waiting_of after i) (wants_at wants i)) (sym (nothing t is)) tt;

@@ -96,9 +96,8 @@ gone_if index (Some o) = let t : Txn = txn_of o in gone_of index t.kept
 abbrev pub all_gone : ℕ → List (Option Open) → ℕ
 all_gone index opens = sum_by (gone_if index) opens
 
-pub record HasRooms (spare : ℕ → ℕ) (limit : Option ℕ) (definitions : Definitions) (views : State) (opens : List (Option Open)) (locks : Table) (wants : List (List (List Want))) : Type 0 where
-  -- the maps have no limit, and all entries that may come can be held
-  pub unlimited : limit ≡ None
+pub record HasRooms (spare : ℕ → ℕ) (definitions : Definitions) (views : State) (opens : List (Option Open)) (locks : Table) (wants : List (List (List Want))) : Type 0 where
+  -- all entries that may come can be held
   pub limited : IsLimited (defined.schema_of definitions)
   -- each index has room for the entries that go back in
   pub undo : (index : ℕ) → all_gone index opens ≤ spare index

@@ -1,6 +1,6 @@
 -- No clause of `run` rests on this module: it serves contracts between crates.
 --
--- In which state of the machine a core is. It has no limits of log and data, and no disk.
+-- In which state of the machine a core is. It may have a limit of data, and has none of the log and no disk.
 use Rattle.std.specs.Prelude.{◌≡◌, ◌≢◌, ℕ, ◌+◌, ◌<◌, ◌≤◌, List, [], None, false, true, Bool, Option}
 use Rattle.std.specs.Option.{option_map}
 use Rattle.iv_types.specs.Maps.{Map}
@@ -13,18 +13,31 @@ use Rattle.txn_machine.specs.Answers.{Answer, Blocked}
 use Rattle.txn_machine.specs.Counts.{definition_sizes}
 use Rattle.txn_machine.specs.Store.{Store, Effect, committed, schema_of, locks_of, run}
 use Rattle.txn_machine.specs.Ghosts.{the_views}
-use Rattle.txn_machine.specs.Log.{Log, unlimited}
+use Rattle.txn_machine.specs.Log.{Opening, Log, unlimited}
 use Rattle.txn_machine.specs.State.{State, is_fault, most_steps}
 use Rattle.txn_machine.specs.Steps.{Says, Step, asked, definitions_after, log_after}
 use Rattle.txn_machine.specs.Laws.{IsReached}
+use Rattle.txn_log.specs.Room.{OpensWithin}
 use Rattle.txn_book.specs.Holding as book
 use Rattle.data_store.specs.Contents.{contents_of}
 use Rattle.data_store.specs.Held.{IsHeld}
 use Rattle.data_store.specs.Machine.{IsPast}
 use Rattle.data_past.specs.Ahead.{IsAhead}
+use Rattle.data_room.specs.Reserved.{IsReserved}
 use Rattle.core_state.specs.Rooms.{HasRooms}
 use Rattle.core_state.specs.Seats.{machine_seat, machine_cleaner, seat_at}
 use Rattle.core_state.specs.declared.state.CoreState.{CoreState}
+
+-- with this limit of data, if there is one, and no other, on a database that defines nothing
+abbrev pub limited : Option ℕ → Opening
+limited most = record unlimited { data_limit = most }
+
+-- the opening is so, and steps lead to the state from a database that was within the limit as it was opened
+pub record IsOpening (most : Option ℕ) (s : State) : Type 0 where
+  pub is : s.opening ≡ limited most
+  pub reached : IsReached s
+  pub was : reached.opening ≡ limited most
+  pub within : OpensWithin (limited most) (record { db = reached.db; view = reached.view })
 
 -- the session waits
 abbrev pub is_blocked : Answer → Bool
@@ -47,7 +60,13 @@ module _ {M : Type 0} (maps : M → ℕ → Map) (spare : M → ℕ → ℕ) (li
     -- the versions that open transactions will leave are made, and the chains have room for them
     pub ahead : IsAhead core.ahead core.store.row_versions.room core.store.delta_versions.room store
     -- what open transactions need stands ready
-    pub rooms : HasRooms (spare core.store.tables) (limit core.store.tables) core.store.catalog core.store.views core.book.opens core.locks core.wants
+    pub rooms : HasRooms (spare core.store.tables) core.store.catalog core.store.views core.book.opens core.locks core.wants
+    -- the maps have the limit of the core
+    pub most : limit core.store.tables ≡ core.data_room.limit
+
+  -- the core knows what open transactions keep of the data, and these definitions
+  abbrev pub Reserves : CoreState M → Store → Log → List (List ℕ) → Type 0
+  Reserves core store log definitions = IsReserved core.data_room (schema_of store) store.open_of log.logged definitions
 
   -- the counts of steps, and what sessions were told
   pub record Counts (core : CoreState M) (s : State) : Type 0 where
@@ -64,17 +83,19 @@ module _ {M : Type 0} (maps : M → ℕ → Map) (spare : M → ℕ → ℕ) (li
   -- a core is in a state that steps lead to
   pub record Stands (core : CoreState M) (s : State) : Type 0 where
     pub reached : IsReached s
-    pub opening : s.opening ≡ unlimited
+    pub opening : IsOpening core.data_room.limit s
     pub holds : Holds core s.store s.log s.definitions
+    pub reserves : Reserves core s.store s.log s.definitions
     pub waiting : (session : ℕ) → IsSession session → table.waiting_of core.locks session ≡ s.waiting session
     pub counts : Counts core s
 
   -- a session's step has begun: it waits for nothing, and nothing else has changed
   pub record Began (core : CoreState M) (s : State) (session : ℕ) : Type 0 where
     pub reached : IsReached s
-    pub opening : s.opening ≡ unlimited
+    pub opening : IsOpening core.data_room.limit s
     pub runs : s.stop ≡ None
     pub holds : Holds core s.store s.log s.definitions
+    pub reserves : Reserves core s.store s.log s.definitions
     pub own : IsSession session → table.waiting_of core.locks session ≡ []
     pub waiting : (other : ℕ) → IsSession other → other ≢ session → table.waiting_of core.locks other ≡ s.waiting other
     pub counts : Counts core s
@@ -82,11 +103,12 @@ module _ {M : Type 0} (maps : M → ℕ → Map) (spare : M → ℕ → ℕ) (li
   -- an act was answered so, and the core holds what its effects leave
   pub record Told (s : State) (session : ℕ) (a : Act) (said : Answer) (core : CoreState M) : Type 0 where
     pub reached : IsReached s
-    pub opening : s.opening ≡ unlimited
+    pub opening : IsOpening core.data_room.limit s
     pub runs : s.stop ≡ None
     pub effects : List Effect
     pub says : Says s session a said effects
     pub holds : Holds core (run the_views s.store session effects) (log_after s session a said effects) (definitions_after s.definitions a said)
+    pub reserves : Reserves core (run the_views s.store session effects) (log_after s session a said effects) (definitions_after s.definitions a said)
     pub own : (sessions : Sessions) → said ≡ Blocked sessions → table.waiting_of core.locks session ≡ asked s.store session a
     pub none : is_blocked said ≡ false → IsSession session → table.waiting_of core.locks session ≡ []
     pub waiting : (other : ℕ) → IsSession other → other ≢ session → table.waiting_of core.locks other ≡ s.waiting other

@@ -1,16 +1,19 @@
 //! The state of the core.
-ghost use Rattle.std.specs.Prelude.{◌≡◌, ◌<◌, ◌^◌, [], Some, IsSome, IfOk};
+ghost use Rattle.std.specs.Prelude.{◌≡◌, ◌+◌, ◌<◌, ◌^◌, [], Some, IsSome, IfOk, IfSome, IfNone};
 ghost use Rattle.std.specs.FinMap.{empty};
-ghost use Rattle.txn_machine.specs.Log.{unlimited};
+ghost use Rattle.iv_types.specs.Maps.{IsWithin, used};
+ghost use Rattle.txn_machine.specs.Log.{Above};
 ghost use Rattle.txn_machine.specs.State.{opened_state};
 ghost use Rattle.txn_machine.specs.Store.{opened};
 ghost use Rattle.data_store.specs.Contents.{no_contents};
 ghost use Rattle.data_store.specs.Held.{AreEmpty, IsHeld};
 ghost use Rattle.txn_book.specs.Opens.{open_at};
-ghost use Rattle.core_state.specs.Stands.{Stands};
+ghost use Rattle.data_room.specs.Reserved.{Where};
+ghost use Rattle.core_state.specs.Stands.{Stands, limited};
 
 use crate::seat::{Cleaner, Seats};
 use data_past::VersionsAhead;
+use data_room::DataRoom;
 use data_store::DataStore;
 use iv_types::{NoMemory, SortedMaps};
 use lock_desk::PayWants;
@@ -33,6 +36,8 @@ pub struct CoreState<M: SortedMaps> {
     pub wants: PayWants,
     /// The versions that commits of open transactions will leave, made ahead.
     pub ahead: VersionsAhead,
+    /// What open transactions keep of the data, and the texts of definitions, with the limit of the data.
+    pub data_room: DataRoom,
     /// How many serial transactions began, which numbers them in the log.
     pub begun: u64,
     /// The number of the log's next record.
@@ -62,29 +67,31 @@ fn new_store<M: SortedMaps>(alloc: Global, maps: M, number: u64) -> Result<DataS
 
 impl<M: SortedMaps> CoreState<M> {
     /// A core on a database that defines nothing, whose greatest commit number is this one, over maps without an entry
-    /// and without a limit.
+    /// and with this limit.
     ///
     /// # Errors
     ///
     /// Where there is no memory for it.
-    pub fn new(alloc: Global, maps: M, number: u64) -> Result<Self, NoMemory>
+    pub fn new(alloc: Global, maps: M, limit: Option<u32>, number: u64) -> Result<Self, NoMemory>
         requires empty { AreEmpty (M.maps maps) }
-        requires unlimited { M.limit maps ≡ None }
+        requires limit { M.limit maps ≡ limit }
         requires number { number < 2 ^ 63 }
-        ensures { IfOk result (λ core. Stands M.maps M.spare M.limit core (opened_state unlimited (opened (record { number = number; schema = []; rows = empty }) empty))) }
+        ensures { IfOk result (λ core. Stands M.maps M.spare M.limit core (opened_state (limited limit) (opened (record { number = number; schema = []; rows = empty }) empty))) }
     {
         empty_law();
+        // The store comes last: its drop is the longest, and is not proved where another part fails.
         Ok(CoreState {
             alloc,
-            store: new_store(alloc, maps, number)?,
-            book: Book::new(alloc, number)?,
-            locks: LockTable::new(alloc)?,
+            seats: Seats::new(alloc)?,
             wants: PayWants::new(alloc)?,
             ahead: VersionsAhead::new(alloc)?,
+            data_room: DataRoom::new(alloc, limit)?,
+            locks: LockTable::new(alloc)?,
+            book: Book::new(alloc, number)?,
+            store: new_store(alloc, maps, number)?,
             begun: 0,
             next: 1,
             steps: 0,
-            seats: Seats::new(alloc)?,
             cleaner: Cleaner {
                 pruned: 0,
                 found_none: 0,
@@ -93,6 +100,17 @@ impl<M: SortedMaps> CoreState<M> {
             },
             stop: None,
         })
+    }
+
+    /// What the data use, with what is kept of them, if so many bytes more would pass their limit.
+    pub fn full_of_data(&self, need: u64) -> Option<u64>
+        requires { IsWithin self.now.data_room.limit (used (M.maps self.now.store.tables) + self.now.data_room.total) }
+        ensures fits { IfNone result (IsWithin self.now.data_room.limit (used (M.maps self.now.store.tables) + self.now.data_room.total + need)) }
+        ensures small { IfNone result (Where self.now.data_room.limit (used (M.maps self.now.store.tables) + self.now.data_room.total + need < 2 ^ 32)) }
+        ensures used { IfSome result (λ all. Where self.now.data_room.limit (all ≡ used (M.maps self.now.store.tables) + self.now.data_room.total)) }
+        ensures passes { IfSome result (λ all. Above self.now.data_room.limit (all + need)) }
+    {
+        self.data_room.full(self.store.tables.maps().used(), need)
     }
 
     /// The open transaction of a session that has one.

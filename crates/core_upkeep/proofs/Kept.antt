@@ -24,6 +24,7 @@ use Rattle.data_store.specs.Machine.{IsPast}
 use Rattle.data_past.proofs.Aheads.{ahead_prunes}
 use Rattle.data_past.proofs.Effects.{past_prunes}
 use Rattle.version_chain.specs.declared.deltas.Delta.{Delta}
+use Rattle.data_room.specs.Reserved.{IsReserved}
 use Rattle.core_state.specs.Stands.{Began, Told}
 use Rattle.core_state.specs.declared.state.CoreState.{CoreState}
 
@@ -60,10 +61,12 @@ module _ {M : Type 0} (maps : M → ℕ → Map) (spare : M → ℕ → ℕ) (li
       next = h.holds.next;
       row_mark = rows_are ∙ marked core.store.row_versions.pruned h.holds.row_mark;
       delta_mark = deltas_are ∙ marked core.store.delta_versions.pruned h.holds.delta_mark;
+      most = h.holds.most;
       past = past;
       ahead = ahead_prunes core.ahead core.store.row_versions.room core.store.delta_versions.room s.store h.holds.ahead 0 rows.room deltas.room row_room delta_room;
       rooms = h.holds.rooms;
     };
+    reserves = subst (λ l. IsReserved core.data_room (schema_of s.store) s.store.open_of l s.definitions) (sym (logs_logged s.store 0 act.Prune Prunes s.log ∙ same_logged)) h.reserves;
     own = λ sessions e. absurd (cc);
     none = λ _ is. h.own is;
     waiting = h.waiting;
@@ -104,10 +107,12 @@ module _ {M : Type 0} (maps : M → ℕ → Map) (spare : M → ℕ → ℕ) (li
       next = h.holds.next;
       row_mark = h.holds.row_mark;
       delta_mark = h.holds.delta_mark;
+      most = h.holds.most;
       past = h.holds.past;
       ahead = h.holds.ahead;
       rooms = h.holds.rooms;
     };
+    reserves = h.reserves;
     own = λ sessions e. absurd (cc);
     none = λ _ is. h.own is;
     waiting = h.waiting;

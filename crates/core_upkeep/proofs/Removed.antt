@@ -43,6 +43,8 @@ use Rattle.data_changes.specs.Ghosts.{HasGhost}
 use Rattle.data_changes.proofs.Accounts.{increments_as}
 use Rattle.data_past.proofs.Aheads.{ahead_cleans}
 use Rattle.data_past.proofs.Effects.{past_cleans}
+use Rattle.data_room.specs.Reserved.{IsReserved}
+use Rattle.data_room.specs.declared.room.DataRoom.{DataRoom}
 use Rattle.core_state.specs.Rooms.{HasRooms}
 use Rattle.core_state.specs.Stands.{Began, Told, Holds}
 use Rattle.core_state.specs.declared.state.CoreState.{CoreState}
@@ -100,10 +102,18 @@ module _ {M : Type 0} (maps : M → ℕ → Map) (spare : M → ℕ → ℕ) (li
       let same : length place.1 ≡ length (Rattle.iv_types.specs.Encoding.key_bytes _ row_is.group) = ap length row_is.key in
       omega (arith, most, bytes, same)
 
+  as_logged : (j : ℕ) → with_one s.log.logged 0 (s.log.logged 0) j ≡ s.log.logged j
+  as_logged j = by_session j 0 (λ e. one_same s.log.logged 0 (s.log.logged 0) j e ∙ ap s.log.logged (sym e)) (λ n. one_other s.log.logged 0 (s.log.logged 0) j n)
+
+  -- it is nothing that a transaction keeps
+  pub removed_reserves : (room : DataRoom) → room ≡ core.data_room → IsReserved room (schema_of s.store) s.store.open_of (logs s.store 0 act.Clean (Cleans place) s.log).logged s.definitions
+  removed_reserves room same =
+      subst (λ f. IsReserved room (schema_of s.store) s.store.open_of f s.definitions) (sym (logs_logged s.store 0 act.Clean (Cleans place) s.log ∙ (λ x j. as_logged j x)))
+      (subst (λ d. IsReserved d (schema_of s.store) s.store.open_of s.log.logged s.definitions) (sym same) h.reserves)
+
   module _ (tables : M) (views : ViewState) (same_limit : limit tables ≡ limit core.store.tables) (rows : views.rows ≡ core.store.views.rows) (rooms : views.rooms ≡ core.store.views.rooms) (spares : (n : ℕ) → spare core.store.tables n ≤ spare tables n) where
-    rooms_left : HasRooms (spare tables) (limit tables) core.store.catalog views core.book.opens core.locks core.wants
+    rooms_left : HasRooms (spare tables) core.store.catalog views core.book.opens core.locks core.wants
     rooms_left = record {
-      unlimited = same_limit ∙ h.holds.rooms.unlimited;
       limited = h.holds.rooms.limited;
       undo = λ n. let had = h.holds.rooms.undo n in let more = spares n in omega (arith, had, more);
       each = λ j js t at. let r = h.holds.rooms.each j js t at in record {
@@ -115,9 +125,6 @@ module _ {M : Type 0} (maps : M → ℕ → Map) (spare : M → ℕ → ℕ) (li
       };
     }
 
-    as_logged : (j : ℕ) → with_one s.log.logged 0 (s.log.logged 0) j ≡ s.log.logged j
-    as_logged j = by_session j 0 (λ e. one_same s.log.logged 0 (s.log.logged 0) j e ∙ ap s.log.logged (sym e)) (λ n. one_other s.log.logged 0 (s.log.logged 0) j n)
-
     pub removed_holds : IsHeld core.store.catalog (maps tables) views (without_ghost (contents_of s.store) place)
         → Holds maps spare limit (record core { store = record core.store { tables = tables; views = views }; next = core.next + 1 }) (does the_views s.store 0 (Cleans place)) (logs s.store 0 act.Clean (Cleans place) s.log) s.definitions
     removed_holds stored = record {
@@ -128,6 +135,7 @@ module _ {M : Type 0} (maps : M → ℕ → Map) (spare : M → ℕ → ℕ) (li
       next = ap (λ n. n + 1) h.holds.next;
       row_mark = h.holds.row_mark;
       delta_mark = h.holds.delta_mark;
+      most = same_limit ∙ h.holds.most;
       past = past_cleans core.store.row_versions.versions core.store.delta_versions.versions core.store.pending.entries s.store h.holds.past 0 place c.no_versions;
       ahead = ahead_cleans core.ahead core.store.row_versions.room core.store.delta_versions.room s.store h.holds.ahead 0 place;
       rooms = rooms_left;
@@ -140,8 +148,8 @@ module _ {M : Type 0} (maps : M → ℕ → Map) (spare : M → ℕ → ℕ) (li
   none_told none = unchanged_told maps spare limit core s 0 act.Clean (answer.Cleaned 0) h (none, refl) refl refl refl refl
 
   pub removed_told : (new : CoreState M) (place : Place) → IsFirstCleanable s.store place → Holds maps spare limit new (does the_views s.store 0 (Cleans place)) (logs s.store 0 act.Clean (Cleans place) s.log) s.definitions
-      → AreUncounted core new → ((j : ℕ) → table.waiting_of new.locks j ≡ table.waiting_of core.locks j) → Told maps spare limit s 0 act.Clean (answer.Cleaned 1) new
-  removed_told new place first holds same others =
+      → new.data_room ≡ core.data_room → AreUncounted core new → ((j : ℕ) → table.waiting_of new.locks j ≡ table.waiting_of core.locks j) → Told maps spare limit s 0 act.Clean (answer.Cleaned 1) new
+  removed_told new place first holds same_data same others =
       done_told maps spare limit core new s 0 h act.Clean (answer.Cleaned 1) (Cleans place ∷ [])
-      (place, first, refl, subst (λ o. Within o.log_limit (s.log.used + reserved s.store s.log + group_bytes place)) (sym h.opening) tt)
-      holds same (λ js. others 0 ∙ h.own js) (λ j js n. others j ∙ h.waiting j js n) refl refl (omega arith) (omega arith)
+      (place, first, refl, subst (λ o. Within o.log_limit (s.log.used + reserved s.store s.log + group_bytes place)) (sym h.opening.is) tt)
+      holds (removed_reserves maps spare limit core s h place first.is new.data_room same_data) same (λ js. others 0 ∙ h.own js) (λ j js n. others j ∙ h.waiting j js n) refl refl (omega arith) (omega arith)

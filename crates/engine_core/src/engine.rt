@@ -1,10 +1,10 @@
 //! The core as an engine that does steps.
-ghost use Rattle.std.specs.Prelude.{◌≡◌, ◌<◌, ◌^◌, [], None, IfOk};
+ghost use Rattle.std.specs.Prelude.{◌≡◌, ◌<◌, ◌^◌, [], IfOk};
 ghost use mathlib.Core.Path.{sym, ap};
 ghost use Rattle.std.specs.FinMap.{empty};
-ghost use Rattle.table_store.specs.Lists.{map_at, spare_at};
+ghost use Rattle.core_state.specs.Stands.{limited};
 ghost use Rattle.data_store.specs.Held.{AreEmpty};
-ghost use Rattle.txn_machine.specs.Log.{unlimited};
+ghost use Rattle.ordered_index.specs.Tree.{map_of, spare_of, limit_of};
 ghost use Rattle.txn_machine.specs.State.{opened_state};
 ghost use Rattle.txn_machine.specs.Store.{opened};
 ghost use Rattle.engine_core.specs.Standing.{IsIn, none_below};
@@ -12,8 +12,8 @@ ghost use Rattle.engine_core.specs.Standing.{IsIn, none_below};
 use crate::acting::do_one;
 use core_state::CoreState;
 use iv_types::{NoMemory, SEATS, SortedMaps};
+use ordered_index::PageMaps;
 use std::alloc::Global;
-use table_store::ListMaps;
 use txn_book::{Answer, LastRefusal, Step, Stepper};
 
 /// The core of the engine: what it stores in these maps, its open transactions, locks and history. It has no disk, so that no
@@ -25,19 +25,19 @@ pub struct Core<M: SortedMaps> {
 
 impl<M: SortedMaps> Core<M> {
     /// A core on a database that defines nothing, whose greatest commit number is this one, over maps without an entry
-    /// and without a limit.
+    /// and with this limit of what the data count.
     ///
     /// # Errors
     ///
     /// Where there is no memory for it.
-    pub fn new(alloc: Global, maps: M, number: u64) -> Result<Self, NoMemory>
+    pub fn new(alloc: Global, maps: M, limit: Option<u32>, number: u64) -> Result<Self, NoMemory>
         requires empty { AreEmpty (M.maps maps) }
-        requires unlimited { M.limit maps ≡ None }
+        requires limit { M.limit maps ≡ limit }
         requires number { number < 2 ^ 63 }
-        ensures { IfOk result (λ core. IsIn M.maps M.spare M.limit core (opened_state unlimited (opened (record { number = number; schema = []; rows = empty }) empty))) }
+        ensures { IfOk result (λ core. IsIn M.maps M.spare M.limit core (opened_state (limited limit) (opened (record { number = number; schema = []; rows = empty }) empty))) }
     {
         Ok(Core {
-            state: CoreState::new(alloc, maps, number)?,
+            state: CoreState::new(alloc, maps, limit, number)?,
         })
     }
 
@@ -49,8 +49,8 @@ impl<M: SortedMaps> Core<M> {
     }
 }
 
-impl Stepper for Core<ListMaps> {
-    ghost stands = { IsIn map_at spare_at (λ _. None) };
+impl Stepper for Core<PageMaps> {
+    ghost stands = { IsIn map_of spare_of limit_of };
 
     ghost faults = { λ _. 0 };
 
@@ -62,7 +62,7 @@ impl Stepper for Core<ListMaps> {
 
     ghost is_reached = { λ _ _ stands. stands.reached };
 
-    ghost runs_well = { λ _ _ stands _. sym (ap (λ o. o.faults) stands.opening) };
+    ghost runs_well = { λ _ _ stands _. sym (ap (λ o. o.faults) stands.opening.is) };
 
     ghost keeps_all = { λ _ _ _ _ _ no. absurd no };
 

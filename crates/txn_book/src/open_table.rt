@@ -8,6 +8,7 @@ use iv_types::{Change, GroupDelta, KeptStep, Mode, NoMemory, SEATS};
 use slab::Slab;
 use std::alloc::Global;
 use std::marker::Model;
+use std::mem::drop;
 
 /// An open transaction.
 #[derive(Drop)]
@@ -42,7 +43,7 @@ pub struct Open {
 impl Open {
     /// Lets a transaction go. Its drop is proved here, so that no crate above proves it again.
     pub fn let_go(self) {
-        let _ = self;
+        drop(self);
     }
 }
 

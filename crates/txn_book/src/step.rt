@@ -3,6 +3,7 @@ use iv_types::{
     Bytes, Catalog, DeltaList, EngineRefusal, Interval, LockMode, Mode, Refusal, Row, RowList,
     Sessions, Statement,
 };
+use std::mem::drop;
 
 /// What a session asks of an engine: the atomic step.
 #[derive(Drop)]
@@ -66,14 +67,10 @@ pub enum Act {
 }
 
 impl Act {
-    /// Lets an act go, as a step.
+    /// Lets an act go, as a step. `drop` is proved for all types, where the end of a scope would have the whole drop proved
+    /// here.
     pub fn let_go(self) {
-        match self {
-            Act::Schema(statement) => statement.let_go(),
-            other => {
-                let _ = other;
-            }
-        }
+        drop(self);
     }
 }
 
@@ -123,15 +120,9 @@ pub enum Answer {
 }
 
 impl Answer {
-    /// Lets an answer go. Its drop is proved here, so that no crate above proves it again.
+    /// Lets an answer go, as a step.
     pub fn let_go(self) {
-        match self {
-            Answer::Defs(catalog) => catalog.let_go(),
-            Answer::Denied(refusal) => refusal.let_go(),
-            other => {
-                let _ = other;
-            }
-        }
+        drop(self);
     }
 }
 

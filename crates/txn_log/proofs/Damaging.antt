@@ -85,7 +85,7 @@ rule_at entries_read = refl
 same_some : (r s : Rule) → Some r ≡ Some s → r ≡ s
 same_some r s e = cc
 
-same_rule : (r s : Rule) → rule_number r ≡ rule_number s → r ≡ s
+pub same_rule : (r s : Rule) → rule_number r ≡ rule_number s → r ≡ s
 same_rule r s e = same_some r s (sym (rule_at r) ∙ (ap (slice_get rules) e ∙ rule_at s))
 
 pub one_damage : OneStatement → OneDamageLaw

@@ -2,11 +2,12 @@
 use Rattle.std.specs.Prelude.{◌≡◌, ℕ, zero, suc, ◌+◌, ◌≤◌, ◌==◌, Bool, true, false, cond, List, [], ◌∷◌, ◌++◌, map, filter, length, ℤ, pos, Option, Some, None}
 use Rattle.std.specs.List.{AllByRecursion, sum, filter_map}
 use Rattle.std.specs.Option.{option_map_or, unwrap_or, option_to_list}
-use Rattle.std.specs.FinMap.{get, entries, empty, get-empty}
+use Rattle.std.specs.FinMap.{get, entries, empty, get-empty, len-entries, len-empty}
 use mathlib.Core.Path.{refl, sym, ap, ◌∙◌}
 use Rattle.std.proofs.Common.{arith, eq-eqb, eqb-true}
 use Rattle.std.proofs.lemmas.Bool.{false≢true}
 use Rattle.std.proofs.lemmas.List.Elements.{filter_map-append, filter-append, recursion_from_All}
+use Rattle.std.proofs.lemmas.List.{nil_from_length}
 use Rattle.std.proofs.lemmas.Option.{none-some}
 use Rattle.iv_types.specs.declared.value.Kind.{Kind}
 use Rattle.iv_types.specs.declared.catalog.TableDef.{TableDef}
@@ -181,6 +182,9 @@ none_numbered : (objects : Schema) → numbered objects (suc (length objects)) �
 none_numbered [] = refl
 none_numbered (x ∷ objects) = none_numbered objects
 
+no_entries : entries (empty {X = List ℤ} {R = place_cmp}) ≡ []
+no_entries = nil_from_length _ (sym (len-entries (empty {X = List ℤ} {R = place_cmp})) ∙ len-empty place_cmp (List ℤ))
+
 -- deltas of a view add as many entries to rows that agree on the view's places
 made_apart : (n : ℕ) (one other : ViewRows) (ds : List GroupDelta) → AllByRecursion (λ (d : GroupDelta). d.view ≡ n) ds → ((p : Place) → p.0 ≡ n → get one p ≡ get other p)
     → view_entries (add_all one ds) + view_entries other ≡ view_entries one + view_entries (add_all other ds)
@@ -249,23 +253,28 @@ module _ (objects : Schema) (v : ViewTree) (rows : Rows) (stored : ViewRows) (ar
           let row : IsStoredRow objects p ns = are p ns e in
           absurd (none-some (view row.of) (sym (none_numbered objects) ∙ (ap (numbered objects) (sym (at ∙ number_is)) ∙ row.view_is)))
 
-  view_more : view_entries (add_all stored (made_of more rows (view v))) ≤ view_entries stored + view_entries (add_all empty (made_of objects rows (view v)))
+  view_more : view_entries (add_all stored (made_of more rows (view v))) ≡ view_entries stored + view_entries (add_all empty (made_of objects rows (view v)))
   view_more =
       let apart = made_apart v.number stored empty (made_of more rows (view v)) (of_view more v (filter (is_counted more v) (combinations (map (rows_of rows) (sources_of v)))))
       (λ p at. none_stored p at ∙ sym (get-empty place_cmp p)) in
       let same = ap (λ (ds : List GroupDelta). view_entries (add_all empty ds)) (same_made more objects rows v tables_stay) in
-      omega (arith, apart, same)
+      let nothing : view_entries empty ≡ 0 = ap (λ (es : List (Place × List ℤ)). sum (map (λ e. view_entry e.0 (length e.1)) es)) no_entries in
+      omega (arith, apart, same, nothing)
 
 -- ---- any object
 
 -- what a definition makes besides its text
-pub made_more : (objects : Schema) (o : Object) (rows : Rows) (stored : ViewRows) → AreSound objects rows → AreStored objects stored → AreSound (objects ++ o ∷ []) rows
-    → rows_bytes (objects ++ o ∷ []) rows + view_entries (add_all stored (made_of (objects ++ o ∷ []) rows o)) ≤ rows_bytes objects rows + view_entries stored + made_entries objects rows o
-made_more objects (table t) rows stored sound are later =
+pub made_is : (objects : Schema) (o : Object) (rows : Rows) (stored : ViewRows) → AreSound objects rows → AreStored objects stored → AreSound (objects ++ o ∷ []) rows
+    → rows_bytes (objects ++ o ∷ []) rows + view_entries (add_all stored (made_of (objects ++ o ∷ []) rows o)) ≡ rows_bytes objects rows + view_entries stored + made_entries objects rows o
+made_is objects (table t) rows stored sound are later =
     (let same = none_more objects (table t) refl (entries rows) (all_entries (λ e. IsRow objects e.0 e.1) rows sound.rows) in omega (arith, same))
-made_more objects (index i) rows stored sound are later =
+made_is objects (index i) rows stored sound are later =
     (let same = index_more i objects (entries rows) (all_entries (λ e. IsRow objects e.0 e.1) rows sound.rows) in omega (arith, same))
-made_more objects (view v) rows stored sound are later =
+made_is objects (view v) rows stored sound are later =
     let same = none_more objects (view v) refl (entries rows) (all_entries (λ e. IsRow objects e.0 e.1) rows sound.rows) in
     let made = view_more objects v rows stored are later in
     omega (arith, same, made)
+
+pub made_more : (objects : Schema) (o : Object) (rows : Rows) (stored : ViewRows) → AreSound objects rows → AreStored objects stored → AreSound (objects ++ o ∷ []) rows
+    → rows_bytes (objects ++ o ∷ []) rows + view_entries (add_all stored (made_of (objects ++ o ∷ []) rows o)) ≤ rows_bytes objects rows + view_entries stored + made_entries objects rows o
+made_more objects o rows stored sound are later = (let same = made_is objects o rows stored sound are later in omega (arith, same))

@@ -1,4 +1,5 @@
 use Rattle.data_changes.proofs.Answered.{if_ok_as}
+use Rattle.core_state.proofs.Data.{began_within}
 use Rattle.core_effects.proofs.Results.{on_err_as}
 use Rattle.core_changes.proofs.Full.{can_put, full_told, rows_here}
 use Rattle.core_changes.proofs.Making.{mine}
@@ -14,8 +15,14 @@ put_size-bytes-requires-after_bounds g c κs within = rows_here g.M.SortedMaps.m
 pub kept_change_size-entry_bytes-requires-after_bounds : goal.kept_change_size-entry_bytes-requires-after_bounds
 kept_change_size-entry_bytes-requires-after_bounds g c κs within = rows_here g.M.SortedMaps.maps g.M.SortedMaps.spare g.M.SortedMaps.limit c.args.core.now c.requires.0 c.args.session c.args.change c.args.wants c.requires.1
 
-pub refusal-requires-after_bounds : goal.refusal-requires-after_bounds
-refusal-requires-after_bounds g c κs within =
+pub change_need-data_need-requires-after_bounds : goal.change_need-data_need-requires-after_bounds
+change_need-data_need-requires-after_bounds g c κs within = rows_here g.M.SortedMaps.maps g.M.SortedMaps.spare g.M.SortedMaps.limit c.args.core.now c.requires.0 c.args.session c.args.change c.args.wants c.requires.1
+
+pub refusal-requires-clause-within : goal.refusal-requires-clause-within
+refusal-requires-clause-within g c κs within = began_within g.M.SortedMaps.maps g.M.SortedMaps.spare g.M.SortedMaps.limit c.args.core.now c.requires.0 c.args.session c.requires.1.began
+
+pub refusal-requires-clause-is_open : goal.refusal-requires-clause-is_open
+refusal-requires-clause-is_open g c κs within =
     let s = c.requires.0 in
     let p = c.requires.1 in
     let own = mine g.M.SortedMaps.maps g.M.SortedMaps.spare g.M.SortedMaps.limit c.args.core.now s c.args.session p.began (open_here g.M.SortedMaps.maps g.M.SortedMaps.spare g.M.SortedMaps.limit c.args.core.now s c.args.session c.args.change c.args.wants p) in
@@ -25,13 +32,13 @@ pub put_within-requires-after_bounds : goal.put_within-requires-after_bounds
 put_within-requires-after_bounds g c κs within =
     let s = c.requires.0 in
     let p = c.requires.1 in
-    (s, can_put g.M.SortedMaps.maps g.M.SortedMaps.spare g.M.SortedMaps.limit c.args.core.now s c.args.session c.args.change c.args.wants p c.book_law.ensures c.in_ok-owed.owed c.in_ok-owed.ensures c.as_slice.result.now c.as_slice.ensures c.put_size-bytes.result c.kept_change_size-entry_bytes.result c.put_size-bytes.ensures c.kept_change_size-entry_bytes.ensures c.in-None.ensures.none.0 c.in-None.ensures.none.1)
+    (s, can_put g.M.SortedMaps.maps g.M.SortedMaps.spare g.M.SortedMaps.limit c.args.core.now s c.args.session c.args.change c.args.wants p c.book_law.ensures c.in_ok-owed.owed c.in_ok-owed.ensures c.as_slice.result.now c.as_slice.ensures c.as_slice-2.result.now c.as_slice-2.ensures c.put_size-bytes.result c.change_need-data_need.result c.kept_change_size-entry_bytes.result c.put_size-bytes.ensures c.change_need-data_need.ensures c.kept_change_size-entry_bytes.ensures c.in-None.ensures.none.0 c.in-None.ensures.none.1 c.in-None.ensures.none.2)
 
 pub returns-in-Some-clause-told : goal.returns-in-Some-clause-told
-returns-in-Some-clause-told g c = λ s p. full_told g.M.SortedMaps.maps g.M.SortedMaps.spare g.M.SortedMaps.limit c.args.core.now s c.args.session c.args.change c.args.wants p c.book_law.ensures c.in_ok-owed.owed c.in_ok-owed.ensures c.as_slice.result.now c.as_slice.ensures c.put_size-bytes.result c.kept_change_size-entry_bytes.result c.put_size-bytes.ensures c.kept_change_size-entry_bytes.ensures c.in-Some.why c.in-Some.ensures.some
+returns-in-Some-clause-told g c = λ s p. full_told g.M.SortedMaps.maps g.M.SortedMaps.spare g.M.SortedMaps.limit c.args.core.now s c.args.session c.args.change c.args.wants p c.book_law.ensures c.in_ok-owed.owed c.in_ok-owed.ensures c.as_slice.result.now c.as_slice.ensures c.as_slice-2.result.now c.as_slice-2.ensures c.put_size-bytes.result c.change_need-data_need.result c.kept_change_size-entry_bytes.result c.put_size-bytes.ensures c.change_need-data_need.ensures c.kept_change_size-entry_bytes.ensures c.in-Some.why c.in-Some.ensures.some
 
 pub returns-in-None-clause-told : goal.returns-in-None-clause-told
-returns-in-None-clause-told g c = if_ok_as c.put_within.result _ _ (λ said told s p. told s (can_put g.M.SortedMaps.maps g.M.SortedMaps.spare g.M.SortedMaps.limit c.args.core.now s c.args.session c.args.change c.args.wants p c.book_law.ensures c.in_ok-owed.owed c.in_ok-owed.ensures c.as_slice.result.now c.as_slice.ensures c.put_size-bytes.result c.kept_change_size-entry_bytes.result c.put_size-bytes.ensures c.kept_change_size-entry_bytes.ensures c.in-None.ensures.none.0 c.in-None.ensures.none.1)) c.put_within.ensures.told
+returns-in-None-clause-told g c = if_ok_as c.put_within.result _ _ (λ said told s p. told s (can_put g.M.SortedMaps.maps g.M.SortedMaps.spare g.M.SortedMaps.limit c.args.core.now s c.args.session c.args.change c.args.wants p c.book_law.ensures c.in_ok-owed.owed c.in_ok-owed.ensures c.as_slice.result.now c.as_slice.ensures c.as_slice-2.result.now c.as_slice-2.ensures c.put_size-bytes.result c.change_need-data_need.result c.kept_change_size-entry_bytes.result c.put_size-bytes.ensures c.change_need-data_need.ensures c.kept_change_size-entry_bytes.ensures c.in-None.ensures.none.0 c.in-None.ensures.none.1 c.in-None.ensures.none.2)) c.put_within.ensures.told
 
 pub returns-in-None-clause-err : goal.returns-in-None-clause-err
-returns-in-None-clause-err g c = on_err_as c.put_within.result (λ err s p. err s (can_put g.M.SortedMaps.maps g.M.SortedMaps.spare g.M.SortedMaps.limit c.args.core.now s c.args.session c.args.change c.args.wants p c.book_law.ensures c.in_ok-owed.owed c.in_ok-owed.ensures c.as_slice.result.now c.as_slice.ensures c.put_size-bytes.result c.kept_change_size-entry_bytes.result c.put_size-bytes.ensures c.kept_change_size-entry_bytes.ensures c.in-None.ensures.none.0 c.in-None.ensures.none.1)) c.put_within.ensures.err
+returns-in-None-clause-err g c = on_err_as c.put_within.result (λ err s p. err s (can_put g.M.SortedMaps.maps g.M.SortedMaps.spare g.M.SortedMaps.limit c.args.core.now s c.args.session c.args.change c.args.wants p c.book_law.ensures c.in_ok-owed.owed c.in_ok-owed.ensures c.as_slice.result.now c.as_slice.ensures c.as_slice-2.result.now c.as_slice-2.ensures c.put_size-bytes.result c.change_need-data_need.result c.kept_change_size-entry_bytes.result c.put_size-bytes.ensures c.change_need-data_need.ensures c.kept_change_size-entry_bytes.ensures c.in-None.ensures.none.0 c.in-None.ensures.none.1 c.in-None.ensures.none.2)) c.put_within.ensures.err

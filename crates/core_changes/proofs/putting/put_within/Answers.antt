@@ -6,12 +6,15 @@ use Rattle.txn_machine.specs.Ghosts.{the_views}
 use Rattle.txn_machine.specs.Steps.{group_want}
 use Rattle.data_past.specs.Ahead.{CanAddAt, all_rows, all_deltas}
 use Rattle.data_store.specs.Past.{committed_value}
+use Rattle.std.specs.List.{sum}
+use Rattle.iv_meaning.specs.Objects as defined
+use Rattle.data_room.specs.declared.room.DataRoom.{DataRoom}
 use Rattle.core_state.specs.Stands.{Holds, Told}
 use Rattle.core_effects.specs.Writing.{CanWrite}
 use Rattle.core_effects.specs.declared.writing.Writing.{Writing}
 use Rattle.txn_machine.specs.Acts as act
-use Rattle.txn_machine.specs.Counts.{put_size}
-use Rattle.txn_machine.specs.Log.{logs}
+use Rattle.txn_machine.specs.Counts.{put_size, told_need}
+use Rattle.txn_machine.specs.Log.{logs, growth_back, delta_entry}
 use Rattle.txn_machine.specs.RowChanges.{row_change}
 use Rattle.txn_machine.specs.Store.{Takes, Writes, does, schema_of}
 use Rattle.core_state.specs.declared.state.CoreState.{CoreState}
@@ -20,6 +23,7 @@ use Rattle.core_effects.proofs.Results.{on_err_of}
 use Rattle.core_changes.specs.Room.{AreDeltas, HasRoom}
 use Rattle.core_changes.proofs.Puts.{open_here, table_here, rows_fit, few_locks, few_owed, are_deltas}
 use Rattle.core_changes.proofs.Within.{free_there, between, can_write, same, put_told, can_still}
+use Rattle.core_changes.proofs.Full.{rows_here}
 use Rattle.core_changes.proofs.putting.put_within.Goals as goal
 
 pub reserve_ahead-requires-clause-few : goal.reserve_ahead-requires-clause-few
@@ -206,6 +210,27 @@ write-requires-clause-can g c κs within =
     (subst (λ (x : CoreState g.row.M.Denot). all_deltas x.ahead + length c.args.owed ≤ x.store.delta_versions.room) (sym c.make_room.ensures.rest) (subst (λ n. all_deltas core.ahead + n ≤ core.store.delta_versions.room) many c.in_ok-reserve_ahead.ensures.deltas))) in
     (mid, logs s.store i a (Takes c.args.wants) s.log, s.definitions, took, writes)
 
+pub kept_room-aside-requires-after_bounds : goal.kept_room-aside-requires-after_bounds
+kept_room-aside-requires-after_bounds g c κs within =
+    let s = c.requires.0 in
+    let can = c.requires.1 in
+    let base = c.args.core.now in
+    let i = c.args.session in
+    let ch = c.args.change in
+    let core = c.reserve_ahead.new.core in
+    let can0 = can_still g.M.SortedMaps.maps g.M.SortedMaps.spare g.M.SortedMaps.limit base core s i ch c.args.wants c.args.owed c.args.bytes c.args.entry_bytes can (c.reserve_ahead.ensures.began s can.puts.began) in
+    let one = c.make_room.new.core in
+    let b1 = c.make_room.ensures.began s can0.puts.began (open_here g.M.SortedMaps.maps g.M.SortedMaps.spare g.M.SortedMaps.limit core s i ch c.args.wants can0.puts)
+    (subst (AreDeltas s.store) (sym c.as_slice-5.ensures) (are_deltas g.M.SortedMaps.maps g.M.SortedMaps.spare g.M.SortedMaps.limit core s i ch c.args.wants can0.puts c.args.owed can0.owed_is)) in
+    let can1 = can_still g.M.SortedMaps.maps g.M.SortedMaps.spare g.M.SortedMaps.limit core one s i ch c.args.wants c.args.owed c.args.bytes c.args.entry_bytes can0 b1 in
+    rows_here g.M.SortedMaps.maps g.M.SortedMaps.spare g.M.SortedMaps.limit one s i ch c.args.wants can1.puts
+
+pub set_aside-requires : goal.set_aside-requires
+set_aside-requires g c =
+    let s = c.requires.0 in
+    let is = (open_here g.M.SortedMaps.maps g.M.SortedMaps.spare g.M.SortedMaps.limit c.args.core.now s c.args.session c.args.change c.args.wants c.requires.1.puts).of_session in
+    omega (arith, is)
+
 pub returns-clause-told : goal.returns-clause-told
 returns-clause-told g c = λ s can.
     let base = c.args.core.now in
@@ -233,6 +258,10 @@ returns-clause-told g c = λ s can.
     (subst (λ (x : CoreState g.row.M.Denot). all_rows x.ahead + 1 ≤ x.store.row_versions.room) (sym c.make_room.ensures.rest) c.in_ok-reserve_ahead.ensures.rows)
     (subst (λ (x : CoreState g.row.M.Denot). all_deltas x.ahead + length c.args.owed ≤ x.store.delta_versions.room) (sym c.make_room.ensures.rest) (subst (λ n. all_deltas core.ahead + n ≤ core.store.delta_versions.room) many c.in_ok-reserve_ahead.ensures.deltas))) in
     let new = c.write.new.core in
+    let left = c.set_aside.new.self in
+    let after : CoreState g.row.M.Denot = record new { data_room = left } in
+    let kept_are : c.kept_room-aside.result ≡ told_need (growth_back (schema_of s.store) (row_change ch) + sum (map delta_entry c.args.owed)) =
+    c.kept_room-aside.ensures ∙ (ap (λ ds. told_need (growth_back (defined.schema_of one.store.catalog) (row_change ch) + sum (map delta_entry ds))) c.as_slice-8.ensures ∙ ap (λ o. told_need (growth_back o (row_change ch) + sum (map delta_entry c.args.owed))) b1.holds.stored.objects) in
     let kept = same g.M.SortedMaps.maps g.M.SortedMaps.spare g.M.SortedMaps.limit one s i ch c.args.wants c.args.owed c.args.bytes c.args.entry_bytes can1 c.book_law.ensures c.number_law.ensures room two.locks w c.take.ensures.room
     c.into_vec.ensures (c.in_ok-pays.ensures ∙ ap (map (λ d. group_want d ∷ [])) c.as_slice-2.ensures) refl refl c.in_ok-ready.ensures.kept c.in_ok-ready.ensures.coming
     c.in_ok-noting.ensures.place.0 (c.in_ok-noting.ensures.place.1 ∙ c.as_slice-6.ensures) (c.in_ok-noting.ensures.committed ∙ ap (λ k. committed_value one.store.pending.entries (g.M.SortedMaps.maps one.store.tables) (ch.table, k)) c.as_slice-6.ensures)
@@ -246,14 +275,16 @@ returns-clause-told g c = λ s can.
     let e3 = c.write.ensures.rest in
     let before : c.in_ok-before.before ≡ ch.before = c.in_ok-before.ensures ∙ c.as_ref.ensures.value in
     let told : c.from_vec-told.result ≡ c.args.owed = c.from_vec-told.ensures ∙ (c.in_ok-copied_deltas.ensures ∙ c.as_slice.ensures) in
-    subst (λ d. Told g.M.SortedMaps.maps g.M.SortedMaps.spare g.M.SortedMaps.limit s i a (answer.Changed c.in_ok-before.before d) new) (sym told)
-    (subst (λ b. Told g.M.SortedMaps.maps g.M.SortedMaps.spare g.M.SortedMaps.limit s i a (answer.Changed b c.args.owed) new) (sym before)
-    (put_told g.M.SortedMaps.maps g.M.SortedMaps.spare g.M.SortedMaps.limit one s i ch c.args.wants c.args.owed c.args.bytes c.args.entry_bytes can1 new wrote
+    subst (λ d. Told g.M.SortedMaps.maps g.M.SortedMaps.spare g.M.SortedMaps.limit s i a (answer.Changed c.in_ok-before.before d) after) (sym told)
+    (subst (λ b. Told g.M.SortedMaps.maps g.M.SortedMaps.spare g.M.SortedMaps.limit s i a (answer.Changed b c.args.owed) after) (sym before)
+    (put_told g.M.SortedMaps.maps g.M.SortedMaps.spare g.M.SortedMaps.limit one s i ch c.args.wants c.args.owed c.args.bytes c.args.entry_bytes can1 new left c.kept_room-aside.result kept_are wrote
+    (ap (λ (x : CoreState g.row.M.Denot). x.data_room) e3 ∙ ap (λ (x : CoreState g.row.M.Denot). x.data_room) e2) (ap (λ (d : DataRoom). d.limit) c.set_aside.ensures.rest) c.set_aside.ensures.own c.set_aside.ensures.others c.set_aside.ensures.total
     (record {
       steps = ap (λ (x : CoreState g.row.M.Denot). x.steps) e3 ∙ ap (λ (x : CoreState g.row.M.Denot). x.steps) e2;
       seats = ap (λ (x : CoreState g.row.M.Denot). x.seats) e3 ∙ ap (λ (x : CoreState g.row.M.Denot). x.seats) e2;
       cleaner = ap (λ (x : CoreState g.row.M.Denot). x.cleaner) e3 ∙ ap (λ (x : CoreState g.row.M.Denot). x.cleaner) e2;
       stop = ap (λ (x : CoreState g.row.M.Denot). x.stop) e3 ∙ ap (λ (x : CoreState g.row.M.Denot). x.stop) e2;
+      limit = ap (λ (d : DataRoom). d.limit) c.set_aside.ensures.rest ∙ (ap (λ (x : CoreState g.row.M.Denot). x.data_room.limit) e3 ∙ ap (λ (x : CoreState g.row.M.Denot). x.data_room.limit) e2);
     })
     (ap (λ (x : CoreState g.row.M.Denot). lock.waiting_of x.locks i) e3 ∙ c.take.ensures.own)
     (λ j n. ap (λ (x : CoreState g.row.M.Denot). lock.waiting_of x.locks j) e3 ∙ c.take.ensures.others j n)))

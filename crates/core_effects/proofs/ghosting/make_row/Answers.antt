@@ -15,7 +15,7 @@ use Rattle.txn_machine.specs.Log.{logs}
 use Rattle.txn_machine.specs.Store.{does, Ghosts}
 use Rattle.core_effects.proofs.Results.{on_err_of}
 use Rattle.core_state.specs.Stands.{Holds}
-use Rattle.core_effects.proofs.Deltas.{first_is, few_sums, can_store, limited_here}
+use Rattle.core_effects.proofs.Deltas.{first_is, few_sums, limited_here}
 use Rattle.core_effects.proofs.Ghosted.{has_absent, made_holds, unmade_holds}
 use Rattle.core_effects.proofs.ghosting.make_row.Goals as goal
 
@@ -74,7 +74,7 @@ make_ghost-requires-clause-can g c κs within =
     let many : length c.as_slice.result.now ≡ length o.first.sums = ap length c.as_slice.ensures ∙ ap (λ (d : GroupDelta). length d.sums) is in
     subst (λ (p : Place). CanStore (g.M.SortedMaps.maps core.store.tables) (g.M.SortedMaps.limit core.store.tables) p (suc (length c.as_slice.result.now))) (sym at)
     (subst (λ n. CanStore (g.M.SortedMaps.maps core.store.tables) (g.M.SortedMaps.limit core.store.tables) (place_of o.first) (suc n)) (sym many)
-    (can_store _ (limited_here g.M.SortedMaps.maps g.M.SortedMaps.spare g.M.SortedMaps.limit core s l texts c.args.session h o) o.first o.delta (g.M.SortedMaps.maps core.store.tables) (g.M.SortedMaps.limit core.store.tables) h.rooms.unlimited))
+    c.requires.absent.6)
 
 pub returns-in_err-make_ghost-clause-err : goal.returns-in_err-make_ghost-clause-err
 returns-in_err-make_ghost-clause-err g c = on_err_of c.from_residual.result

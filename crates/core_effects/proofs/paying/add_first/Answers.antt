@@ -15,7 +15,7 @@ use Rattle.data_changes.specs.Effects.{with_pay}
 use Rattle.data_changes.specs.Paying.{HasFor, IsRefusedWith, AreCommittedAt}
 use Rattle.core_state.specs.Stands.{Holds}
 use Rattle.core_effects.specs.Owing.{OwesFirst, IsUnpaid}
-use Rattle.core_effects.proofs.Deltas.{first_is, has_for, is_ready, ghost_delta, can_store, limited_here}
+use Rattle.core_effects.proofs.Deltas.{first_is, has_for, is_ready, ghost_delta, limited_here}
 use Rattle.core_effects.proofs.Results.{on_ok_as, on_ok_where, on_err_three, if_err_where}
 use Rattle.core_effects.proofs.Paid.{unpaid_holds}
 use Rattle.data_changes.proofs.Answered.{if_ok_as}
@@ -62,7 +62,7 @@ pay-requires-clause-can g c κs within =
     let o = c.requires.owes.4 in
     let core = c.args.core.now in
     subst (λ (d : GroupDelta). CanStore (g.M.SortedMaps.maps core.store.tables) (g.M.SortedMaps.limit core.store.tables) (place_of d) (width d)) (sym (first_is g.M.SortedMaps.maps g.M.SortedMaps.spare g.M.SortedMaps.limit core c.requires.owes.0 c.requires.owes.1 c.requires.owes.2 c.args.session h o c.in-Some.txn.now (sym c.get.ensures ∙ ap option_copied c.in-Some.is) c.first_owed-delta.result.now c.first_owed-delta.ensures))
-    (can_store _ (limited_here g.M.SortedMaps.maps g.M.SortedMaps.spare g.M.SortedMaps.limit core c.requires.owes.0 c.requires.owes.1 c.requires.owes.2 c.args.session h o) o.first o.delta (g.M.SortedMaps.maps core.store.tables) (g.M.SortedMaps.limit core.store.tables) h.rooms.unlimited)
+    c.requires.owes.5
 
 pub returns-clause-paid : goal.returns-clause-paid
 returns-clause-paid g c = on_ok_as c.pay.result

@@ -1,4 +1,4 @@
-use Rattle.core_effects.proofs.Latest.{some_open, has_latest, a_pay, a_put}
+use Rattle.core_effects.proofs.Latest.{some_open, has_latest, a_pay, a_put, pay_room, put_room}
 use Rattle.core_effects.proofs.undoing.undo.Goals as goal
 
 pub open_of-requires-after_bounds : goal.open_of-requires-after_bounds
@@ -13,7 +13,8 @@ undo_pay-requires-clause-keeps g c κs within = (
   c.requires.keeps.1,
   c.requires.keeps.2,
   c.requires.keeps.3,
-  a_pay g.M.SortedMaps.maps g.M.SortedMaps.spare g.M.SortedMaps.limit c.args.core.now c.requires.keeps.0 c.requires.keeps.1 c.requires.keeps.2 c.args.session c.requires.keeps.3 c.open_of.result.now c.open_of.ensures c.is_pay.result c.is_pay.ensures c.if-is_pay.true c.requires.keeps.4,
+  (pay_room g.M.SortedMaps.maps g.M.SortedMaps.spare g.M.SortedMaps.limit c.args.core.now c.requires.keeps.0 c.requires.keeps.1 c.requires.keeps.2 c.args.session c.requires.keeps.3 c.open_of.result.now c.open_of.ensures c.is_pay.result c.is_pay.ensures (g.M.SortedMaps.maps c.args.core.now.store.tables) (g.M.SortedMaps.limit c.args.core.now.store.tables) c.if-is_pay.true c.requires.keeps.4 c.requires.keeps.5).0,
+  (pay_room g.M.SortedMaps.maps g.M.SortedMaps.spare g.M.SortedMaps.limit c.args.core.now c.requires.keeps.0 c.requires.keeps.1 c.requires.keeps.2 c.args.session c.requires.keeps.3 c.open_of.result.now c.open_of.ensures c.is_pay.result c.is_pay.ensures (g.M.SortedMaps.maps c.args.core.now.store.tables) (g.M.SortedMaps.limit c.args.core.now.store.tables) c.if-is_pay.true c.requires.keeps.4 c.requires.keeps.5).1,
 )
 
 pub undo_put-requires-clause-keeps : goal.undo_put-requires-clause-keeps
@@ -22,7 +23,8 @@ undo_put-requires-clause-keeps g c κs within = (
   c.requires.keeps.1,
   c.requires.keeps.2,
   c.requires.keeps.3,
-  a_put g.M.SortedMaps.maps g.M.SortedMaps.spare g.M.SortedMaps.limit c.args.core.now c.requires.keeps.0 c.requires.keeps.1 c.requires.keeps.2 c.args.session c.requires.keeps.3 c.open_of.result.now c.open_of.ensures c.is_pay.result c.is_pay.ensures c.if-is_pay.false c.requires.keeps.4,
+  (put_room g.M.SortedMaps.maps g.M.SortedMaps.spare g.M.SortedMaps.limit c.args.core.now c.requires.keeps.0 c.requires.keeps.1 c.requires.keeps.2 c.args.session c.requires.keeps.3 c.open_of.result.now c.open_of.ensures c.is_pay.result c.is_pay.ensures (g.M.SortedMaps.maps c.args.core.now.store.tables) (g.M.SortedMaps.limit c.args.core.now.store.tables) c.if-is_pay.false c.requires.keeps.4 c.requires.keeps.5).0,
+  (put_room g.M.SortedMaps.maps g.M.SortedMaps.spare g.M.SortedMaps.limit c.args.core.now c.requires.keeps.0 c.requires.keeps.1 c.requires.keeps.2 c.args.session c.requires.keeps.3 c.open_of.result.now c.open_of.ensures c.is_pay.result c.is_pay.ensures (g.M.SortedMaps.maps c.args.core.now.store.tables) (g.M.SortedMaps.limit c.args.core.now.store.tables) c.if-is_pay.false c.requires.keeps.4 c.requires.keeps.5).1,
 )
 
 pub returns-then-is_pay-clause-holds : goal.returns-then-is_pay-clause-holds

@@ -18,7 +18,7 @@ use Rattle.txn_machine.specs.Ghosts.{the_views}
 use Rattle.txn_machine.specs.Log.{logs}
 use Rattle.txn_machine.specs.Store.{does, Undoes}
 use Rattle.core_state.specs.Stands.{Holds}
-use Rattle.core_effects.proofs.Deltas.{ghost_delta, can_store}
+use Rattle.core_effects.proofs.Deltas.{ghost_delta}
 use Rattle.core_effects.proofs.Unpaid.{mine, last, there_latest, prefixes, paid_last, for_it, limited_here, has_room, undone_holds}
 use Rattle.core_effects.proofs.undoing.undo_pay.Goals as goal
 
@@ -57,7 +57,7 @@ take_back_pay-requires-clause-can g c κs within =
     let it = last g.M.SortedMaps.maps g.M.SortedMaps.spare g.M.SortedMaps.limit core c.requires.keeps.0 c.requires.keeps.1 c.requires.keeps.2 c.args.session c.requires.keeps.3 c.requires.keeps.4 in
     let are = c.latest_pay.ensures o.latest it.before it.number it.steps (there_latest g.M.SortedMaps.maps g.M.SortedMaps.spare g.M.SortedMaps.limit core c.requires.keeps.0 c.requires.keeps.1 c.requires.keeps.2 c.args.session c.requires.keeps.3 c.requires.keeps.4 c.in-Some.txn.now (sym c.get.ensures ∙ ap option_copied c.in-Some.is)) in
     subst (λ (x : GroupDelta). CanStore (g.M.SortedMaps.maps core.store.tables) (g.M.SortedMaps.limit core.store.tables) (place_of x) (width x)) (sym are.0)
-    (can_store _ (limited_here g.M.SortedMaps.maps g.M.SortedMaps.spare g.M.SortedMaps.limit core c.requires.keeps.0 c.requires.keeps.1 c.requires.keeps.2 c.args.session c.requires.keeps.3 c.requires.keeps.4) o.latest o.delta (g.M.SortedMaps.maps core.store.tables) (g.M.SortedMaps.limit core.store.tables) c.requires.keeps.3.rooms.unlimited)
+    c.requires.keeps.5
 
 pub undo-requires : goal.undo-requires
 undo-requires g c =

@@ -68,7 +68,7 @@ take_back_put-requires-after_bounds g c κs within =
     let same : c.in-Some.kept ≡ it.kept = cc in
     subst (λ (st : DataStore g.row.M.Denot). IsTableAnd st.catalog c.in-Some.kept.change.table (CanTakeBack st.catalog c.in-Some.kept (g.M.SortedMaps.maps st.tables) (g.M.SortedMaps.spare st.tables) (g.M.SortedMaps.limit st.tables))) (sym c.forget_change.ensures.rest)
     (subst (λ k. IsTableAnd core.store.catalog k.change.table (CanTakeBack core.store.catalog k (g.M.SortedMaps.maps core.store.tables) (g.M.SortedMaps.spare core.store.tables) (g.M.SortedMaps.limit core.store.tables))) (sym same)
-    (can_take_back g.M.SortedMaps.maps g.M.SortedMaps.spare g.M.SortedMaps.limit core c.requires.keeps.0 c.requires.keeps.1 c.requires.keeps.2 c.args.session c.requires.keeps.3 c.requires.keeps.4 c.number_law.ensures))
+    (can_take_back g.M.SortedMaps.maps g.M.SortedMaps.spare g.M.SortedMaps.limit core c.requires.keeps.0 c.requires.keeps.1 c.requires.keeps.2 c.args.session c.requires.keeps.3 c.requires.keeps.4 c.number_law.ensures c.requires.keeps.5))
 
 pub unreachable-requires : goal.unreachable-requires
 unreachable-requires g c =

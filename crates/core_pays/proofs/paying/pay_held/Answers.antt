@@ -2,19 +2,34 @@ use Rattle.std.proofs.Common.{◌≡◌, ◌<◌, ◌^◌, length, sym, ap, subs
 use Rattle.lock_manager.specs.Table as table
 use Rattle.txn_machine.specs.Acts as act
 use Rattle.txn_machine.specs.Log.{logs}
-use Rattle.txn_machine.specs.Store.{Pays}
+use Rattle.txn_machine.specs.Ghosts.{the_views}
+use Rattle.txn_machine.specs.Store.{Pays, does, schema_of}
+use Rattle.data_room.specs.Reserved.{IsReserved}
+use Rattle.data_room.specs.declared.room.DataRoom.{DataRoom}
 use Rattle.core_state.specs.Stands.{Told}
 use Rattle.core_state.specs.declared.state.CoreState.{CoreState}
+use Rattle.core_state.proofs.Data.{data_holds}
 use Rattle.core_effects.proofs.Done.{still_underway}
-use Rattle.core_pays.proofs.Answered.{between, log_between, the_first, is_there, left_is, few_left, paid_told, unpaid_told}
+use Rattle.core_pays.proofs.Answered.{between, log_between, the_first, is_there, left_is, few_left, paid_told, unpaid_told, between_reserves, can_store_first, paid_reserved}
+use Rattle.core_pays.proofs.Reserving.{data_underway}
 use Rattle.core_pays.proofs.paying.pay_held.Goals as goal
+
+pub room_of_first-room-requires-after_bounds : goal.room_of_first-room-requires-after_bounds
+room_of_first-room-requires-after_bounds g c κs within =
+    let core = c.args.core.now in
+    let s = c.requires.0 in
+    let h = c.requires.1 in
+    (between g.M.SortedMaps.maps g.M.SortedMaps.spare g.M.SortedMaps.limit core s c.args.session h, log_between g.M.SortedMaps.maps g.M.SortedMaps.spare g.M.SortedMaps.limit core s c.args.session h, s.definitions, h.holds, the_first g.M.SortedMaps.maps g.M.SortedMaps.spare g.M.SortedMaps.limit core s c.args.session h)
+
+pub give_back-requires : goal.give_back-requires
+give_back-requires g c = let is = c.requires.1.owes.goes_on.of_session in omega (arith, is)
 
 pub pay_first-requires-clause-owes : goal.pay_first-requires-clause-owes
 pay_first-requires-clause-owes g c κs within =
     let core = c.args.core.now in
     let s = c.requires.0 in
     let h = c.requires.1 in
-    (between g.M.SortedMaps.maps g.M.SortedMaps.spare g.M.SortedMaps.limit core s c.args.session h, log_between g.M.SortedMaps.maps g.M.SortedMaps.spare g.M.SortedMaps.limit core s c.args.session h, s.definitions, h.holds, the_first g.M.SortedMaps.maps g.M.SortedMaps.spare g.M.SortedMaps.limit core s c.args.session h)
+    (between g.M.SortedMaps.maps g.M.SortedMaps.spare g.M.SortedMaps.limit core s c.args.session h, log_between g.M.SortedMaps.maps g.M.SortedMaps.spare g.M.SortedMaps.limit core s c.args.session h, s.definitions, h.holds, the_first g.M.SortedMaps.maps g.M.SortedMaps.spare g.M.SortedMaps.limit core s c.args.session h, can_store_first g.M.SortedMaps.maps g.M.SortedMaps.spare g.M.SortedMaps.limit core s c.args.session h)
 
 pub open_of-requires-after_bounds : goal.open_of-requires-after_bounds
 open_of-requires-after_bounds g c κs within =
@@ -46,13 +61,19 @@ returns-in-Ok g c = λ s h.
     let b = between g.M.SortedMaps.maps g.M.SortedMaps.spare g.M.SortedMaps.limit core s i h in
     let l = log_between g.M.SortedMaps.maps g.M.SortedMaps.spare g.M.SortedMaps.limit core s i h in
     let rest = c.pay_first.ensures.rest in
+    let new = c.pay_first.new.core in
+    let room = c.give_back.new.self in
+    let same_limit = ap (λ (d : DataRoom). d.limit) c.give_back.ensures.rest in
     let holds = c.in-Ok.ensures.paid b l s.definitions act.Pay h.holds (the_first g.M.SortedMaps.maps g.M.SortedMaps.spare g.M.SortedMaps.limit core s i h) in
     let allowed = c.in-Ok.ensures.allowed b l s.definitions (the_first g.M.SortedMaps.maps g.M.SortedMaps.spare g.M.SortedMaps.limit core s i h) h.holds in
-    paid_told g.M.SortedMaps.maps g.M.SortedMaps.spare g.M.SortedMaps.limit core s i h c.pay_first.new.core
-    (still_underway g.M.SortedMaps.maps g.M.SortedMaps.spare g.M.SortedMaps.limit core c.pay_first.new.core s i h.underway
-    (record { steps = ap (λ (x : CoreState g.row.M.Denot). x.steps) rest; seats = ap (λ (x : CoreState g.row.M.Denot). x.seats) rest; cleaner = ap (λ (x : CoreState g.row.M.Denot). x.cleaner) rest; stop = ap (λ (x : CoreState g.row.M.Denot). x.stop) rest })
-    (λ js. ap (λ (x : CoreState g.row.M.Denot). table.waiting_of x.locks i) rest ∙ h.underway.own js) (λ j n. ap (λ (x : CoreState g.row.M.Denot). table.waiting_of x.locks j) rest))
-    c.len.result ((c.len.ensures ∙ c.open_of.result.now.owed.ok.0) ∙ left_is g.M.SortedMaps.maps g.M.SortedMaps.spare g.M.SortedMaps.limit core s i h c.pay_first.new.core (logs b i act.Pay Pays l) holds c.open_of.result.now c.open_of.ensures) allowed.0 allowed.1 holds
+    paid_told g.M.SortedMaps.maps g.M.SortedMaps.spare g.M.SortedMaps.limit core s i h (record new { data_room = room })
+    (data_underway g.M.SortedMaps.maps g.M.SortedMaps.spare g.M.SortedMaps.limit new room s i (still_underway g.M.SortedMaps.maps g.M.SortedMaps.spare g.M.SortedMaps.limit core c.pay_first.new.core s i h.underway
+    (record { steps = ap (λ (x : CoreState g.row.M.Denot). x.steps) rest; seats = ap (λ (x : CoreState g.row.M.Denot). x.seats) rest; cleaner = ap (λ (x : CoreState g.row.M.Denot). x.cleaner) rest; stop = ap (λ (x : CoreState g.row.M.Denot). x.stop) rest; limit = ap (λ (x : CoreState g.row.M.Denot). x.data_room.limit) rest })
+    (λ js. ap (λ (x : CoreState g.row.M.Denot). table.waiting_of x.locks i) rest ∙ h.underway.own js) (λ j n. ap (λ (x : CoreState g.row.M.Denot). table.waiting_of x.locks j) rest)) same_limit)
+    c.len.result ((c.len.ensures ∙ c.open_of.result.now.owed.ok.0) ∙ left_is g.M.SortedMaps.maps g.M.SortedMaps.spare g.M.SortedMaps.limit core s i h c.pay_first.new.core (logs b i act.Pay Pays l) holds c.open_of.result.now c.open_of.ensures) allowed.0 allowed.1
+    (data_holds g.M.SortedMaps.maps g.M.SortedMaps.spare g.M.SortedMaps.limit new room (does the_views b i Pays) (logs b i act.Pay Pays l) s.definitions same_limit holds)
+    (paid_reserved g.M.SortedMaps.maps g.M.SortedMaps.spare g.M.SortedMaps.limit core s i h room new.data_room c.room_of_first-room.result (ap (λ (x : CoreState g.row.M.Denot). x.data_room) rest) same_limit
+    (c.room_of_first-room.ensures b l s.definitions (the_first g.M.SortedMaps.maps g.M.SortedMaps.spare g.M.SortedMaps.limit core s i h) h.holds) c.give_back.ensures.few c.give_back.ensures.own c.give_back.ensures.others c.give_back.ensures.total)
 
 pub returns-in-Err : goal.returns-in-Err
 returns-in-Err g c = λ s h.
@@ -64,6 +85,7 @@ returns-in-Err g c = λ s h.
     subst (λ m. Told g.M.SortedMaps.maps g.M.SortedMaps.spare g.M.SortedMaps.limit s i act.Pay m c.pay_first.new.core) (sym c.unpaid.ensures)
     (unpaid_told g.M.SortedMaps.maps g.M.SortedMaps.spare g.M.SortedMaps.limit core s i h c.pay_first.new.core
     (still_underway g.M.SortedMaps.maps g.M.SortedMaps.spare g.M.SortedMaps.limit core c.pay_first.new.core s i h.underway
-    (record { steps = ap (λ (x : CoreState g.row.M.Denot). x.steps) rest; seats = ap (λ (x : CoreState g.row.M.Denot). x.seats) rest; cleaner = ap (λ (x : CoreState g.row.M.Denot). x.cleaner) rest; stop = ap (λ (x : CoreState g.row.M.Denot). x.stop) rest })
+    (record { steps = ap (λ (x : CoreState g.row.M.Denot). x.steps) rest; seats = ap (λ (x : CoreState g.row.M.Denot). x.seats) rest; cleaner = ap (λ (x : CoreState g.row.M.Denot). x.cleaner) rest; stop = ap (λ (x : CoreState g.row.M.Denot). x.stop) rest; limit = ap (λ (x : CoreState g.row.M.Denot). x.data_room.limit) rest })
     (λ js. ap (λ (x : CoreState g.row.M.Denot). table.waiting_of x.locks i) rest ∙ h.underway.own js) (λ j n. ap (λ (x : CoreState g.row.M.Denot). table.waiting_of x.locks j) rest))
-    c.in-Err.why (c.in-Err.ensures.unpaid b l s.definitions (the_first g.M.SortedMaps.maps g.M.SortedMaps.spare g.M.SortedMaps.limit core s i h) h.holds) (c.in-Err.ensures.kept b l s.definitions (the_first g.M.SortedMaps.maps g.M.SortedMaps.spare g.M.SortedMaps.limit core s i h) h.holds))
+    c.in-Err.why (c.in-Err.ensures.unpaid b l s.definitions (the_first g.M.SortedMaps.maps g.M.SortedMaps.spare g.M.SortedMaps.limit core s i h) h.holds) (c.in-Err.ensures.kept b l s.definitions (the_first g.M.SortedMaps.maps g.M.SortedMaps.spare g.M.SortedMaps.limit core s i h) h.holds)
+    (subst (λ d. IsReserved d (schema_of b) b.open_of l.logged s.definitions) (sym (ap (λ (x : CoreState g.row.M.Denot). x.data_room) rest)) (between_reserves g.M.SortedMaps.maps g.M.SortedMaps.spare g.M.SortedMaps.limit core s i h)))

@@ -1,4 +1,5 @@
 use Rattle.std.proofs.Common.{◌∙◌, sym, subst}
+use Rattle.txn_machine.specs.Acts as act
 use Rattle.txn_machine.specs.Steps.{IsFree}
 use Rattle.core_state.specs.Stands.{Began}
 use Rattle.core_reads.proofs.fetching.fetch.Goals as goal
@@ -15,3 +16,6 @@ fetch_free-requires-after_bounds g c κs within =
         free = subst (IsFree s.store c.args.session) (sym c.in-Ok.ensures.wants) (c.in-Ok.ensures.free s c.requires.1);
       },
     )
+
+pub returns-in-Err-clause-told : goal.returns-in-Err-clause-told
+returns-in-Err-clause-told g c = λ s h may. c.in-Err.ensures.told s (act.Fetch c.args.index c.args.interval.now c.args.mode) h may.0 (tt, sym c.in_ok-wants.ensures)

@@ -34,11 +34,13 @@ returns g c = record {
       removed_told g.M.SortedMaps.maps g.M.SortedMaps.spare g.M.SortedMaps.limit core s h new place first
       (subst (λ (key : List ℕ). Holds g.M.SortedMaps.maps g.M.SortedMaps.spare g.M.SortedMaps.limit new (does the_views s.store 0 (Cleans (c.in-Some.view, key))) (logs s.store 0 act.Clean (Cleans (c.in-Some.view, key)) s.log) s.definitions) is
       (c.remove.ensures.holds s h (subst (λ (key : List ℕ). IsCleanable s.store (c.in-Some.view, key)) (sym is) first.is)))
+      (ap (λ (x : CoreState g.row.M.Denot). x.data_room) rest)
       (record {
         steps = ap (λ (x : CoreState g.row.M.Denot). x.steps) rest;
         seats = ap (λ (x : CoreState g.row.M.Denot). x.seats) rest;
         cleaner = ap (λ (x : CoreState g.row.M.Denot). x.cleaner) rest;
         stop = ap (λ (x : CoreState g.row.M.Denot). x.stop) rest;
+        limit = ap (λ (x : CoreState g.row.M.Denot). x.data_room.limit) rest;
       })
       (λ j. ap (λ (x : CoreState g.row.M.Denot). waiting_of x.locks j) rest);
 }

@@ -1,7 +1,8 @@
-use Rattle.std.proofs.Common.{sym, subst}
+use Rattle.std.proofs.Common.{IfOk, sym, subst}
+use Rattle.txn_machine.specs.Acts as machine
 use Rattle.txn_book.specs.Acts.{act_of, answer_of}
 use Rattle.txn_book.specs.declared.step.Act.{Act}
-use Rattle.core_state.specs.Stands.{Began}
+use Rattle.core_state.specs.Stands.{Began, Told}
 use Rattle.engine_core.specs.Acting.{Does}
 use Rattle.engine_core.proofs.Telling.{can_do}
 use Rattle.engine_core.proofs.acting.act.Goals as goal
@@ -44,3 +45,29 @@ clean-requires-after_bounds g c κs within =
 pub returns-in-Commit-clause-told : goal.returns-in-Commit-clause-told
 returns-in-Commit-clause-told g c =
     subst (λ (a : Act). Does g.M.SortedMaps.maps g.M.SortedMaps.spare g.M.SortedMaps.limit c.args.core.now c.args.session (act_of a) (answer_of c.commit.result) c.commit.new.core) (sym c.in-Commit.is) c.commit.ensures
+
+pub returns-in-Fetch-clause-told : goal.returns-in-Fetch-clause-told
+returns-in-Fetch-clause-told g c =
+    subst (λ (a : Act). IfOk c.fetch.result (λ said. Does g.M.SortedMaps.maps g.M.SortedMaps.spare g.M.SortedMaps.limit c.args.core.now c.args.session (act_of a) (answer_of said) c.fetch.new.core)) (sym c.in-Fetch.is) c.fetch.ensures.told
+
+pub returns-in-Pay-clause-told : goal.returns-in-Pay-clause-told
+returns-in-Pay-clause-told g c =
+    subst (λ (a : Act). Does g.M.SortedMaps.maps g.M.SortedMaps.spare g.M.SortedMaps.limit c.args.core.now c.args.session (act_of a) (answer_of c.pay.result) c.pay.new.core) (sym c.in-Pay.is) c.pay.ensures
+
+pub returns-in-UndoOne-clause-told : goal.returns-in-UndoOne-clause-told
+returns-in-UndoOne-clause-told g c =
+    subst (λ (a : Act). Does g.M.SortedMaps.maps g.M.SortedMaps.spare g.M.SortedMaps.limit c.args.core.now c.args.session (act_of a) (answer_of c.undo_one.result) c.undo_one.new.core) (sym c.in-UndoOne.is) c.undo_one.ensures
+
+pub returns-in-End-clause-told : goal.returns-in-End-clause-told
+returns-in-End-clause-told g c =
+    subst (λ (a : Act). Does g.M.SortedMaps.maps g.M.SortedMaps.spare g.M.SortedMaps.limit c.args.core.now c.args.session (act_of a) (answer_of c.end.result) c.end.new.core) (sym c.in-End.is) c.end.ensures
+
+pub returns-in-Clean-clause-told : goal.returns-in-Clean-clause-told
+returns-in-Clean-clause-told g c =
+    subst (λ (a : Act). Does g.M.SortedMaps.maps g.M.SortedMaps.spare g.M.SortedMaps.limit c.args.core.now c.args.session (act_of a) (answer_of c.clean.result) c.clean.new.core) (sym c.in-Clean.is)
+    (λ s h may. subst (λ i. Told g.M.SortedMaps.maps g.M.SortedMaps.spare g.M.SortedMaps.limit s i machine.Clean (answer_of c.clean.result) c.clean.new.core) (sym may) (c.clean.ensures.told s (subst (λ i. Began g.M.SortedMaps.maps g.M.SortedMaps.spare g.M.SortedMaps.limit c.args.core.now s i) may h)))
+
+pub returns-in-Prune-clause-told : goal.returns-in-Prune-clause-told
+returns-in-Prune-clause-told g c =
+    subst (λ (a : Act). Does g.M.SortedMaps.maps g.M.SortedMaps.spare g.M.SortedMaps.limit c.args.core.now c.args.session (act_of a) (answer_of c.prune.result) c.prune.new.core) (sym c.in-Prune.is)
+    (λ s h may. subst (λ i. Told g.M.SortedMaps.maps g.M.SortedMaps.spare g.M.SortedMaps.limit s i machine.Prune (answer_of c.prune.result) c.prune.new.core) (sym may) (c.prune.ensures.told s (subst (λ i. Began g.M.SortedMaps.maps g.M.SortedMaps.spare g.M.SortedMaps.limit c.args.core.now s i) may h)))

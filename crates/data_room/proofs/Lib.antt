@@ -1,0 +1,6 @@
+pub mod Wheres
+pub mod Kept
+pub mod Owed
+pub mod Counted
+pub mod Transactions
+pub mod Used
