@@ -2,3 +2,4 @@ pub mod Table
 pub mod Order
 pub mod Points
 pub mod Law
+pub mod Marks

@@ -5,6 +5,7 @@ ghost use Rattle.iv_types.specs.declared.limit.TheConstants.{SEATS};
 ghost use Rattle.iv_meaning.specs.Escrow.{IsSession};
 ghost use Rattle.txn_machine.specs.Locks.{IsInTheWay, AreInTheWay};
 ghost use Rattle.iv_types.specs.SessionSets.{IsSomebody};
+ghost use Rattle.lock_manager.specs.Marks.{AreMarked};
 ghost use Rattle.lock_manager.specs.Table.{Covers, HasSome, IsNew, IsFree, IsReserved, IsGranted, IsRecorded, IsCancelled, IsReleased, AddAtMost, OnGranted, IfBlocked, locks_of, waiting_of, room_of};
 
 use crate::LockAnswer;
@@ -14,22 +15,30 @@ use std::alloc::Global;
 use std::marker::Model;
 
 // Whether another session is in the way of these wants.
-fn is_in_the_way(parts: &[SessionPart], session: u32, wants: &[Want], other: u32) -> bool
+fn is_in_the_way(
+    parts: &[SessionPart],
+    holders: &[bool],
+    session: u32,
+    wants: &[Want],
+    other: u32,
+) -> bool
     requires parts { length parts.now ≡ SEATS }
+    requires marked { AreMarked holders.now parts.now }
     requires other { IsSession other }
     ensures { IsTrue result ↔ IsInTheWay (locks_of parts.now) session wants.now other }
 {
-    other != session && parts[other as usize].held().meets(wants)
+    other != session && holders[other as usize] && parts[other as usize].held().meets(wants)
 }
 
 // The sessions that are in the way of these wants.
-fn in_the_way(parts: &[SessionPart], session: u32, wants: &[Want]) -> Sessions
-    requires { length parts.now ≡ SEATS }
+fn in_the_way(parts: &[SessionPart], holders: &[bool], session: u32, wants: &[Want]) -> Sessions
+    requires parts { length parts.now ≡ SEATS }
+    requires marked { AreMarked holders.now parts.now }
     ensures { AreInTheWay (locks_of parts.now) session wants.now result }
 {
     let mut sessions = NOBODY;
     for other in 1..SEATS as u32 {
-        if is_in_the_way(parts, session, wants, other) {
+        if is_in_the_way(parts, holders, session, wants, other) {
             sessions = sessions.with(other);
         }
     }
@@ -46,12 +55,13 @@ pub struct LockTable {
     alloc: Global,
     // Session k's part stands at place k.
     parts: Vec<SessionPart>,
+    // Whether session k may hold a lock, at place k. The others are passed over by requests.
+    holders: Vec<bool>,
 }
 
 impl Model for LockTable {
-    ghost use Rattle.std.specs.Prelude.{◌≡◌, length};
     ghost use Rattle.std.specs.Coded.{coded_list};
-    ghost use Rattle.iv_types.specs.declared.limit.TheConstants.{SEATS};
+    ghost use Rattle.lock_manager.specs.Marks.{IsSound};
     ghost use Rattle.lock_manager.specs.Table.{Table, coded_session_locks};
 
     ghost Value = { Table };
@@ -60,7 +70,7 @@ impl Model for LockTable {
 
     ghost view = { λ t. t.parts.items };
 
-    ghost invariant = { λ t. length t.parts.items ≡ SEATS };
+    ghost invariant = { IsSound };
 }
 
 impl LockTable {
@@ -72,11 +82,16 @@ impl LockTable {
     pub fn new(alloc: Global) -> Result<LockTable, NoMemory>
         ensures { IfOk result (λ table. IsNew table) }
     {
+        let holders = vec![in alloc; false; SEATS]?;
         let mut parts = Vec::new(alloc);
         for _ in 0..SEATS {
             parts.push(SessionPart::new(alloc))?;
         }
-        Ok(LockTable { alloc, parts })
+        Ok(LockTable {
+            alloc,
+            parts,
+            holders,
+        })
     }
 
     /// Makes room, so that the session, 1 to 64, may be granted this many locks more than it holds. Room that it has
@@ -126,6 +141,7 @@ impl LockTable {
     {
         let alloc = self.alloc;
         self.parts[session as usize].grant(alloc, wants);
+        self.holders[session as usize] = true;
     }
 
     /// The session, 1 to 64, waits for these wants, and for nothing else.
@@ -141,7 +157,7 @@ impl LockTable {
         ensures in_the_way { AreInTheWay (locks_of self.now) session wants.now result }
         ensures free { ¬ IsSomebody result → IsFree (locks_of self.now) session wants.now }
     {
-        in_the_way(&self.parts, session, wants.as_slice())
+        in_the_way(&self.parts, &self.holders, session, wants.as_slice())
     }
 
     /// The sessions that are now in the way of what the session, 1 to 64, waits for: nobody where it waits for nothing.
@@ -149,7 +165,8 @@ impl LockTable {
         requires { IsSession session }
         ensures { AreInTheWay (locks_of self.now) session (waiting_of self.now session) result }
     {
-        in_the_way(&self.parts, session, self.parts[session as usize].waiting())
+        let waiting = self.parts[session as usize].waiting();
+        in_the_way(&self.parts, &self.holders, session, waiting)
     }
 
     /// Gives back what the session, 1 to 64, waits for. It waits for nothing then.
@@ -169,6 +186,7 @@ impl LockTable {
     {
         let alloc = self.alloc;
         self.parts[session as usize].release(alloc);
+        self.holders[session as usize] = false;
     }
 
     /// Whether the session, 1 to 64, holds a lock of exactly this mode on this index whose interval has the key.

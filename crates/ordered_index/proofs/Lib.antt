@@ -7,6 +7,7 @@ pub mod Puts
 pub mod Joins
 pub mod Loose
 pub mod Takes
+pub mod Swaps
 pub mod Indexes
 pub mod Maps
 pub mod Marks

@@ -1,5 +1,5 @@
 -- The maps of the indexes, and what they count, through a change of one entry.
-use Rattle.std.proofs.Common.{ℕ, suc, zero, ◌≡◌, ◌≢◌, ◌+◌, ◌-◌, ◌^◌, ◌<◌, ◌≤◌, inl, inr, Bool, true, false, cond, ◌&&◌, T, Some, None, List, [], ◌∷◌, ◌++◌, length, sum_by, refl, sym, ap, ◌∙◌, subst, arith, length-append}
+use Rattle.std.proofs.Common.{ℕ, suc, zero, ◌≡◌, ◌≢◌, ◌+◌, ◌-◌, ◌^◌, ◌<◌, ◌≤◌, ◌⊎◌, inl, inr, Bool, true, false, cond, ◌&&◌, T, Some, None, List, [], ◌∷◌, ◌++◌, length, sum_by, refl, sym, ap, ◌∙◌, subst, arith, length-append}
 use Rattle.std.specs.declared.cmp.Ordering.{Ordering}
 use Rattle.std.specs.declared.cmp.Ordering.TheVariants.{Less, Equal, Greater}
 use Rattle.std.specs.Ordering.{nat_cmp, is_eq, eq_by_cmp, ordering_then}
@@ -11,9 +11,9 @@ use Rattle.std.proofs.lemmas.Bool.{cases_eq, cases_order}
 use Rattle.iv_types.specs.Maps.{Map, Entry, entry_size, map_size, size_below, used, with_map, last_index}
 use Rattle.iv_types.proofs.MapSizes.{size-none, size-more, size_same, used_same, with_here, with_other, sums_cons, used_insert, insert_removed}
 use Rattle.slot_page.specs.Order.{key_cmp}
-use Rattle.ordered_index.specs.Flat.{Place, Item, place_cmp, AllAbove, AllBelow, Rising, AllTop, value_at, IsPut, of_index, counted}
+use Rattle.ordered_index.specs.Flat.{Place, Item, place_cmp, AllAbove, AllBelow, Rising, AllTop, value_at, IsPut, IsSwapped, of_index, counted}
 use Rattle.ordered_index.specs.Tree.{Tree, IsTree, map_of, spare_of, data_limit}
-use Rattle.ordered_index.proofs.Flats.{value_past, value_below, counted-append}
+use Rattle.ordered_index.proofs.Flats.{value_past, value_below, counted-append, rising_without}
 use Rattle.ordered_index.proofs.Finds.{same_index, lower_index, higher_index}
 use Rattle.ordered_index.proofs.Indexes.{of_same, of_here, of_other}
 use Rattle.ordered_index.proofs.Takes.{same_key}
@@ -269,3 +269,45 @@ used_replaced t u i k v w g = used_same _ _ (λ j. elim (cases_eq j i) [
       ap (with_map (map_of t) i (insert (map_of t i) k v)) e ∙ with_here (map_of t) i (insert (map_of t i) k v) ∙ same ∙ sym (ap (with_map (map_of u) i (insert (map_of u i) k v)) e ∙ with_here (map_of u) i (insert (map_of u i) k v))
   | inr ne ↦ with_other (map_of t) i j (insert (map_of t i) k v) ne ∙ sym (g.others j ne) ∙ sym (with_other (map_of u) i j (insert (map_of u i) k v) ne)
 ])
+
+-- ---- another value of as many bytes
+
+pub top_swapped : (q : Place) (v : List ℕ) (old new : List Item) → IsSwapped q v old new → AllTop old → AllTop new
+top_swapped q v old new s t =
+    let low = (top_parts s.was.front _ (subst AllTop s.was.big_is t)).1.0 in
+    top_more q v s.rest new s.is low (top_less q s.before s.rest old s.was t)
+
+pub counted_swapped : (q : Place) (v : List ℕ) (old new : List Item) → IsSwapped q v old new → counted new ≡ counted old
+counted_swapped q v old new s = omega (arith, counted_more q v s.rest new s.is, counted_more q s.before s.rest old s.was, s.size)
+
+-- the tree without the entry
+pub between_values : (t : Tree) (q : Place) (v : List ℕ) (new : List Item) → IsTree t → (s : IsSwapped q v t.all new) → IsTree (record t { all = s.rest })
+between_values t q v new is s =
+    record {
+      rising = subst Rising (sym s.was.small_is) (rising_without s.was.front s.was.back _ (subst Rising s.was.big_is is.rising));
+      top = top_less q s.before s.rest t.all s.was is.top;
+      within = omega (arith, is.within, counted_more q s.before s.rest t.all s.was);
+    }
+
+-- another value at a place, by the tree without the entry
+pub record Reset (u w : Tree) (i : ℕ) (k v : List ℕ) : Type 0 where
+  pub map : map_of w i ≡ insert (map_of u i) k v
+  pub others : (j : ℕ) → j ≢ i → map_of w j ≡ map_of u j
+  pub spares : (j : ℕ) → spare_of u j ≤ spare_of w j
+
+spares_reset : (t u w : Tree) (index : ℕ) (k v x : List ℕ) → Grown t u index k v → Grown t w index k x → (i : ℕ) → (i ≡ index) ⊎ (i ≢ index) → spare_of u i ≤ spare_of w i
+spares_reset t u w index k v x g h i (inl e) = subst (λ (n : ℕ). spare_of u n ≤ spare_of w n) (sym e) (omega (arith, g.spare, h.spare))
+spares_reset t u w index k v x g h i (inr ne) = omega (arith, g.other_spares i ne, h.other_spares i ne)
+
+pub reset : (t u w : Tree) (i : ℕ) (k v x : List ℕ) → Grown t u i k v → Grown t w i k x → Reset u w i k x
+reset t u w i k v x g h = record {
+  map = h.map ∙ ap (λ (m : Map). insert m k x) g.back ∙ insert_removed (map_of u i) k x;
+  others = λ j ne. h.others j ne ∙ sym (g.others j ne);
+  spares = λ j. spares_reset t u w i k v x g h j (cases_eq j i);
+}
+
+pub reset_in_place : (u w : Tree) (i : ℕ) (k v : List ℕ) → IsTree u → IsTree w → w.pages ≡ u.pages → IsSwapped (i, k) v u.all w.all → Reset u w i k v
+reset_in_place u w i k v was is pages s =
+    let t : Tree = record u { all = s.rest } in
+    let mid = between_values u (i, k) v w.all was s in
+    reset t u w i k s.before v (grown t u i k s.before mid was refl s.was) (grown t w i k v mid is pages s.is)

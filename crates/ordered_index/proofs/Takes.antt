@@ -8,10 +8,10 @@ use Rattle.std.specs.FinMap.{nat_cmp-IsAntisymmetric, slice_cmp-IsAntisymmetric}
 use Rattle.std.proofs.lemmas.List.{take-append-drop, drop_more, take_all, length-take-le, length-drop, length-set, append-nil, drop-drop}
 use Rattle.std.proofs.lemmas.List.Edits.{length-remove, get_or-remove_below, get_or-remove_above}
 use Rattle.std.proofs.lemmas.Bool.{cases_lt}
-use Rattle.slot_page.specs.Page.{Entry, no_entry, space}
+use Rattle.slot_page.specs.Page.{Entry, no_entry, space, entries}
 use Rattle.slot_page.specs.Order.{key_cmp, StandsAt, Missing}
 use Rattle.slot_page.proofs.Pages.{space-append}
-use Rattle.ordered_index.specs.Row.{Leaf, no_leaf}
+use Rattle.ordered_index.specs.Row.{Leaf, no_leaf, leaf_of}
 use Rattle.ordered_index.specs.Flat.{Place, Item, place_cmp, AllAbove, AllBelow, Rising, value_at, IsPut, tagged, items, Sought, IsForest, TightOutside}
 use Rattle.ordered_index.proofs.Flats.{rising_without, rising_back, below_head, items-append, items_around, tagged-append}
 use Rattle.ordered_index.proofs.Finds.{at_most_index, value_before_all, value_in_leaf, value_elsewhere, tagged_split, same_index}
@@ -68,6 +68,10 @@ there of key ls k f s some =
     let is : l.0 ≡ of = elim (cases_lt l.0 of) [ inl lt ↦ absurd (nothing _ (value_elsewhere of key l.0 l.1 lt) here) | inr le ↦ omega arith ] in
     let at = stands of key l.1 (subst (λ (i : ℕ). IsSome (value_at q (tagged i l.1))) is here) in
     record { some = pos; inside = inside; index = is; at = at.0; stands_at = at.1 }
+
+-- the leaf, by its page
+pub leaf_by_page : (ls : List Leaf) (j of : ℕ) (page : List ℕ) → leaf_of page ≡ get_or ls j no_leaf → (get_or ls j no_leaf).0 ≡ of → get_or ls j no_leaf ≡ (of, entries page)
+leaf_by_page ls j of page e i = sym e ∙ ap (λ (x : ℕ). let y : Leaf = (x, entries page) in y) (ap (λ (l : Leaf). l.0) e ∙ i)
 
 -- the items, with one of them apart
 pub record Parted (of : ℕ) (key : List ℕ) (i : ℕ) (es : List Entry) (all front back : List Item) : Type 0 where

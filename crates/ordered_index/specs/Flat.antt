@@ -50,6 +50,14 @@ pub record IsPut (q : Place) (v : List ℕ) (small big : List Item) : Type 0 whe
   pub below : AllBelow q front
   pub above : AllAbove q back
 
+-- new is old with another value of as many bytes at a place
+pub record IsSwapped (q : Place) (v : List ℕ) (old new : List Item) : Type 0 where
+  pub before : List ℕ
+  pub rest : List Item
+  pub was : IsPut q before rest old
+  pub is : IsPut q v rest new
+  pub size : length before ≡ length v
+
 -- the entries of one index
 abbrev pub of_index : ℕ → List Item → List Entry
 of_index i [] = []
@@ -95,6 +103,11 @@ pub record IsForest (ls : List Leaf) : Type 0 where
 -- neighbours of one index do not fit into one page, but for those that begin from a to before b
 pub record TightOutside (a : ℕ) (b : ℕ) (ls : List Leaf) : Type 0 where
   pub each : (j : ℕ) → (j < a) ⊎ (b ≤ j) → j + 1 < length ls → (get_or ls j no_leaf).0 ≡ (get_or ls (j + 1) no_leaf).0 → page_body < space (get_or ls j no_leaf).1 + space (get_or ls (j + 1) no_leaf).1
+
+-- neighbours of one index do not fit into one page, but for some about this leaf, if there is one
+abbrev pub AreTightBut : Option ℕ → List Leaf → Type 0
+AreTightBut None ls = TightOutside 0 0 ls
+AreTightBut (Some k) ls = TightOutside (k - 2) (k + 2) ls
 
 -- no index is above the last one
 abbrev pub AllTop : List Item → Type 0

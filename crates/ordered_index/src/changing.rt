@@ -1,7 +1,7 @@
 //! Changes of one entry, after which no two neighbours fit together.
-ghost use Rattle.std.specs.Prelude.{◌≡◌, ℕ, ◌+◌, ◌-◌, ◌<◌, ◌≤◌, List, [], ◌∷◌, ◌++◌, length, take, drop, get_or, set, Some, None, IsSome};
+ghost use Rattle.std.specs.Prelude.{◌≡◌, ℕ, ◌+◌, ◌-◌, ◌<◌, ◌≤◌, List, [], ◌∷◌, ◌++◌, length, take, drop, get_or, set, Option, Some, None, IsSome, true, false};
 ghost use Rattle.slot_page.specs.Page.{Entry, no_entry, entries, index_of, IsPage, whole_page, page_body, entry_head};
-ghost use Rattle.ordered_index.specs.Flat.{IsForest, value_at, items, IsPut, TightOutside};
+ghost use Rattle.ordered_index.specs.Flat.{IsForest, value_at, items, IsPut, IsSwapped, TightOutside, AreTightBut};
 ghost use Rattle.slot_page.specs.Order.{IsRising, StandsAt, Missing};
 ghost use Rattle.ordered_index.specs.Row.{Row, Leaf, no_leaf};
 
@@ -36,8 +36,14 @@ fn spot(page: &[u8], key: &[u8]) -> usize
     }
 }
 
-// Puts an entry into its place. The result says about which leaf neighbours may fit together.
-fn insert_item(leaves: &mut Leaves, buffer: &mut [u8], of: u32, key: &[u8], value: &[u8]) -> usize
+// Puts an entry into its place. The result says about which leaf neighbours may fit together, if any may.
+fn insert_item(
+    leaves: &mut Leaves,
+    buffer: &mut [u8],
+    of: u32,
+    key: &[u8],
+    value: &[u8],
+) -> Option<usize>
     requires forest { IsForest leaves.old.leaves }
     requires absent { value_at (of, key.now) (items leaves.old.leaves) ≡ None }
     requires buffer { length buffer.old ≡ whole_page }
@@ -46,31 +52,31 @@ fn insert_item(leaves: &mut Leaves, buffer: &mut [u8], of: u32, key: &[u8], valu
     ensures forest { IsForest leaves.new.leaves }
     ensures items { IsPut (of, key.now) value.now (items leaves.old.leaves) (items leaves.new.leaves) }
     ensures pages { leaves.new.pages ≡ leaves.old.pages }
-    ensures loose { TightOutside 0 0 leaves.old.leaves → TightOutside (result - 2) (result + 2) leaves.new.leaves }
+    ensures loose { TightOutside 0 0 leaves.old.leaves → AreTightBut result leaves.new.leaves }
 {
     let k = seek(leaves, of, key);
     if k == 0 {
         new_leaf(leaves, k, of, key, value);
-        return k;
+        return Some(k);
     }
     let page = leaves.page(k - 1);
     if index(page) != of {
         new_leaf(leaves, k, of, key, value);
-        return k;
+        return Some(k);
     }
     let i = gap(page, key);
     let n = count(page);
     if 6 + key.len() + value.len() <= room(page) {
         insert_at(leaves, buffer, k - 1, i, key, value);
-        return k;
+        return None;
     }
     if i == n {
         new_leaf(leaves, k, of, key, value);
-        return k;
+        return Some(k);
     }
     cut(leaves, buffer, k - 1, i);
     new_leaf(leaves, k, of, key, value);
-    k
+    Some(k)
 }
 
 #[tactic(auto, using(slot_page::proofs::Pages::page_size, slot_page::proofs::Pages::packed_lies))]
@@ -173,8 +179,31 @@ pub fn insert_and_settle(leaves: &mut Leaves, buffer: &mut [u8], of: u32, key: &
     ensures pages { leaves.new.pages ≡ leaves.old.pages }
     ensures tight { TightOutside 0 0 leaves.new.leaves }
 {
-    let k = insert_item(leaves, buffer, of, key, value);
-    settle_about(leaves, buffer, k);
+    if let Some(k) = insert_item(leaves, buffer, of, key, value) {
+        settle_about(leaves, buffer, k);
+    }
+}
+
+#[tactic(auto, using(slot_page::proofs::Pages::page_size, slot_page::proofs::Pages::packed_lies))]
+/// Sets the value under a key that is there, in its place, where the old one has as many bytes. Else the result is false, and
+/// nothing is changed.
+pub fn replace_value(leaves: &mut Leaves, of: u32, key: &[u8], value: &[u8]) -> bool
+    requires forest { IsForest leaves.old.leaves }
+    requires present { IsSome (value_at (of, key.now) (items leaves.old.leaves)) }
+    ensures forest { IsForest leaves.new.leaves }
+    ensures items { result ≡ true → IsSwapped (of, key.now) value.now (items leaves.old.leaves) (items leaves.new.leaves) }
+    ensures same { result ≡ false → leaves.new ≡ leaves.old }
+    ensures pages { leaves.new.pages ≡ leaves.old.pages }
+    ensures tight { TightOutside 0 0 leaves.old.leaves → TightOutside 0 0 leaves.new.leaves }
+{
+    let k = seek(leaves, of, key) - 1;
+    let page = leaves.page(k);
+    let i = spot(page, key);
+    if entry(page, i).1.len() != value.len() {
+        return false;
+    }
+    leaves.set_value(k, i, value);
+    true
 }
 
 /// Removes an entry, and joins neighbours that fit together. The result is the number of bytes of its value.

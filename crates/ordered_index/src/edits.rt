@@ -22,8 +22,12 @@ pub fn insert_at(
     requires room { space (get_or leaves.old.leaves k no_leaf).1 + entry_head + length key.now + length value.now ≤ page_body }
     ensures { leaves.new ≡ (let leaf = get_or leaves.old.leaves k no_leaf in record leaves.old { leaves = set leaves.old.leaves k (leaf.0, insert leaf.1 i (key.now, value.now)) }) }
 {
+    let n = count(leaves.page(k));
+    if i == n {
+        leaves.append(k, key, value);
+        return;
+    }
     buffer.copy_from_slice(leaves.page(k));
-    let n = count(buffer);
     leaves.truncate(k, i);
     leaves.append(k, key, value);
     leaves.append_from(k, buffer, i, n);

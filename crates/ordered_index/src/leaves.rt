@@ -1,7 +1,7 @@
 //! Pages in order.
 ghost use Rattle.std.specs.Prelude.{◌≡◌, ◌≢◌, ℕ, ◌+◌, ◌-◌, ◌*◌, ◌<◌, ◌≤◌, OnOk, Bool, List, [], ◌∷◌, ◌++◌, length, take, drop, get_or, set, IfOk};
 ghost use Rattle.std.specs.List.{insert, remove, between};
-ghost use Rattle.slot_page.specs.Page.{Entry, IsPage, entries, index_of, space, page_body, entry_head};
+ghost use Rattle.slot_page.specs.Page.{Entry, no_entry, IsPage, entries, index_of, space, page_body, entry_head};
 ghost use Rattle.disk_io.specs.Disk.{Only, LeavesOnly, CountsFault};
 ghost use Rattle.page_store.specs.Image.{live};
 ghost use Rattle.page_store.specs.Publish.{area_room, next_number, OtherArea, IsFirstBlock, LiveFits, IsNew, OldOrNew, KeepsUnchanged};
@@ -12,7 +12,7 @@ use crate::marking::mark_stored;
 use disk_io::Disk;
 use iv_types::{DiskFault, NoMemory};
 use page_store::{HeaderFacts, PageStore};
-use slot_page::{append, append_from, empty, truncate};
+use slot_page::{append, append_from, empty, set_value, truncate};
 use std::alloc::Global;
 use std::marker::Model;
 
@@ -123,6 +123,17 @@ impl Leaves {
     {
         let p = self.order[k];
         append(self.store.change(p), key, value);
+    }
+
+    /// Sets the value of entry `i` of leaf `k` to one of as many bytes.
+    pub fn set_value(&mut self, k: usize, i: usize, value: &[u8])
+        requires leaf { k < length self.old.leaves }
+        requires inside { i < length (get_or self.old.leaves k no_leaf).1 }
+        requires size { length value.now ≡ length (get_or (get_or self.old.leaves k no_leaf).1 i no_entry).1 }
+        ensures { self.new ≡ (let leaf = get_or self.old.leaves k no_leaf in record self.old { leaves = set self.old.leaves k (leaf.0, set leaf.1 i ((get_or leaf.1 i no_entry).0, value.now)) }) }
+    {
+        let p = self.order[k];
+        set_value(self.store.change(p), i, value);
     }
 
     /// Adds entries of another page at the end of leaf `k`.

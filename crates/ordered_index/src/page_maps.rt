@@ -1,5 +1,5 @@
 //! Sorted maps over pages.
-ghost use Rattle.std.specs.Prelude.{◌≡◌, ◌≢◌, ℕ, ◌+◌, ◌-◌, ◌*◌, ◌^◌, ◌<◌, ◌≤◌, min, Bool, OnOk, IsOk, List, [], length, replicate, set, false, IfOk, Some, None, IsSome, IsTrue, ◌↔◌};
+ghost use Rattle.std.specs.Prelude.{◌≡◌, ◌≢◌, ℕ, ◌+◌, ◌-◌, ◌*◌, ◌^◌, ◌<◌, ◌≤◌, min, Bool, OnOk, IsOk, List, [], length, replicate, set, true, false, IfOk, Some, None, IsSome, IsTrue, ◌↔◌};
 ghost use Rattle.std.specs.FinMap as map;
 ghost use Rattle.iv_types.specs.Maps.{CanHold, IsWithin, last_index, used, with_map};
 ghost use Rattle.disk_io.specs.Disk.{Only, LeavesOnly, CountsFault};
@@ -8,10 +8,10 @@ ghost use Rattle.page_store.specs.Publish.{area_room, next_number, OtherArea, Is
 ghost use Rattle.ordered_index.specs.Calls.{CanPut};
 ghost use Rattle.ordered_index.specs.Drawn.{IsDrawn};
 ghost use Rattle.ordered_index.specs.Row.{least_pages, most_pages};
-ghost use Rattle.ordered_index.specs.Flat.{Place, Item, IsPut};
+ghost use Rattle.ordered_index.specs.Flat.{Place, Item, IsPut, IsSwapped};
 ghost use Rattle.ordered_index.specs.Tree.{Tree, IsTree, map_of, spare_of, limit_of, data_limit};
 
-use crate::changing::{insert_and_settle, remove_and_settle};
+use crate::changing::{insert_and_settle, remove_and_settle, replace_value};
 use crate::finding::{first_from, value_of};
 use crate::leaves::Leaves;
 use disk_io::Disk;
@@ -160,6 +160,19 @@ impl PageMaps {
         self.used += size;
     }
 
+    // Sets the value under a key in its place, where the old one has as many bytes, and tells whether it has.
+    fn set_in_place(&mut self, index: u32, key: &[u8], value: &[u8]) -> bool
+        requires { IsSome (map.get (map_of self.old index) key.now) }
+        ensures pages { self.new.pages ≡ self.old.pages }
+        ensures kept { self.new.kept ≡ self.old.kept }
+        ensures all { result ≡ true → IsSwapped (index, key.now) value.now self.old.all self.new.all }
+        ensures same { result ≡ false → self.new ≡ self.old }
+        ensures was { IsTree self.old }
+        ensures is { IsTree self.new }
+    {
+        replace_value(&mut self.leaves, index, key, value)
+    }
+
     // Takes an entry away.
     fn take(&mut self, index: u32, key: &[u8])
         requires { IsSome (map.get (map_of self.old index) key.now) }
@@ -240,6 +253,9 @@ impl SortedMaps for PageMaps {
         ensures limit { limit_of self.new ≡ limit_of self.old }
         ensures kept { self.new.kept ≡ self.old.kept }
     {
+        if self.set_in_place(index, key, value.as_slice()) {
+            return;
+        }
         self.take(index, key);
         self.put(index, key, value.as_slice());
     }

@@ -1,6 +1,6 @@
 -- What is known of all sessions where one of them went on.
-use Rattle.std.specs.Prelude.{◌≡◌, ◌<◌, ◌≤◌, ◌+◌, ℕ, suc, Bool, false, ◌||◌, List, length, set, Some, slice_get, Vec}
-use mathlib.Core.Path.{sym, ap, subst, ◌∙◌}
+use Rattle.std.specs.Prelude.{◌≡◌, ◌≢◌, ◌<◌, ◌≤◌, ◌+◌, ℕ, zero, suc, Bool, false, ◌||◌, List, [], ◌∷◌, length, set, Some, slice_get, Vec}
+use mathlib.Core.Path.{refl, sym, ap, subst, ◌∙◌}
 use Rattle.std.specs.Vec.{with_items}
 use Rattle.std.proofs.Common.{arith}
 use Rattle.std.proofs.lemmas.List.{with_items_is}
@@ -13,14 +13,15 @@ use Rattle.line_requests.specs.declared.asked.Ask.{Ask}
 use Rattle.line_requests.specs.declared.asked.Request.{Request}
 use Rattle.line_requests.specs.declared.asked.Request.TheVariants as request
 use Rattle.session_table.specs.declared.slot.Slot.{Slot}
+use Rattle.session_table.specs.declared.slot.LineKind.TheVariants.{Waiting}
 use Rattle.session_table.specs.Going.{StandsIn, MayGo}
 use Rattle.session_table.specs.Slots.{FitsLine, IsSlot, AreSlots, AllGo}
 use Rattle.session_table.specs.Leaving.{LeftAll}
-use Rattle.session_table.specs.Trying.{Tried, Passed, Retried}
+use Rattle.session_table.specs.Trying.{Tried, NoneWaits, Passed, Retried}
 use Rattle.session_table.specs.Requests.{SlotDid, EngineDid, DidOwn, RanLine}
 use Rattle.session_table.proofs.Knowing.{then, so}
 use Rattle.session_table.proofs.Tables.{each_set, all_reached}
-use Rattle.session_table.proofs.Passing.{all_after, pass_step, passed_all}
+use Rattle.session_table.proofs.Passing.{all_after, pass_step, passed_all, tried_not}
 use Rattle.session_table.proofs.Lining.{session_did, engine_did, line_ran}
 
 pub slot_needs : {St : State → Type 0} (place : ℕ) (slots : List Slot) (slot : Slot) → slice_get slots place ≡ Some slot → StandsIn St (AllGo slots) → StandsIn St (MayGo slot.session)
@@ -90,3 +91,40 @@ line_done St0 asked slots now next out told told' many did retried s st go = the
 pub own_needs : {St0 St1 : State → Type 0} (asked : Request) (slots now : List Slot) (out told : List ℕ) → StandsIn St0 (AllGo slots)
     → ((s : Story) → St0 s.state → AllGo slots s → StandsIn St1 (DidOwn asked s slots out now told)) → StandsIn St1 (AllGo now)
 own_needs asked slots now out told h did = then h (λ s st go. so (did s st go) (λ t d. d.go))
+
+-- ---- sessions whose lines do not wait
+
+there : (slots : List Slot) (place : ℕ) → place < length slots → (slot : Slot) × (slice_get slots place ≡ Some slot)
+there [] place below = absurd (omega arith)
+there (slot ∷ slots) zero below = (slot, refl)
+there (slot ∷ slots) (suc place) below = there slots place (omega arith)
+
+set_there : (slots : List Slot) (place : ℕ) (slot : Slot) → slice_get slots place ≡ Some slot → set slots place slot ≡ slots
+set_there [] place slot at = refl
+set_there (one ∷ slots) zero slot at = ap (λ (x : Slot). x ∷ slots) (let same : slot ≡ one = cc at in same)
+set_there (one ∷ slots) (suc place) slot at = ap (λ (x : List Slot). one ∷ x) (set_there slots place slot at)
+
+-- one is passed over
+pass_over : (St0 St1 : State → Type 0) (place : ℕ) (slots slots'' : List Slot) (slot : Slot) → slice_get slots place ≡ Some slot → AreSlots slots → (out out'' : List ℕ) (more : Bool) → place < length slots → slot.line ≢ Waiting
+    → ((s : Story) → St0 s.state → AllGo slots s → StandsIn St1 (Passed (place + 1) s slots out more slots'' out''))
+    → (s : Story) → St0 s.state → AllGo slots s → StandsIn St1 (Passed place s slots out more slots'' out'')
+pass_over St0 St1 place slots slots'' slot at are out out'' more below not passed =
+    let same : set slots place slot ≡ slots = set_there slots place slot at in
+    pass_done place slots slot slot at are out out false {St1 = St0} {St2 = St1} St0 slots'' out'' more below
+    (λ s st go. record { story = s; stands = st; holds = tried_not s slot out not go })
+    (λ s st go. subst (λ (x : List Slot). StandsIn St1 (Passed (place + 1) s x out more slots'' out'')) (sym same) (passed s st (subst (λ (x : List Slot). AllGo x s) same go)))
+
+-- and so are several
+pub pass_over_all : (St0 St1 : State → Type 0) (count place : ℕ) (slots slots'' : List Slot) → AreSlots slots → (out out'' : List ℕ) (more : Bool) → place + count ≤ length slots → NoneWaits place count slots
+    → ((s : Story) → St0 s.state → AllGo slots s → StandsIn St1 (Passed (place + count) s slots out more slots'' out''))
+    → (s : Story) → St0 s.state → AllGo slots s → StandsIn St1 (Passed place s slots out more slots'' out'')
+pass_over_all St0 St1 zero place slots slots'' are out out'' more inside none passed =
+    let here : place + 0 ≡ place = omega arith in
+    λ s st go. subst (λ (n : ℕ). StandsIn St1 (Passed n s slots out more slots'' out'')) here (passed s st go)
+pass_over_all St0 St1 (suc count) place slots slots'' are out out'' more inside none passed =
+    let below : place < length slots = omega arith in
+    let next : place + suc count ≡ place + 1 + count = omega arith in
+    let at = there slots place below in
+    pass_over St0 St1 place slots slots'' at.0 at.1 are out out'' more below (none place at.0 (omega arith) (omega arith) at.1)
+    (pass_over_all St0 St1 count (place + 1) slots slots'' are out out'' more (omega arith) (λ i slot low high is. none i slot (omega arith) (omega arith) is)
+    (λ s st go. subst (λ (n : ℕ). StandsIn St1 (Passed n s slots out more slots'' out'')) next (passed s st go)))

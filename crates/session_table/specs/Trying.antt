@@ -1,7 +1,7 @@
 -- No clause of `run` rests on this module: it serves contracts between crates.
 --
 -- What is done with one session that waits, and with all of them.
-use Rattle.std.specs.Prelude.{◌≡◌, ◌≤◌, ℕ, suc, ◌+◌, ◌-◌, Bool, false, List, ◌++◌, length}
+use Rattle.std.specs.Prelude.{◌≡◌, ◌≢◌, ◌≤◌, ◌<◌, Some, slice_get, ℕ, suc, ◌+◌, ◌-◌, Bool, false, List, ◌++◌, length}
 use Rattle.txn_machine.specs.Alone.{Story}
 use Rattle.script_law.specs.RunLines.{Outcome, seat_run, printed_later, RunsOn, Pass, Passes}
 use Rattle.script_law.specs.Machine.{DoesOf}
@@ -23,6 +23,10 @@ TriedBy _ s slot out moved slot' out' after = (moved ≡ false) × (slot' ≡ sl
 pub record Tried (s : Story) (slot : Slot) (out : List ℕ) (moved : Bool) (slot' : Slot) (out' : List ℕ) (after : Story) : Type 0 where
   pub tried : TriedBy slot.line s slot out moved slot' out' after
   pub go : MayGo slot'.session after
+
+-- of so many sessions from a place on none waits
+abbrev pub NoneWaits : ℕ → ℕ → List Slot → Type 0
+NoneWaits place count slots = (i : ℕ) (slot : Slot) → place ≤ i → i < place + count → slice_get slots i ≡ Some slot → slot.line ≢ Waiting
 
 -- a pass over the sessions from a place on
 pub record Passed (place : ℕ) (s : Story) (slots : List Slot) (out : List ℕ) (moved : Bool) (slots' : List Slot) (out' : List ℕ) (after : Story) : Type 0 where

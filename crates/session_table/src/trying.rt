@@ -1,13 +1,14 @@
 //! Sessions whose lines wait are tried again.
-ghost use Rattle.std.specs.Prelude.{◌≡◌, ◌≤◌, ◌<◌, ◌^◌, IfOk, OnOk, ◌++◌, length};
+ghost use Rattle.std.specs.Prelude.{◌≡◌, ◌≢◌, ◌≤◌, ◌<◌, ◌+◌, ◌-◌, ◌^◌, IfOk, OnOk, ◌++◌, length, true, false, Some, slice_get};
 ghost use Rattle.txn_machine.specs.Alone.{Story};
 ghost use Rattle.script_law.specs.RunLines.{printed_later};
 ghost use Rattle.txn_sessions.specs.Sessions.{todo_of};
 ghost use Rattle.session_table.specs.declared.slot.LineKind.TheVariants.{Waiting};
+ghost use Rattle.session_table.specs.declared.slot.Slot.{Slot as SlotValue};
 ghost use Rattle.session_table.specs.Going.{StandsIn, MayGo, outcome_in};
 ghost use Rattle.session_table.specs.Slots.{FitsLine, AreSlots, AllGo};
 ghost use Rattle.session_table.specs.Requests.{kept_line};
-ghost use Rattle.session_table.specs.Trying.{Tried, Passed, Retried};
+ghost use Rattle.session_table.specs.Trying.{Tried, NoneWaits, Passed, Retried};
 
 use crate::going::{Came, Went, go_on};
 use crate::print::tell_replies;
@@ -60,6 +61,34 @@ fn try_slot<S: Stepper>(
     Ok(moved)
 }
 
+// Whether a session's line waits.
+fn waits(slot: &Slot) -> bool
+    ensures rests { result ≡ false → slot.now.line ≢ Waiting }
+    ensures waits { result ≡ true → slot.now.line ≡ Waiting }
+{
+    match slot.line {
+        LineKind::Waiting => true,
+        LineKind::Idle => false,
+        LineKind::Stepping => false,
+        LineKind::Held => false,
+    }
+}
+
+// The first place from one on at which a session's line waits, or the end.
+fn next_waiting(slots: &[Slot], place: usize) -> usize
+    requires { place ≤ length slots.now }
+    ensures from { place ≤ result }
+    ensures inside { result ≤ length slots.now }
+    ensures none { NoneWaits place (result - place) slots.now }
+    ensures here { (slot : SlotValue) → slice_get slots.now result ≡ Some slot → slot.line ≡ Waiting }
+{
+    let mut at = place;
+    while at < slots.len() && !waits(&slots[at]) {
+        at += 1;
+    }
+    at
+}
+
 // Goes on with the sessions whose lines wait, from a place on, and tells whether a step was not blocked.
 fn pass_from<S: Stepper>(
     alloc: Global,
@@ -74,11 +103,12 @@ fn pass_from<S: Stepper>(
     ensures passed { IfOk result (λ moved. (s : Story) → S.stands engine.old s.state → AllGo slots.old s → StandsIn (S.stands engine.new) (Passed place s slots.old text.old.items moved slots.new text.new.items)) }
     ensures slots { AreSlots slots.new }
 {
-    if place >= slots.len() {
+    let at = next_waiting(slots, place);
+    if at >= slots.len() {
         return Ok(false);
     }
-    let first = try_slot(alloc, engine, &mut slots[place], text)?;
-    let more = pass_from(alloc, engine, slots, text, place + 1)?;
+    let first = try_slot(alloc, engine, &mut slots[at], text)?;
+    let more = pass_from(alloc, engine, slots, text, at + 1)?;
     Ok(first | more)
 }
 

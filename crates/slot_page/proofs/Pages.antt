@@ -1,8 +1,8 @@
 -- Pages and their entries.
-use Rattle.std.proofs.Common.{ℕ, ◌≡◌, ◌+◌, ◌-◌, ◌*◌, ◌/◌, ◌%◌, ◌^◌, ◌<◌, ◌≤◌, ◌⊎◌, inl, inr, List, [], ◌∷◌, ◌++◌, length, get_or, take, drop, refl, sym, ap, ◌∙◌, subst, arith, length-append, append_assoc}
+use Rattle.std.proofs.Common.{ℕ, zero, suc, add-one, set, ◌≡◌, ◌+◌, ◌-◌, ◌*◌, ◌/◌, ◌%◌, ◌^◌, ◌<◌, ◌≤◌, ◌⊎◌, inl, inr, List, [], ◌∷◌, ◌++◌, length, get_or, take, drop, refl, sym, ap, ◌∙◌, subst, arith, length-append, append_assoc}
 use Rattle.std.specs.List.{between}
 use Rattle.std.proofs.lemmas.List.Edits.{between_more}
-use Rattle.std.proofs.lemmas.List.{take-append-drop, drop_more, take-append-le, take_at, length-take-le, same_lists, get_or-map, get_or_append_left, get_or_push, length-map}
+use Rattle.std.proofs.lemmas.List.{take-append-drop, drop_more, take-append-le, take_at, length-take-le, same_lists, get_or-map, get_or_append_left, get_or_push, length-map, length-set, set_split}
 use Rattle.std.proofs.lemmas.List.FromFn.{fill_by_all}
 use Rattle.std.proofs.lemmas.Bool.{cases_lt}
 use Rattle.slot_page.specs.Bytes.{number, number_at, Shows, Wrote}
@@ -336,3 +336,76 @@ next_ahead page at fs from i to le lt top s =
 -- bytes that no write meets stand as they did
 pub stands_on : (page new : List ℕ) (at : ℕ) (xs : List ℕ) (n : ℕ) → 16 ≤ at → at + length xs ≤ 8190 - 2 * n → ((j : ℕ) → 16 ≤ j → j < 8190 - 2 * n → get_or new j 0 ≡ get_or page j 0) → Shows page at xs → Shows new at xs
 stands_on page new at xs n low high f s = record { each = λ j lt. f (at + j) (omega arith) (omega arith) ∙ s.each j lt }
+
+-- ---- another value of as many bytes
+
+-- the bytes of an entry before its value
+abbrev cell_head : Entry → List ℕ
+cell_head e = number (length e.0) ++ (number (length e.1) ++ e.0)
+
+cell_split : (e : Entry) → cell e ≡ cell_head e ++ e.1
+cell_split e = refl
+
+head_of : (e : Entry) (value : List ℕ) → length value ≡ length e.1 → cell_head e ≡ cell_head (e.0, value)
+head_of e value same = ap (λ n. number (length e.0) ++ (number n ++ e.0)) (sym same)
+
+-- entries of other bytes, but as many, begin where they did
+pub heap_take_set : (es : List Entry) (i j : ℕ) (f : Entry) → length (cell f) ≡ length (cell (get_or es i no_entry)) → length (heap (take j (set es i f))) ≡ length (heap (take j es))
+heap_take_set [] i j f same = refl
+heap_take_set (e ∷ es) i zero f same = refl
+heap_take_set (e ∷ es) zero (suc j) f same = omega (arith, length-append (cell f) (heap (take j es)), length-append (cell e) (heap (take j es)))
+heap_take_set (e ∷ es) (suc i) (suc j) f same = omega (arith, length-append (cell e) (heap (take j (set es i f))), length-append (cell e) (heap (take j es)), heap_take_set es i j f same)
+
+-- the heap, around an entry that was set
+pub heap_around_set : (es : List Entry) (i : ℕ) (f : Entry) → i < length es → heap (set es i f) ≡ heap (take i es) ++ (cell f ++ heap (drop (i + 1) es))
+heap_around_set es i f lt =
+    ap heap (set_split es i f lt) ∙ heap-append (take i es) (f ∷ drop (suc i) es) ∙ ap (λ n. heap (take i es) ++ (cell f ++ heap (drop n es))) (sym (add-one i))
+
+-- the bytes of all entries after it
+set_bytes : (p0 p1 : List ℕ) (of : ℕ) (es : List Entry) (i at : ℕ) (value : List ℕ) → Holds p0 of es → i < length es → length value ≡ length (get_or es i no_entry).1
+    → at ≡ 16 + length (heap (take i es)) + 4 + length (get_or es i no_entry).0 → Wrote at value p0 p1 → Shows p1 16 (heap (set es i ((get_or es i no_entry).0, value)))
+set_bytes p0 p1 of es i at value h lt same at_is w =
+    let e = get_or es i no_entry in
+    let f : Entry = (e.0, value) in
+    let a = heap (take i es) in
+    let b = heap (drop (i + 1) es) in
+    let le : length (cell e) ≡ 4 + length e.0 + length e.1 = length-cell e in
+    let lf : length (cell f) ≡ 4 + length e.0 + length value = length-cell f in
+    let lh : length (cell_head f) ≡ 4 + length e.0 = omega arith in
+    let all : Shows p0 16 (a ++ (cell e ++ b)) = subst (λ x. Shows p0 16 x) (heap_around es i lt) h.bytes in
+    let front : Shows p1 16 a = shows_before p0 p1 16 at a value w (shows_left p0 16 a (cell e ++ b) all) (omega arith) in
+    let rest : Shows p0 (16 + length a) (cell e ++ b) = shows_right p0 16 a (cell e ++ b) all in
+    let old_head : Shows p0 (16 + length a) (cell_head e) = shows_left p0 (16 + length a) (cell_head e) e.1 (shows_left p0 (16 + length a) (cell e) b rest) in
+    let head : Shows p1 (16 + length a) (cell_head f) = shows_before p0 p1 (16 + length a) at (cell_head f) value w (subst (λ x. Shows p0 (16 + length a) x) (head_of e value same) old_head) (omega arith) in
+    let there : at ≡ 16 + length a + length (cell_head f) = omega arith in
+    let new : Shows p1 (16 + length a) (cell f) = shows_append p1 (16 + length a) (cell_head f) value head (subst (λ n. Shows p1 n value) there (shows_written p0 p1 at value w)) in
+    let behind : 16 + length a + length (cell e) ≡ 16 + length a + length (cell f) = omega arith in
+    let back : Shows p1 (16 + length a + length (cell e)) b = shows_after p0 p1 (16 + length a + length (cell e)) at b value w (shows_right p0 (16 + length a) (cell e) b rest) (omega arith) in
+    let tail : Shows p1 (16 + length a) (cell f ++ b) = shows_append p1 (16 + length a) (cell f) b new (subst (λ n. Shows p1 n b) behind back) in
+    subst (λ x. Shows p1 16 x) (sym (heap_around_set es i f lt)) (shows_append p1 16 a (cell f ++ b) front tail)
+
+-- the value of entry i is written over by one of as many bytes
+pub replaced : (p0 p1 : List ℕ) (of : ℕ) (es : List Entry) (i at : ℕ) (value : List ℕ) → Holds p0 of es → i < length es → length value ≡ length (get_or es i no_entry).1
+    → at ≡ 16 + length (heap (take i es)) + 4 + length (get_or es i no_entry).0 → Wrote at value p0 p1 → Holds p1 of (set es i ((get_or es i no_entry).0, value))
+replaced p0 p1 of es i at value h lt same at_is w =
+    let e = get_or es i no_entry in
+    let f : Entry = (e.0, value) in
+    let le : length (cell e) ≡ 4 + length e.0 + length e.1 = length-cell e in
+    let lf : length (cell f) ≡ 4 + length e.0 + length value = length-cell f in
+    let cells : length (cell f) ≡ length (cell e) = omega arith in
+    let inside = cell_inside p0 of es i h lt in
+    let many : length (set es i f) ≡ length es = length-set es i f in
+    let whole : length (heap (set es i f)) ≡ length (heap es) =
+    omega (arith, ap length (heap_around_set es i f lt), ap length (heap_around es i lt), length-append (heap (take i es)) (cell f ++ heap (drop (i + 1) es)), length-append (heap (take i es)) (cell e ++ heap (drop (i + 1) es)), length-append (cell f) (heap (drop (i + 1) es)), length-append (cell e) (heap (drop (i + 1) es))) in
+    let sp : length (heap es) + 2 * length es ≤ 8176 = h.fits in
+    record {
+      size = w.size ∙ h.size;
+      kind = w.below 0 (omega arith) ∙ h.kind;
+      count = subst (λ n. Shows p1 2 (number n)) (sym many) (shows_before p0 p1 2 at (number (length es)) value w h.count (omega arith));
+      of_index = index_kept p0 p1 (w.below 4 (omega arith)) (w.below 5 (omega arith)) (w.below 6 (omega arith)) (w.below 7 (omega arith)) ∙ h.of_index;
+      bytes = set_bytes p0 p1 of es i at value h lt same at_is w;
+      places = λ j less.
+          let small : j < length es = omega arith in
+          subst (λ n. Shows p1 (8190 - 2 * j) (number (16 + n))) (sym (heap_take_set es i j f cells)) (shows_after p0 p1 (8190 - 2 * j) at _ value w (h.places j small) (omega arith));
+      fits = omega arith;
+    }

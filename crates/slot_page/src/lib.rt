@@ -7,7 +7,7 @@
 //! The calls that change a page keep it packed, its entries one after another from byte 16 on, and ask that it is.
 #![tactic(auto)]
 
-ghost use Rattle.std.specs.Prelude.{◌≡◌, ℕ, ◌+◌, ◌-◌, ◌*◌, ◌<◌, ◌≤◌, List, [], ◌∷◌, ◌++◌, length, take, drop, get_or};
+ghost use Rattle.std.specs.Prelude.{◌≡◌, ℕ, ◌+◌, ◌-◌, ◌*◌, ◌<◌, ◌≤◌, List, [], ◌∷◌, ◌++◌, length, take, drop, get_or, set};
 ghost use Rattle.std.specs.Prelude.{◌↔◌, IsTrue, MatchResult};
 ghost use Rattle.std.specs.List.{between};
 ghost use Rattle.slot_page.specs.Order.{IsRising, StandsAt, Missing};
@@ -187,6 +187,20 @@ pub fn append(page: &mut [u8], key: &[u8], value: &[u8])
     put_cell(page, at, key, value);
     put_number(page, PAGE - 2 - 2 * n, at);
     put_number(page, 2, n + 1);
+}
+
+/// Sets the value of entry `i` to one of as many bytes, in its place.
+pub fn set_value(page: &mut [u8], i: usize, value: &[u8])
+    requires page { IsPage page.old }
+    requires inside { i < length (entries page.old) }
+    requires size { length value.now ≡ length (get_or (entries page.old) i no_entry).1 }
+    ensures page { IsPage page.new }
+    ensures entries { entries page.new ≡ set (entries page.old) i ((get_or (entries page.old) i no_entry).0, value.now) }
+    ensures index { index_of page.new ≡ index_of page.old }
+{
+    let at = number_at(page, PAGE - 2 - 2 * i);
+    let key_len = number_at(page, at);
+    put_bytes(page, at + 4 + key_len, value);
 }
 
 // Where entry `i` begins, or where the next one would.

@@ -46,6 +46,9 @@ module _ {V : Type 0} (k : Place) (t l r : List (Place × V)) (e : Place × V) (
     pub put_right : (v : V) → place_cmp k e.0 ≡ Greater → put place_cmp k v t ≡ l ++ e ∷ put place_cmp k v r
     put_right v g = ap (put place_cmp k v) is ∙ lists.put_right place_cmp_total k v l r e parts g
 
+    pub put_here : (v : V) → place_cmp k e.0 ≡ Equal → put place_cmp k v t ≡ l ++ (e.0, v) ∷ r
+    put_here v same = ap (put place_cmp k v) is ∙ lists.put_here place_cmp_total k v l r e parts same
+
     pub without_left : place_cmp k e.0 ≡ Less → without k t ≡ without k l ++ e ∷ r
     without_left lt = ap (without k) is ∙ lists.without_left place_cmp_total k l r e parts lt
 

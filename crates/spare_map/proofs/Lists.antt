@@ -88,6 +88,12 @@ module _ {K X : Type 0} {R : K → K → Ordering} (o : IsTotalOrder R) where
       let above : R k x.0 ≡ Greater = above_head k x e l r h g in
       rw above (ap (λ (t : List (K × X)). x ∷ t) (put_right k v l r e (second (below_all R x.0 (l ++ e ∷ r)) (is_sorted R (l ++ e ∷ r)) h) g))
 
+  pub put_here : (k : K) (v : X) (l r : List (K × X)) (e : K × X) → T (is_sorted R (l ++ e ∷ r)) → R k e.0 ≡ Equal → put R k v (l ++ e ∷ r) ≡ l ++ (e.0, v) ∷ r
+  put_here k v [] r e h t = rw t refl
+  put_here k v (x ∷ l) r e h t =
+      let above : R k x.0 ≡ Greater = above_tied k x e l r h t in
+      rw above (ap (λ (y : List (K × X)). x ∷ y) (put_here k v l r e (second (below_all R x.0 (l ++ e ∷ r)) (is_sorted R (l ++ e ∷ r)) h) t))
+
   -- ---- an entry looked for
 
   -- a key that ties with none of some later keys

@@ -1,9 +1,9 @@
 -- Lists in the order of their places as finite maps.
-use Rattle.std.specs.Prelude.{◌≡◌, Bool, true, false, cond, not, T, List, [], Option, Some, None, length}
+use Rattle.std.specs.Prelude.{◌≡◌, Bool, true, false, cond, not, T, List, [], None, length}
 use mathlib.Core.Path.{refl, sym, ap, ◌∙◌}
 use Rattle.std.specs.Ordering.{eq_by_cmp, is_eq}
-use Rattle.std.specs.Cmp.{alike_right, eq_by_cmp_equiv, tied_itself}
-use Rattle.std.specs.FinMap.{FinMap, empty, get, insert, remove, entries, find, put, is_sorted, from_sorted, same_map, same_entries_map, entries-from_sorted, entries-insert, get-from_sorted, get-insert, get-remove, empty_of_len, len-entries}
+use Rattle.std.specs.Cmp.{alike_right, eq_by_cmp_equiv}
+use Rattle.std.specs.FinMap.{empty, get, insert, remove, entries, find, put, is_sorted, from_sorted, same_map, same_entries_map, entries-from_sorted, entries-insert, get-from_sorted, get-remove, empty_of_len, len-entries}
 use Rattle.std.specs.FinMap.Entries.{is_sorted-put, is_sorted-where_key, find-where_key}
 use Rattle.table_laws.specs.Place.{Place, place_cmp}
 use Rattle.table_laws.proofs.Place.{place_cmp_total, place_cmp-IsAntisymmetric}
@@ -44,22 +44,3 @@ module _ {X : Type 0} where
 
     pub listed : entries (from_sorted {R = place_cmp} es) ≡ es
     listed = entries-from_sorted place_cmp es h
-
-  -- an entry that is taken out and put back with another value is one that is put in
-  again : (m : FinMap place_cmp X) (k : Place) (v : X) → insert (remove m k) k v ≡ insert m k v
-  again m k v = same_map place_cmp_total place_cmp-IsAntisymmetric _ _ (λ q.
-      get-insert place_cmp_total (remove m k) k v q
-      ∙ (ap (cond (eq_by_cmp place_cmp q k) (Some v)) (get-remove place_cmp_total m k q)
-      ∙ (twice (eq_by_cmp place_cmp q k) (get m q) ∙ sym (get-insert place_cmp_total m k v q))))
-    where
-      twice : (b : Bool) (o : Option X) → cond b (Some v) (cond b None o) ≡ cond b (Some v) o
-      twice true o = refl
-      twice false o = refl
-
-  module _ (es : List (Place × X)) (h : T (is_sorted place_cmp es)) (k : Place) where
-    -- nothing is left under a place whose entry was taken out
-    pub none_left : find place_cmp k (without k es) ≡ None
-    none_left = found_without es h k k ∙ ap (λ w. cond (is_eq w) None (find place_cmp k es)) (tied_itself place_cmp_total k)
-
-    pub put_back : (v : X) → from_sorted {R = place_cmp} (put place_cmp k v (without k es)) ≡ insert (from_sorted es) k v
-    put_back v = inserted (without k es) (sorted_without es h k) k v ∙ (ap (λ m. insert m k v) (removed es h k) ∙ again (from_sorted es) k v)

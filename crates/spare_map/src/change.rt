@@ -1,5 +1,5 @@
 //! Nodes put into a tree and taken out.
-ghost use Rattle.std.specs.Prelude.{◌≡◌, ◌++◌, ◌∷◌, [], T, Some, None, IfSome};
+ghost use Rattle.std.specs.Prelude.{◌≡◌, ◌++◌, ◌∷◌, [], T, Some, None, IsSome, IfSome};
 ghost use Rattle.std.specs.Option.{option_map};
 ghost use Rattle.std.specs.FinMap.{find, put, is_sorted};
 ghost use Rattle.table_laws.specs.Place.{place_cmp};
@@ -8,6 +8,7 @@ ghost use Rattle.spare_map.specs.Trees.{items, own, place, whole, without};
 use crate::balance::balanced;
 use crate::tree::{Node, Tree, joined, parted};
 use std::cmp::Ordering;
+use std::mem;
 
 /// How a place compares with that of a node.
 pub fn order<V>(index: u32, key: &[u8], node: &Node<V>) -> Ordering
@@ -85,5 +86,22 @@ pub fn take_out<V: Drop>(tree: Tree<V>, index: u32, key: &[u8]) -> (Tree<V>, Opt
                 Ordering::Equal => (merged(left, right), Some(top)),
             }
         }
+    }
+}
+
+/// Puts a value under a place where there is one, and gives that back. Each node stays where it is.
+pub fn swap<V>(tree: &mut Tree<V>, index: u32, key: &[u8], value: V) -> V
+    requires sorted { T (is_sorted place_cmp (items tree.old)) }
+    requires held { IsSome (find place_cmp (index, key.now) (items tree.old)) }
+    ensures put { items tree.new ≡ put place_cmp (index, key.now) value (items tree.old) }
+    ensures found { find place_cmp (index, key.now) (items tree.old) ≡ Some result }
+{
+    match tree {
+        Tree::Leaf => unreachable!(),
+        Tree::Fork(node) => match order(index, key, node) {
+            Ordering::Less => swap(&mut node.left, index, key, value),
+            Ordering::Greater => swap(&mut node.right, index, key, value),
+            Ordering::Equal => mem::replace(&mut node.held, value),
+        },
     }
 }

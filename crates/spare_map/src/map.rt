@@ -4,7 +4,7 @@ ghost use Rattle.std.specs.Option.{option_copied, option_map};
 ghost use Rattle.std.specs.FinMap.{empty, get, insert, remove, entries};
 ghost use Rattle.spare_map.specs.Trees.{items, own, first_where, is_from, place};
 
-use crate::change::{merged, put_in, take_out};
+use crate::change::{merged, put_in, swap, take_out};
 use crate::search::{first, found};
 use crate::tree::{Node, Tree, joined, parted};
 use iv_types::{Bytes, NoMemory, Sequence};
@@ -173,16 +173,7 @@ impl<V: Blank> SpareMap<V> {
         ensures old { get self.old.entries (index, key.now) ≡ Some result }
         ensures room { self.new.room ≡ self.old.room }
     {
-        let root = mem::replace(&mut self.root, Tree::Leaf);
-        let (root, taken) = take_out(root, index, key);
-        match taken {
-            None => unreachable!(),
-            Some(node) => {
-                let (node, old) = refilled(node, value);
-                self.root = put_in(root, node);
-                old
-            }
-        }
+        swap(&mut self.root, index, key, value)
     }
 
     /// Takes out the value under a place, if there is one, and lets its room go.

@@ -8,7 +8,8 @@ use Rattle.ordered_index.proofs.EditSteps.{page_size}
 use Rattle.ordered_index.proofs.Finds.{value_in_leaf, value_found, rising_leaf, leaf_is_rising, above_rest, tagged_below}
 use Rattle.ordered_index.proofs.Puts.{Put, put_new, put_inside, Halved, halved, below_upto, Landed, landed, not_first, below_other}
 use Rattle.ordered_index.specs.Flat.{TightOutside}
-use Rattle.ordered_index.proofs.Loose.{tight_new, tight_changed, tight_cut}
+use Rattle.ordered_index.proofs.Swaps.{tight_inside}
+use Rattle.ordered_index.proofs.Loose.{tight_new, tight_cut}
 use Rattle.ordered_index.proofs.changing.insert_item.Goals as goal
 
 put_of : (of : ℕ) (key value : List ℕ) (r : Row) (s : Row) (ls : List Leaf) (pages : ℕ) → s ≡ record { pages = pages; leaves = ls } → Put of key value r.leaves ls → Put of key value r.leaves s.leaves
@@ -81,7 +82,7 @@ returns-then-key-value c =
     let p = put_inside c.args.of c.args.key.now c.args.value.now c.args.leaves.now.leaves (c.seek-k.result - 1) c.gap-i.result es c.requires.forest h.inside h.is c.gap-i.ensures room h.below h.above in
     let now = c.insert_at.ensures ∙ ap (λ (l : Leaf). let y : Row = record { pages = c.args.leaves.now.pages; leaves = set c.args.leaves.now.leaves (c.seek-k.result - 1) (l.0, insert l.1 c.gap-i.result (c.args.key.now, c.args.value.now)) } in y) h.is in
     let q = put_of c.args.of c.args.key.now c.args.value.now c.args.leaves.now _ _ _ now p in
-    record { forest = q.forest; items = q.items_are; pages = ap (λ (r : Row). r.pages) c.insert_at.ensures; loose = λ t. subst (λ (x : List Leaf). TightOutside (c.seek-k.result - 2) (c.seek-k.result + 2) x) (sym (ap (λ (r : Row). r.leaves) c.insert_at.ensures)) (tight_changed c.args.leaves.now.leaves c.seek-k.result _ c.if-k-eq0.false t) }
+    record { forest = q.forest; items = q.items_are; pages = ap (λ (r : Row). r.pages) c.insert_at.ensures; loose = λ t. subst (λ (x : List Leaf). TightOutside 0 0 x) (sym (ap (λ (r : Row). r.leaves) now)) (tight_inside c.args.of c.args.key.now c.args.value.now c.args.leaves.now.leaves (c.seek-k.result - 1) c.gap-i.result es h.inside h.is t) }
 
 pub returns-then-i-n : goal.returns-then-i-n
 returns-then-i-n c =

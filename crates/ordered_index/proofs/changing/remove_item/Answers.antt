@@ -1,12 +1,12 @@
-use Rattle.std.proofs.Common.{ℕ, ◌≡◌, ◌+◌, ◌-◌, List, length, get_or, set, sym, ap, ◌∙◌, subst, arith}
+use Rattle.std.proofs.Common.{◌≡◌, ◌+◌, ◌-◌, List, length, get_or, set, sym, ap, ◌∙◌, subst, arith}
 use Rattle.std.specs.List.{remove}
 use Rattle.slot_page.specs.Page.{no_entry, entries}
 use Rattle.slot_page.proofs.Pages.{packed_lies}
 use Rattle.slot_page.specs.Order.{IsRising, StandsAt}
 use Rattle.ordered_index.specs.Flat.{IsForest, items, IsPut, TightOutside}
-use Rattle.ordered_index.specs.Row.{Row, Leaf, no_leaf, leaf_of}
+use Rattle.ordered_index.specs.Row.{Row, Leaf}
 use Rattle.ordered_index.proofs.Finds.{leaf_is_rising}
-use Rattle.ordered_index.proofs.Takes.{there, take_inside, take_alone, tight_less, tight_closed}
+use Rattle.ordered_index.proofs.Takes.{there, leaf_by_page, take_inside, take_alone, tight_less, tight_closed}
 use Rattle.ordered_index.proofs.changing.remove_item.Goals as goal
 
 pub overflow_sub-k : goal.overflow_sub-k
@@ -25,16 +25,12 @@ spot-i-requires-clause-present c =
     let t = there _ _ _ _ c.requires.forest c.seek-k.ensures c.requires.present in
     (t.at, subst (λ (x : Leaf). StandsAt c.args.key.now x.1 t.at) (sym c.page-page.ensures.leaf) t.stands_at)
 
--- the leaf, by its page
-here : (ls : List Leaf) (j of : ℕ) (page : List ℕ) → leaf_of page ≡ get_or ls j no_leaf → (get_or ls j no_leaf).0 ≡ of → get_or ls j no_leaf ≡ (of, entries page)
-here ls j of page e i = sym e ∙ ap (λ (x : ℕ). let y : Leaf = (x, entries page) in y) (ap (λ (l : Leaf). l.0) e ∙ i)
-
 pub returns-then-count-eq1 : goal.returns-then-count-eq1
 returns-then-count-eq1 c =
     let ls = c.args.leaves.now.leaves in
     let j = c.seek-k.result - 1 in
     let t = there _ _ _ _ c.requires.forest c.seek-k.ensures c.requires.present in
-    let h = here ls j c.args.of c.page-page.result.now c.page-page.ensures.leaf t.index in
+    let h = leaf_by_page ls j c.args.of c.page-page.result.now c.page-page.ensures.leaf t.index in
     let p = take_alone c.args.of c.args.key.now ls j c.spot-i.result (entries c.page-page.result.now) c.requires.forest t.inside h c.spot-i.ensures (omega (arith, c.count.ensures)) in
     let now : c.close.new.self.leaves ≡ remove ls j = ap (λ (r : Row). r.leaves) c.close.ensures in
     record {
@@ -49,7 +45,7 @@ returns c =
     let ls = c.args.leaves.now.leaves in
     let j = c.seek-k.result - 1 in
     let t = there _ _ _ _ c.requires.forest c.seek-k.ensures c.requires.present in
-    let h = here ls j c.args.of c.page-page.result.now c.page-page.ensures.leaf t.index in
+    let h = leaf_by_page ls j c.args.of c.page-page.result.now c.page-page.ensures.leaf t.index in
     let p = take_inside c.args.of c.args.key.now ls j c.spot-i.result (entries c.page-page.result.now) c.requires.forest t.inside h c.spot-i.ensures (λ e. c.if-count-eq1.false (c.count.ensures ∙ e)) in
     let now : c.remove_at.new.leaves.leaves ≡ set ls j (c.args.of, remove (entries c.page-page.result.now) c.spot-i.result) =
     ap (λ (r : Row). r.leaves) c.remove_at.ensures ∙ ap (λ (l : Leaf). set ls j (let y : Leaf = (l.0, remove l.1 c.spot-i.result) in y)) h in

@@ -8,8 +8,8 @@ pub returns : goal.returns
 returns c =
     let session = c.args.session in
     let parts = c.self.inside.parts.items in
-    let within : session < length parts = omega (arith, c.self.invariant, c.requires) in
+    let within : session < length parts = omega (arith, c.self.invariant.parts, c.requires) in
     let part : c.index.result.now ≡ of_session c.args.self.now session =
     c.index.ensures ∙ (get_or_default parts session c.index.result.now nothing within ∙ ap (λ (t : Table). of_session t session) c.self.view_is) in
-    let waiting : c.waiting.result.now ≡ waiting_of c.args.self.now session = c.waiting.ensures ∙ ap (λ (s : SessionLocks). s.waiting) part in
-    ways_at c.deref.result.now c.args.self.now session c.waiting.result.now (waiting_of c.args.self.now session) c.in_the_way.result (c.deref.ensures.value ∙ c.self.view_is) waiting c.in_the_way.ensures
+    let waiting : c.waiting-waiting.result.now ≡ waiting_of c.args.self.now session = c.waiting-waiting.ensures ∙ ap (λ (s : SessionLocks). s.waiting) part in
+    ways_at c.deref.result.now c.args.self.now session c.waiting-waiting.result.now (waiting_of c.args.self.now session) c.in_the_way.result (c.deref.ensures.value ∙ c.self.view_is) waiting c.in_the_way.ensures
