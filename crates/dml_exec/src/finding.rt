@@ -20,6 +20,7 @@ use object_kinds::numbered;
 use sql_plan::Plan;
 use std::alloc::Global;
 use std::collections::VecDeque;
+use std::mem::drop;
 use task_parts::{Source, Turn, source_by};
 
 /// What becomes of the rows that are found.
@@ -170,6 +171,6 @@ impl Finding {
 
     /// Lets it go. Its drop is proved here alone.
     pub fn let_go(self) {
-        let _ = self;
+        drop(self);
     }
 }

@@ -3,7 +3,8 @@
 //! `words:` the words of the command, with the line `1: HELLO` as input; `faults:` which calls of the source and of the
 //! sink fail in a script of 40,000 lines `x`, whose replies have 17 bytes each; `asked:` which call of the sink fails in
 //! a script of one line; `lines:` what is read of an input, line by line, or how many bytes that is; `reads:` how often a
-//! view of many rows is read (`reads`).
+//! view of many rows is read (`reads`); `made:` the words of the command and which call of the sink fails, where the first
+//! call of the source would fail.
 use crate::reads::of_reads;
 use crate::running::{Ended, asked, lines_read, run_words};
 use anyhow::bail;
@@ -29,6 +30,20 @@ fn of_words(alloc: Global, asked: &str) -> anyhow::Result<String> {
     let texts = asked.strip_prefix('`').unwrap_or(asked);
     let texts = texts.strip_suffix('`').unwrap_or(texts);
     write_ended(alloc, &run_words(alloc, texts, b"1: HELLO\n", 0, 0)?)
+}
+
+// The first call of the source fails, so that a command that asks it shows.
+fn of_made(alloc: Global, asked: &str) -> anyhow::Result<String> {
+    let Some((texts, write)) = asked.split_once(", ") else {
+        bail!("no calls")
+    };
+    let write = number_behind(write, "write ")?;
+    let found = run_words(alloc, texts, b"1: HELLO\n", 1, write)?;
+    if found.written.is_empty() {
+        let status = found.status;
+        return Ok(format!(in alloc; "{status:?} and nothing")?);
+    }
+    write_ended(alloc, &found)
 }
 
 // So many lines of two bytes.
@@ -102,6 +117,7 @@ pub fn answer(alloc: Global, table: &str, asked: &str) -> anyhow::Result<String>
         "words" => of_words(alloc, asked),
         "faults" => of_faults(alloc, asked),
         "asked" => of_asked(alloc, asked),
+        "made" => of_made(alloc, asked),
         "lines" => of_lines(alloc, asked),
         "reads" => of_reads(alloc, asked),
         _ => bail!("no kind of rows"),

@@ -1,3 +1,5 @@
 pub mod Apart
+pub mod Pieces
 pub mod Ran
 pub mod Serving
+pub mod Texts

@@ -4,14 +4,12 @@ use mathlib.Core.Path.{refl, sym, ap, subst, ◌∙◌}
 use Rattle.std.proofs.Common.{append-nil}
 use Rattle.std.proofs.lemmas.List.{append_assoc}
 use Rattle.iv_meaning.specs.Database.{Database}
-use Rattle.iv_meaning.specs.Said.{Said, too_long, Says}
+use Rattle.iv_meaning.specs.Said.{Said}
 use Rattle.iv_meaning.specs.Serial.{opened_with, IsSerialFrom}
 use Rattle.txn_machine.specs.State.{State, opened_state}
 use Rattle.txn_machine.specs.Store as store
-use Rattle.txn_machine.specs.Stored.{ViewRows}
-use Rattle.txn_machine.specs.Log.{Opening}
 use Rattle.txn_machine.specs.Alone.{Story, begun_story}
-use Rattle.txn_machine.specs.Laws.{IsOpened, IsReachedStory}
+use Rattle.txn_machine.specs.Laws.{IsReachedStory}
 use Rattle.script_law.specs.RunLines.{Table, RunsLine, RunsLines, LeaveAll, new_table, all_sessions}
 use Rattle.script_law.specs.Laws.{IsNew}
 use Rattle.script_law.specs.Machine.{DoesOf, seen_of, IsStopped}
@@ -25,7 +23,6 @@ use Rattle.statement_law.proofs.Telling.{told_engines}
 use Rattle.script_law.proofs.Right.{programs_law}
 use Rattle.session_asks.specs.Askable.{the_programs}
 use Rattle.line_requests.specs.declared.asked.Request.{Request}
-use Rattle.line_requests.specs.declared.asked.Request.TheVariants as request
 use Rattle.line_requests.specs.Requests.{SaysSo}
 use Rattle.session_table.specs.declared.slot.Slot.{Slot}
 use Rattle.session_table.specs.Going.{the_tell, StandsIn}

@@ -2,3 +2,5 @@ pub mod Status
 pub mod Run
 pub mod Lines
 pub mod Writing
+pub mod Summary
+pub mod Making

@@ -3,8 +3,11 @@
 
 mod line;
 mod lines;
+mod made;
 mod status;
+mod told;
 
 pub use line::one_line;
 pub use lines::run_lines;
+pub use made::run_made;
 pub use status::Status;

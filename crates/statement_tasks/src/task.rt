@@ -16,6 +16,7 @@ use query_exec::Task as ReadTask;
 use sql_bind::bind;
 use sql_plan::{Plan, plan};
 use std::alloc::Global;
+use std::mem::drop;
 use task_parts::{Told, Turn};
 
 /// A SELECT, INSERT, UPDATE or DELETE that is done step by step.
@@ -54,9 +55,9 @@ fn planned(
     }
 }
 
-// A bound statement is let go here alone, which is costly to prove.
+// A bound statement is let go here alone.
 fn let_go(bound: Bound) {
-    let _ = bound;
+    drop(bound);
 }
 
 // A bound statement, as a task.
@@ -110,6 +111,6 @@ impl Task {
 impl Task {
     /// Lets a task go. Its drop is proved here, so that no crate above proves it again.
     pub fn let_go(self) {
-        let _ = self;
+        drop(self);
     }
 }

@@ -5,6 +5,7 @@ ghost use Rattle.txn_sessions.specs.Standings.{replies_of};
 use iv_types::{DeltaList, Mode, Reply, ReplyList, Row, Statement};
 use statement_tasks::Task;
 use std::alloc::Global;
+use std::mem::drop;
 
 /// The replies to a statement.
 #[derive(Drop)]
@@ -102,9 +103,9 @@ impl Opening {
 }
 
 impl After {
-    /// Lets it go. Its drop is proved here alone.
+    /// Lets it go.
     pub fn let_go(self) {
-        let _ = self;
+        drop(self);
     }
 }
 
@@ -138,8 +139,8 @@ impl Stage {
 }
 
 impl Owing {
-    /// Lets it go. Its drop is proved here alone.
+    /// Lets it go.
     pub fn let_go(self) {
-        let _ = self;
+        drop(self);
     }
 }

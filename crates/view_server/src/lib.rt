@@ -2,7 +2,6 @@
 #![tactic(auto)]
 
 mod script;
-mod words;
 
 pub use script::run;
 pub use script_run::Status;

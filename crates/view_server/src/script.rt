@@ -1,47 +1,56 @@
 //! The program's top call.
-ghost use Rattle.std.specs.Prelude.{◌≡◌, ◌≢◌, ◌↔◌, ℕ, List, Some, None, IfOk};
+ghost use Rattle.std.specs.Prelude.{◌≡◌, ◌≢◌, ◌↔◌, ℕ, List, Some, IfOk};
 ghost use Rattle.std.specs.FinMap.{empty};
-ghost use Rattle.table_store.specs.Lists.{map_at, spare_at};
-ghost use Rattle.txn_machine.specs.Log.{unlimited};
+ghost use Rattle.ordered_index.specs.Tree.{map_of, spare_of, limit_of};
+ghost use Rattle.core_state.specs.Stands.{limited};
 ghost use Rattle.txn_machine.specs.State.{opened_state};
 ghost use Rattle.txn_machine.specs.Store.{opened};
 ghost use Rattle.engine_core.specs.Standing.{IsIn};
 ghost use Rattle.iv_meaning.specs.Database.{created};
 ghost use Rattle.script_run.specs.Run.{Output, Taken, SourceFaults, SinkFaults};
-ghost use Rattle.view_server.specs.Words.{IsScript, ToldUsage};
+ghost use Rattle.script_run.specs.Summary.{Made, EndsMade};
+ghost use Rattle.command_words.specs.Words.{IsScript, IsMake, IsCommand};
+ghost use Rattle.view_server.specs.declared.script.TheConstants.{DATA_LIMIT};
+ghost use Rattle.view_server.specs.Usage.{ToldUsage};
 
-use crate::words::is_script;
+use command_words::{Asked, is_command, read_words};
 use engine_core::Core;
 use iv_types::NoMemory;
 use line_wire::{Sink, Source, write_all};
-use script_run::{Status, run_lines};
+use ordered_index::PageMaps;
+use script_run::{Status, run_lines, run_made};
 use std::alloc::Global;
-use table_store::ListMaps;
 use txn_machine::steps::empty_law;
 
 const USAGE: &[u8] = b"usage: iv init FILE, script FILE, serve FILE, make NUMBER\n";
 
+/// The pages of a new database.
+const PAGES: u32 = 4096;
+
+/// What the data of a new database may count, in bytes: 1,200 for each page but 256.
+const DATA_LIMIT: u32 = (PAGES - 256) * 1200;
+
 // Lets an engine go. Its drop is proved here alone.
-fn let_go(engine: Core<ListMaps>) {
+fn let_go(engine: Core<PageMaps>) {
     let _ = engine;
 }
 
 // An engine on an empty database.
-fn new_engine(alloc: Global) -> Result<Core<ListMaps>, NoMemory>
-    ensures { IfOk result (λ engine. IsIn map_at spare_at (λ _. None) engine (opened_state unlimited (opened created empty))) }
+fn new_engine(alloc: Global) -> Result<Core<PageMaps>, NoMemory>
+    ensures { IfOk result (λ engine. IsIn map_of spare_of limit_of engine (opened_state (limited (Some DATA_LIMIT)) (opened created empty))) }
 {
-    let maps = ListMaps::new(alloc)?;
-    Core::new(alloc, maps, 0)
+    let maps = PageMaps::new(alloc, PAGES)?;
+    Core::new(alloc, maps, Some(DATA_LIMIT), 0)
 }
 
 // Runs the lines of a source on an engine that was opened on an empty database.
 fn run_on<S: Source, K: Sink>(
     alloc: Global,
-    engine: &mut Core<ListMaps>,
+    engine: &mut Core<PageMaps>,
     source: &mut S,
     sink: &mut K,
 ) -> Status
-    requires { IsIn map_at spare_at (λ _. None) engine.old (opened_state unlimited (opened created empty)) }
+    requires { IsIn map_of spare_of limit_of engine.old (opened_state (limited (Some DATA_LIMIT)) (opened created empty)) }
     ensures command { result ≢ Status.Usage }
     ensures output { (input before : List ℕ) → S.left source.old ≡ Some input → K.written sink.old ≡ Some before → Output created result input before (S.left source.new) (K.written sink.new) }
     ensures taken { (input : List ℕ) → S.left source.old ≡ Some input → Taken result input (S.left source.new) }
@@ -71,8 +80,37 @@ fn run_script<S: Source, K: Sink>(alloc: Global, source: &mut S, sink: &mut K) -
     }
 }
 
-/// Does what the program's words, without its name, ask for: the lines of the source are run as a script, and the
-/// replies go to the sink. Replies wait until the source is to be asked for more, or until they fill a buffer.
+// Runs the made script of so many rounds on an engine that was opened on an empty database.
+fn make_on<K: Sink>(alloc: Global, engine: &mut Core<PageMaps>, sink: &mut K, number: u32) -> Status
+    requires { IsIn map_of spare_of limit_of engine.old (opened_state (limited (Some DATA_LIMIT)) (opened created empty)) }
+    ensures status { EndsMade result }
+    ensures made { (before : List ℕ) → K.written sink.old ≡ Some before → Made created result number before (K.written sink.new) }
+    ensures sink_faults { SinkFaults result (K.faults sink.old) (K.faults sink.new) }
+{
+    empty_law();
+    run_made(alloc, engine, sink, number)
+}
+
+// Runs the made script of so many rounds on a new database.
+fn make<K: Sink>(alloc: Global, sink: &mut K, number: u32) -> Status
+    ensures status { EndsMade result }
+    ensures made { (before : List ℕ) → K.written sink.old ≡ Some before → Made created result number before (K.written sink.new) }
+    ensures sink_faults { SinkFaults result (K.faults sink.old) (K.faults sink.new) }
+{
+    match new_engine(alloc) {
+        Ok(engine) => {
+            let mut engine = engine;
+            let status = make_on(alloc, &mut engine, sink, number);
+            let_go(engine);
+            status
+        }
+        Err(NoMemory) => Status::NoMemory,
+    }
+}
+
+/// Does what the program's words, without its name, ask for. For `script -` the lines of the source are run as a script, and the
+/// replies go to the sink; they wait until the source is to be asked for more, or until they fill a buffer. For `make NUMBER`
+/// the made script of so many rounds is run, and its summary goes to the sink; nothing is taken from the source.
 pub fn run<S: Source, K: Sink>(
     alloc: Global,
     words: &[String],
@@ -80,21 +118,30 @@ pub fn run<S: Source, K: Sink>(
     sink: &mut K,
 ) -> Status
     // The usage line is printed exactly where the words are no command.
-    ensures usage { (result ≡ Status.Usage) ↔ ¬ (IsScript words.now) }
+    ensures usage { (result ≡ Status.Usage) ↔ ¬ (IsCommand words.now) }
     ensures told { (before : List ℕ) → K.written sink.old ≡ Some before → result ≡ Status.Usage → ToldUsage before (K.written sink.new) (K.faults sink.old) (K.faults sink.new) }
 
-    // Where the source tells its bytes and the sink what was written, the output is that of the input, on a database that
-    // is empty at first.
-    ensures output { (input before : List ℕ) → S.left source.old ≡ Some input → K.written sink.old ≡ Some before → result ≢ Status.Usage → Output created result input before (S.left source.new) (K.written sink.new) }
-    ensures taken { (input : List ℕ) → S.left source.old ≡ Some input → Taken result input (S.left source.new) }
+    // A script: where the source tells its bytes and the sink what was written, the output is that of the input, on a database
+    // that is empty at first.
+    ensures output { IsScript words.now → (input before : List ℕ) → S.left source.old ≡ Some input → K.written sink.old ≡ Some before → Output created result input before (S.left source.new) (K.written sink.new) }
+    ensures taken { ((number : ℕ) → ¬ (IsMake number words.now)) → (input : List ℕ) → S.left source.old ≡ Some input → Taken result input (S.left source.new) }
+
+    // A made script: what is written is the summary of a run of its lines, on a database that is empty at first.
+    ensures made { (number : ℕ) → IsMake number words.now → (before : List ℕ) → K.written sink.old ≡ Some before → Made created result number before (K.written sink.new) }
+    ensures made_status { (number : ℕ) → IsMake number words.now → EndsMade result }
+    ensures untouched { (number : ℕ) → IsMake number words.now → source.new ≡ source.old }
 
     // A fault is told only where there was one.
     ensures source_faults { SourceFaults result (S.faults source.old) (S.faults source.new) }
     ensures sink_faults { SinkFaults result (K.faults sink.old) (K.faults sink.new) }
 {
-    if !is_script(words) {
+    if !is_command(words) {
         let _ = write_all(sink, USAGE);
         return Status::Usage;
     }
-    run_script(alloc, source, sink)
+    match read_words(alloc, words) {
+        Ok(Asked::Script) => run_script(alloc, source, sink),
+        Ok(Asked::Make(number)) => make(alloc, sink, number),
+        Err(NoMemory) => Status::NoMemory,
+    }
 }

@@ -1,4 +1,4 @@
-use Rattle.std.proofs.Common.{◌≡◌, ◌∙◌, ◌++◌, ℕ, List, refl, sym, subst, arith}
+use Rattle.std.proofs.Common.{◌∙◌, ◌++◌, ℕ, List, refl, sym, subst, arith}
 use Rattle.line_wire.specs.declared.line.Line.TheVariants.{Text, TooLong}
 use Rattle.script_run.specs.declared.status.Status.TheVariants.{Done, ReadFault, NoMemory, TooMuch}
 use Rattle.script_run.proofs.Ran.{beginning, no_lines, just_opened, runs_on, may_go, at_rest}

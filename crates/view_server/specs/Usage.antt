@@ -1,11 +1,7 @@
--- The words of the command line.
-use Rattle.std.specs.Prelude.{◌≡◌, ◌⊎◌, ℕ, List, [], ◌∷◌, ◌++◌, map, codes, Option, Some, String, string_bytes}
+-- What is printed where the words are no command.
+use Rattle.std.specs.Prelude.{◌≡◌, ◌⊎◌, ℕ, List, ◌++◌, codes, Option, Some}
 use Rattle.iv_types.specs.Faults.{Rose}
 use Rattle.line_wire.specs.Wire.{WroteFront}
-
--- the program's words are `script` and `-`
-abbrev pub IsScript : {A : Type 0} → List (String A) → Type 0
-IsScript words = map string_bytes words ≡ codes "script" ∷ codes "-" ∷ []
 
 abbrev pub usage_text : List ℕ
 usage_text = codes "usage: iv init FILE, script FILE, serve FILE, make NUMBER\n"

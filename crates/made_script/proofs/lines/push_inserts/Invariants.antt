@@ -1,0 +1,7 @@
+use Rattle.std.proofs.Common.{◌≡◌, ◌++◌, take, map}
+use Rattle.std.specs.Prelude.{string_bytes}
+use Rattle.made_script.specs.Made.{insert_line}
+use Rattle.made_script.proofs.lines.push_inserts.Given as goal
+
+abbrev pub invariant-loop-session : goal.invariant-loop-session
+invariant-loop-session l = map string_bytes l.lines.items ≡ map string_bytes l.fn.lines.items ++ map (insert_line l.round) (take l.session-index l.sessions)
