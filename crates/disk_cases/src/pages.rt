@@ -2,12 +2,12 @@
 //!
 //! `new CALL..` makes 512 pages and a disk for them, with the numbers of the calls that are to fail. `fill PAGE BYTE` gives
 //! each byte of a page, says that the page is stored and answers its last byte, and `unstore PAGE` says that it is not.
-//! `publish NUMBER AREA BYTE` publishes with a first block of that byte. `meaning` is what the disk means, and `images MOMENT`
-//! what the disk means after a crash, torn before, after and with zeros. Beside these there are `recorded` and the calls of
-//! any disk.
+//! `publish NUMBER AREA BYTE` publishes with a first block of that byte, and `format` makes a new database of the disk. `meaning`
+//! is what the disk means, and `images MOMENT` what the disk means after a crash, torn before, after and with zeros. Beside these
+//! there are `recorded` and the calls of any disk.
 use crate::calls::{call_disk, calls_to_fail, write_done};
 use crate::memory::{EACH, image_at};
-use crate::publishing::{PAGES, SIZE, publish, write_meaning};
+use crate::publishing::{PAGES, SIZE, format, publish, write_meaning};
 use crate::quiet::Quiet;
 use anyhow::bail;
 use case_text::{all_words, byte_at, first_word, number_at, short_number_at};
@@ -117,6 +117,7 @@ fn call_quiet(
             Ok(())
         }
         "meaning" => write_meaning(out, disk),
+        "format" => write_done(out, format(alloc, disk)?),
         "images" => write_images(out, &disk.disk, rest.parse::<u64>()?),
         _ => call_disk(alloc, out, disk, asked),
     }

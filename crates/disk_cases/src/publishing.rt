@@ -1,8 +1,10 @@
-//! A publish of 512 pages, and what the disk means then.
+//! A publish of 512 pages and a new database on such a disk, and what the disk means then.
 use crate::quiet::Quiet;
 use anyhow::bail;
 use disk_io::Disk;
 use page_store::{HeaderFacts, PageStore};
+use recovery::{FormatFault, disk_bytes, format_disk};
+use std::alloc::Global;
 use std::fmt::Write;
 
 pub const PAGES: u32 = 512;
@@ -37,6 +39,18 @@ pub fn publish(
             .publish(disk, &facts, &[0xA5, 0, 0, 0, 1, tag, 0])
             .is_ok(),
     )
+}
+
+/// Makes a new database of a disk, and says whether that was done.
+pub fn format(alloc: Global, disk: &mut Quiet) -> anyhow::Result<bool> {
+    if disk.size() != disk_bytes(PAGES, 64) {
+        bail!("no disk of 512 pages");
+    }
+    match format_disk(alloc, disk, PAGES, 64) {
+        Ok(()) => Ok(true),
+        Err(FormatFault::DiskFault) => Ok(false),
+        Err(FormatFault::NoMemory) => bail!("no memory"),
+    }
 }
 
 // The byte at a place, or 0xEE where it is not read.

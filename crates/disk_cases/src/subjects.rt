@@ -3,6 +3,7 @@
 //! What is left at the end is forgotten and not dropped: the program is short, and the drop is costly to prove.
 use crate::entries::call_entries;
 use crate::files::FileDisks;
+use crate::images::Images;
 use crate::logs::Logs;
 use crate::memory::MemoryDisks;
 use crate::pages::Pages;
@@ -18,6 +19,7 @@ enum Kind {
     Plain,
     File,
     Pages,
+    Image,
     Log,
     Record,
 }
@@ -31,6 +33,7 @@ fn kind_of(name: &str) -> anyhow::Result<Kind> {
         "plain disk" => Ok(Kind::Plain),
         "file disk" => Ok(Kind::File),
         "pages" => Ok(Kind::Pages),
+        "image" => Ok(Kind::Image),
         "log" => Ok(Kind::Log),
         "record" => Ok(Kind::Record),
         _ => bail!("no such kind of table"),
@@ -45,6 +48,7 @@ pub struct Subjects<'a> {
     plain: Plain,
     files: FileDisks,
     pages: Pages,
+    images: Images,
     logs: Logs,
 }
 
@@ -57,6 +61,7 @@ impl<'a> Subjects<'a> {
             plain: Plain::new(),
             files: FileDisks::new(),
             pages: Pages::new(),
+            images: Images::new(),
             logs: Logs::new(),
         }
     }
@@ -68,6 +73,7 @@ impl<'a> Subjects<'a> {
             Kind::Plain => self.plain.call(alloc, out, asked),
             Kind::File => self.files.call(self.rt, out, asked),
             Kind::Pages => self.pages.call(alloc, out, asked),
+            Kind::Image => self.images.call(alloc, out, asked),
             Kind::Log => self.logs.call(alloc, out, asked),
             Kind::Record => call_entries(alloc, out, asked),
         }

@@ -23,4 +23,5 @@ pub mod Breaking
 pub mod Lying
 pub mod Laying
 pub mod Tying
+pub mod Blank
 pub mod WorkedPlaces

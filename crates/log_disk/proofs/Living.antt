@@ -25,7 +25,7 @@ picked true false m n k h = inl (sym (some_number h), refl, λ e. absurd (false�
 picked false true m n k h = inr (sym (some_number h), refl, λ e. absurd (false≢true e))
 picked false false m n k h = absurd (let e : None ≡ Some k = h in cc)
 
-first_picked : (a b : Bool) (m n : ℕ) → a ≡ true → (b ≡ true → n ≤ m) → choose a b m n ≡ Some 0
+pub first_picked : (a b : Bool) (m n : ℕ) → a ≡ true → (b ≡ true → n ≤ m) → choose a b m n ≡ Some 0
 first_picked false b m n e le = absurd (false≢true e)
 first_picked true false m n e le = refl
 first_picked true true m n e le = elim (leb_tells n m) [
@@ -33,7 +33,7 @@ first_picked true true m n e le = elim (leb_tells n m) [
   | inr less ↦ absurd (let most = le refl in let more = less.1 in omega (arith, most, more))
 ]
 
-second_picked : (a b : Bool) (m n : ℕ) → b ≡ true → (a ≡ true → m < n) → choose a b m n ≡ Some 1
+pub second_picked : (a b : Bool) (m n : ℕ) → b ≡ true → (a ≡ true → m < n) → choose a b m n ≡ Some 1
 second_picked a false m n e less = absurd (false≢true e)
 second_picked false true m n e less = refl
 second_picked true true m n e less = elim (leb_tells n m) [

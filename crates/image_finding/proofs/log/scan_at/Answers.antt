@@ -1,0 +1,11 @@
+use Rattle.std.proofs.Common.{subst, arith}
+use Rattle.log_records.specs.Scan.{Fails, scanned}
+use Rattle.image_finding.proofs.Scans.{fault_inside}
+use Rattle.image_finding.proofs.log.scan_at.Goals as goal
+
+pub overflow_add-result : goal.overflow_add-result
+overflow_add-result c =
+    let area = c.args.area.now in
+    let inside = fault_inside area c.in-Err-Bad.rule c.in-Err-Bad.at (λ i. (c.type_inv.area i).fits)
+    (subst (λ f. Fails f (scanned area)) c.in-Err-Bad.field-0-is c.in-Err-Bad.ensures.exact) in
+    omega (arith, inside)
