@@ -8,10 +8,11 @@ ghost use Rattle.std.specs.Prelude.{◌≤◌, ◌+◌, OnOk};
 ghost use Rattle.table_store.specs.Lists.{spare_at};
 
 use anyhow::bail;
-use case_text::{all_words, first_word, short_number_at, unescaped, word_at, write_escaped};
+use case_text::{
+    all_words, first_word, short_number_at, unescaped, word_at, write_escaped, write_number,
+};
 use iv_types::{Bytes, SortedMaps};
 use std::alloc::Global;
-use std::fmt::Write;
 use std::mem::{forget, replace};
 use table_store::{ListMaps, Tables};
 
@@ -37,6 +38,12 @@ pub fn write_text(out: &mut String, bytes: &[u8]) -> anyhow::Result<()> {
     out.push('\'')?;
     write_escaped(out, bytes)?;
     out.push('\'')?;
+    Ok(())
+}
+
+/// Writes that a call was made that answers nothing.
+pub fn write_done(out: &mut String) -> anyhow::Result<()> {
+    out.push_str("done")?;
     Ok(())
 }
 
@@ -143,21 +150,42 @@ fn write_all(out: &mut String, maps: &ListMaps, index: u32) -> anyhow::Result<()
     if next.is_none() {
         out.push_str("nothing")?;
     }
-    let mut is_first = true;
+    let mut before = "";
     for _ in 0..9 {
         let Some((key, value)) = next else {
             break;
         };
-        out.push_str(if is_first { "" } else { ", " })?;
-        is_first = false;
+        out.push_str(before)?;
+        before = ", ";
         write_found(out, Some((key, value)))?;
         next = maps.first_after(index, key);
     }
     Ok(())
 }
 
-// Writes the entry that a call finds.
+fn write_value(out: &mut String, value: Option<&[u8]>) -> anyhow::Result<()> {
+    match value {
+        Some(value) => write_text(out, value),
+        None => write_found(out, None),
+    }
+}
+
+// Writes the entry that a call finds at or behind a key.
 fn write_entry(
+    out: &mut String,
+    maps: &ListMaps,
+    call: &str,
+    index: u32,
+    key: &[u8],
+) -> anyhow::Result<()> {
+    match call {
+        "at" => write_found(out, maps.first_at(index, key)),
+        "after" => write_found(out, maps.first_after(index, key)),
+        _ => write_value(out, maps.get(index, key)),
+    }
+}
+
+fn look(
     alloc: Global,
     out: &mut String,
     maps: &ListMaps,
@@ -166,14 +194,7 @@ fn write_entry(
 ) -> anyhow::Result<()> {
     let index = short_number_at(words, 0)?;
     let key = bytes_at(alloc, words, 1)?;
-    match call {
-        "at" => write_found(out, maps.first_at(index, key.as_slice())),
-        "after" => write_found(out, maps.first_after(index, key.as_slice())),
-        _ => match maps.get(index, key.as_slice()) {
-            Some(value) => write_text(out, value),
-            None => write_found(out, None),
-        },
-    }
+    write_entry(out, maps, call, index, key.as_slice())
 }
 
 // Makes a call with these words behind it.
@@ -185,17 +206,12 @@ fn call_by(
     words: &[&str],
 ) -> anyhow::Result<()> {
     match call {
-        "used" => {
-            let used = tables.used();
-            write!(out, "{used}")?;
-            Ok(())
-        }
-        "get" | "at" | "after" => write_entry(alloc, out, tables.maps(), call, words),
+        "used" => write_number(out, i128::from(tables.used())),
+        "get" | "at" | "after" => look(alloc, out, tables.maps(), call, words),
         "all" => write_all(out, tables.maps(), short_number_at(words, 0)?),
         _ => {
             change(alloc, tables.maps_mut(), call, words)?;
-            out.push_str("done")?;
-            Ok(())
+            write_done(out)
         }
     }
 }

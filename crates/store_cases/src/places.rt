@@ -6,19 +6,25 @@
 //! KEY` and `after INDEX KEY` the first place there, and `all` the first nine places with their values, or `nothing`. `many
 //! COUNT` makes room for so many places and puts them in, in scattered order, and `drain COUNT` takes them out in rising
 //! order; both answer how many were found.
-use crate::maps::{bytes_at, write_text};
+use crate::maps::{bytes_at, write_done, write_text};
 use anyhow::bail;
-use case_text::{all_words, first_word, short_number_at};
+use case_text::{all_words, first_word, short_number_at, write_number};
 use iv_types::Bytes;
 use spare_map::SpareMap;
 use std::alloc::Global;
-use std::fmt::Write;
 use std::mem::{forget, replace};
 
 /// The map, once it is made.
 #[derive(Drop)]
 pub struct Places {
     map: SpareMap<Bytes>,
+}
+
+fn slice_of(value: Option<&Bytes>) -> Option<&[u8]> {
+    match value {
+        Some(value) => Some(value.as_slice()),
+        None => None,
+    }
 }
 
 fn write_value(out: &mut String, value: Option<&[u8]>) -> anyhow::Result<()> {
@@ -34,7 +40,8 @@ fn write_value(out: &mut String, value: Option<&[u8]>) -> anyhow::Result<()> {
 fn write_place(out: &mut String, place: Option<(u32, &[u8])>) -> anyhow::Result<()> {
     match place {
         Some((index, key)) => {
-            write!(out, "{index} ")?;
+            write_number(out, i128::from(index))?;
+            out.push(' ')?;
             write_text(out, key)
         }
         None => write_value(out, None),
@@ -79,64 +86,149 @@ fn take(
     }
 }
 
-// The key of a number: its two bytes.
-fn key_of(alloc: Global, number: u16) -> anyhow::Result<Bytes> {
-    Ok(Bytes::from_vec(Vec::from_slice(alloc, &number.to_be_bytes())?))
+// The key of a number: the two bytes of where it is scattered to.
+fn key_of(alloc: Global, number: u32) -> anyhow::Result<Bytes> {
+    let scattered = ((number % 65_536) as u16).wrapping_mul(40_503);
+    Ok(Bytes::from_vec(Vec::from_slice(alloc, &scattered.to_be_bytes())?))
+}
+
+// Puts a number under itself.
+fn put_one(alloc: Global, map: &mut SpareMap<Bytes>, number: u32) -> anyhow::Result<()> {
+    let key = key_of(alloc, number)?;
+    put(map, 1, key, key_of(alloc, number)?)
+}
+
+// Whether a number stands under itself.
+fn is_there(alloc: Global, map: &SpareMap<Bytes>, number: u32) -> anyhow::Result<bool> {
+    let key = key_of(alloc, number)?;
+    Ok(map.get(1, key.as_slice()) == Some(&key))
 }
 
 // Puts so many numbers under themselves, in scattered order, and counts those that are found.
 fn put_many(alloc: Global, map: &mut SpareMap<Bytes>, count: u32) -> anyhow::Result<u32> {
     map.reserve(alloc, count as usize)?;
     for number in 0..count {
-        let scattered = ((number % 65_536) as u16).wrapping_mul(40_503);
-        put(map, 1, key_of(alloc, scattered)?, key_of(alloc, scattered)?)?;
+        put_one(alloc, map, number)?;
     }
-    let mut found = 0;
+    let mut found = 0u32;
     for number in 0..count {
-        let key = key_of(alloc, ((number % 65_536) as u16).wrapping_mul(40_503))?;
-        if map.get(1, key.as_slice()) == Some(&key) && found < count {
-            found += 1;
+        if is_there(alloc, map, number)? {
+            found = found.saturating_add(1);
         }
     }
     Ok(found)
+}
+
+// Takes the first place out, and says whether it was there.
+fn take_first(alloc: Global, map: &mut SpareMap<Bytes>) -> anyhow::Result<bool> {
+    let Some((_, key)) = map.first_at(1, &[]) else {
+        return Ok(false);
+    };
+    let first = Bytes::from_vec(Vec::from_slice(alloc, key)?);
+    Ok(map.remove(alloc, 1, first.as_slice()).is_some())
 }
 
 // Takes out so many places in rising order, and counts them.
 fn drain(alloc: Global, map: &mut SpareMap<Bytes>, count: u32) -> anyhow::Result<u32> {
-    let mut found = 0;
+    let mut found = 0u32;
     for _ in 0..count {
-        let first = match map.first_at(1, &[]) {
-            Some((_, key)) => Bytes::from_vec(Vec::from_slice(alloc, key)?),
-            None => return Ok(found),
-        };
-        if map.remove(alloc, 1, first.as_slice()).is_some() && found < count {
-            found += 1;
+        if take_first(alloc, map)? {
+            found = found.saturating_add(1);
         }
     }
     Ok(found)
 }
 
-fn write_all(alloc: Global, out: &mut String, map: &SpareMap<Bytes>) -> anyhow::Result<()> {
+// Writes a place and its value.
+fn write_one(
+    out: &mut String,
+    map: &SpareMap<Bytes>,
+    index: u32,
+    key: &[u8],
+) -> anyhow::Result<()> {
+    write_place(out, Some((index, key)))?;
+    out.push(' ')?;
+    write_value(out, slice_of(map.get(index, key)))
+}
+
+fn write_all(out: &mut String, map: &SpareMap<Bytes>) -> anyhow::Result<()> {
     let mut place = map.first_at(0, &[]);
     if place.is_none() {
         out.push_str("nothing")?;
     }
-    let mut is_first = true;
+    let mut before = "";
     for _ in 0..9 {
         let Some((index, key)) = place else {
             break;
         };
-        out.push_str(if is_first { "" } else { ", " })?;
-        is_first = false;
-        write_place(out, Some((index, key)))?;
-        out.push(' ')?;
-        match map.get(index, key) {
-            Some(value) => write_text(out, value.as_slice())?,
-            None => write_value(out, None)?,
-        }
+        out.push_str(before)?;
+        before = ", ";
+        write_one(out, map, index, key)?;
         place = map.first_after(index, key);
     }
     Ok(())
+}
+
+fn put_at(
+    alloc: Global,
+    out: &mut String,
+    map: &mut SpareMap<Bytes>,
+    words: &[&str],
+) -> anyhow::Result<()> {
+    let index = short_number_at(words, 0)?;
+    let key = bytes_at(alloc, words, 1)?;
+    put(map, index, key, bytes_at(alloc, words, 2)?)?;
+    write_done(out)
+}
+
+fn set_at(
+    alloc: Global,
+    out: &mut String,
+    map: &mut SpareMap<Bytes>,
+    words: &[&str],
+) -> anyhow::Result<()> {
+    let index = short_number_at(words, 0)?;
+    let key = bytes_at(alloc, words, 1)?;
+    set(out, map, index, key.as_slice(), bytes_at(alloc, words, 2)?)
+}
+
+fn take_at(
+    alloc: Global,
+    out: &mut String,
+    map: &mut SpareMap<Bytes>,
+    words: &[&str],
+) -> anyhow::Result<()> {
+    let index = short_number_at(words, 0)?;
+    let key = bytes_at(alloc, words, 1)?;
+    take(alloc, out, map, index, key.as_slice())
+}
+
+// Writes what a call finds at one place.
+fn write_found(
+    out: &mut String,
+    map: &SpareMap<Bytes>,
+    call: &str,
+    index: u32,
+    key: &[u8],
+) -> anyhow::Result<()> {
+    match call {
+        "at" => write_place(out, map.first_at(index, key)),
+        "after" => write_place(out, map.first_after(index, key)),
+        "get" => write_value(out, slice_of(map.get(index, key))),
+        _ => bail!("no such call"),
+    }
+}
+
+fn look(
+    alloc: Global,
+    out: &mut String,
+    map: &SpareMap<Bytes>,
+    call: &str,
+    words: &[&str],
+) -> anyhow::Result<()> {
+    let index = short_number_at(words, 0)?;
+    let key = bytes_at(alloc, words, 1)?;
+    write_found(out, map, call, index, key.as_slice())
 }
 
 // Makes a call on one place.
@@ -147,23 +239,30 @@ fn call_at(
     call: &str,
     words: &[&str],
 ) -> anyhow::Result<()> {
-    let index = short_number_at(words, 0)?;
-    let key = bytes_at(alloc, words, 1)?;
     match call {
-        "put" => {
-            put(map, index, key, bytes_at(alloc, words, 2)?)?;
-            out.push_str("done")?;
-            Ok(())
-        }
-        "set" => set(out, map, index, key.as_slice(), bytes_at(alloc, words, 2)?),
-        "take" => take(alloc, out, map, index, key.as_slice()),
-        "at" => write_place(out, map.first_at(index, key.as_slice())),
-        "after" => write_place(out, map.first_after(index, key.as_slice())),
-        "get" => match map.get(index, key.as_slice()) {
-            Some(value) => write_text(out, value.as_slice()),
-            None => write_value(out, None),
-        },
-        _ => bail!("no such call"),
+        "put" => put_at(alloc, out, map, words),
+        "set" => set_at(alloc, out, map, words),
+        "take" => take_at(alloc, out, map, words),
+        _ => look(alloc, out, map, call, words),
+    }
+}
+
+fn make_room(alloc: Global, map: &mut SpareMap<Bytes>, words: &[&str]) -> anyhow::Result<()> {
+    map.reserve(alloc, short_number_at(words, 0)? as usize)?;
+    Ok(())
+}
+
+// Makes a call on so many places, and tells what it counts.
+fn count(
+    alloc: Global,
+    map: &mut SpareMap<Bytes>,
+    call: &str,
+    words: &[&str],
+) -> anyhow::Result<u32> {
+    let many = short_number_at(words, 0)?;
+    match call {
+        "many" => put_many(alloc, map, many),
+        _ => drain(alloc, map, many),
     }
 }
 
@@ -176,27 +275,13 @@ fn call(
     words: &[&str],
 ) -> anyhow::Result<()> {
     match call {
-        "spare" => {
-            let room = map.room();
-            write!(out, "{room}")?;
-            Ok(())
-        }
+        "spare" => write_number(out, map.room() as i128),
         "room" => {
-            map.reserve(alloc, short_number_at(words, 0)? as usize)?;
-            out.push_str("done")?;
-            Ok(())
+            make_room(alloc, map, words)?;
+            write_done(out)
         }
-        "many" => {
-            let found = put_many(alloc, map, short_number_at(words, 0)?)?;
-            write!(out, "{found}")?;
-            Ok(())
-        }
-        "drain" => {
-            let found = drain(alloc, map, short_number_at(words, 0)?)?;
-            write!(out, "{found}")?;
-            Ok(())
-        }
-        "all" => write_all(alloc, out, map),
+        "many" | "drain" => write_number(out, i128::from(count(alloc, map, call, words)?)),
+        "all" => write_all(out, map),
         _ => call_at(alloc, out, map, call, words),
     }
 }

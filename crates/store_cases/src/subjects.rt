@@ -1,14 +1,11 @@
 //! What the rows of the tables call.
 //!
 //! What is left at the end is forgotten and not dropped: the program is short, and the drop is costly to prove.
-use crate::bounds::Bounds;
 use crate::catalogs::add_definition;
-use crate::locks::Locks;
 use crate::maps::Maps;
 use crate::places::Places;
 use crate::versions::Versions;
-use crate::waits::Waits;
-use crate::{deltas, pays, tables, wants};
+use crate::{deltas, tables, wants};
 use anyhow::bail;
 use case_text::Cases;
 use iv_types::Catalog;
@@ -18,14 +15,10 @@ use std::mem::{forget, replace};
 /// What the rows of a table call.
 #[derive(Clone, Copy)]
 enum Kind {
-    Waits,
-    Bounds,
     Maps,
     Places,
     Tables,
-    Locks,
     Deltas,
-    Pays,
     Versions,
     Wants,
 }
@@ -35,14 +28,10 @@ fn kind_of(name: &str) -> anyhow::Result<Kind> {
         bail!("no kind of table")
     };
     match kind {
-        "waits" => Ok(Kind::Waits),
-        "bounds" => Ok(Kind::Bounds),
         "maps" => Ok(Kind::Maps),
         "places" => Ok(Kind::Places),
         "tables" => Ok(Kind::Tables),
-        "locks" => Ok(Kind::Locks),
         "deltas" => Ok(Kind::Deltas),
-        "pays" => Ok(Kind::Pays),
         "versions" => Ok(Kind::Versions),
         "wants" => Ok(Kind::Wants),
         _ => bail!("no such kind of table"),
@@ -52,15 +41,10 @@ fn kind_of(name: &str) -> anyhow::Result<Kind> {
 #[derive(Drop)]
 pub struct Subjects {
     kind: Kind,
-    waits: Waits,
-    bounds: Bounds,
     maps: Maps,
     places: Places,
-    locks: Locks,
     versions: Versions,
     catalog: Catalog,
-    // The row that pays begin with.
-    start: String,
     // The calls of the table so far, one a line.
     calls: String,
 }
@@ -68,15 +52,11 @@ pub struct Subjects {
 impl Subjects {
     pub fn new(alloc: Global) -> Subjects {
         Subjects {
-            kind: Kind::Waits,
-            waits: Waits::new(),
-            bounds: Bounds::new(),
+            kind: Kind::Maps,
             maps: Maps::new(),
             places: Places::new(),
-            locks: Locks::new(),
             versions: Versions::new(),
             catalog: Catalog::new(alloc),
-            start: String::new(alloc),
             calls: String::new(alloc),
         }
     }
@@ -94,51 +74,35 @@ impl Subjects {
 impl Cases for Subjects {
     fn begin(&mut self, alloc: Global, name: &str) -> anyhow::Result<()> {
         self.kind = kind_of(name)?;
-        self.waits = Waits::new();
-        forget(replace(&mut self.bounds, Bounds::new()));
         self.maps.begin(alloc)?;
         self.places.begin();
-        self.locks.begin(alloc)?;
         self.versions.begin();
         forget(replace(&mut self.catalog, Catalog::new(alloc)));
-        self.start = String::new(alloc);
         self.calls = String::new(alloc);
         Ok(())
     }
 
     fn give(&mut self, alloc: Global, text: &str) -> anyhow::Result<()> {
         match self.kind {
-            Kind::Waits => self.waits.give(text),
             Kind::Tables | Kind::Deltas | Kind::Wants => add_definition(
                 alloc,
                 &mut self.catalog,
                 text,
             ),
-            Kind::Pays => {
-                self.start = String::from_str(alloc, text)?;
-                Ok(())
-            }
             _ => bail!("nothing is given"),
         }
     }
 
     fn answer(&mut self, alloc: Global, asked: &str) -> anyhow::Result<String> {
         match self.kind {
-            Kind::Waits => self.waits.answer(alloc, asked),
-            Kind::Bounds => self.bounds.answer(alloc, asked),
             Kind::Maps => self.maps.answer(alloc, asked),
             Kind::Places => self.places.answer(alloc, asked),
-            Kind::Locks => self.locks.answer(alloc, asked),
             Kind::Versions => self.versions.answer(alloc, asked),
             Kind::Wants => wants::answer(alloc, &self.catalog, asked),
             Kind::Deltas => deltas::answer(alloc, &self.catalog, asked),
             Kind::Tables => {
                 self.note(asked)?;
                 tables::last_answer(alloc, &self.catalog, self.calls.as_str())
-            }
-            Kind::Pays => {
-                self.note(asked)?;
-                pays::last_answer(alloc, self.start.as_str(), self.calls.as_str())
             }
         }
     }

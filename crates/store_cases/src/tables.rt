@@ -10,11 +10,12 @@
 //!
 //! For each row all calls of its table are made again from the first on: what a proof knows of the tables behind a call
 //! is not kept from one row to the next.
-ghost use Rattle.std.specs.Prelude.{◌≡◌, Some, IfOk, OnOk};
+ghost use Rattle.std.specs.Prelude.{◌≡◌, None, Some, IfOk, OnOk};
 ghost use Rattle.iv_meaning.specs.Database.{Rows};
-ghost use Rattle.table_store.specs.Lists.{map_at};
+ghost use Rattle.table_store.specs.Lists.{map_at, spare_at};
 ghost use Rattle.table_store.specs.Stored as specs;
-ghost use Rattle.table_store.specs.Stored.{Holds, IsIndexOf};
+ghost use Rattle.table_store.specs.Stored.{Holds, IsIndexOf, IsTableAnd};
+ghost use Rattle.table_store.specs.Changes.{CanTakeBack};
 
 use crate::changed_rows::changed_rows;
 use crate::fills::write_filled;
@@ -22,14 +23,13 @@ use crate::table_facts::{
     can_be_taken_back, index_kinds, index_of, is_change, key_of, kinds_at, table_of,
 };
 use anyhow::bail;
-use case_text::{first_word, read_row, unescaped, write_hexadecimal, write_row};
+use case_text::{first_word, read_row, unescaped, write_hexadecimal, write_number, write_row};
 use iv_types::{
     Bytes, Catalog, Change, IndexDef, IndexEntry, Interval, Kept, Kind, NoMemory, RowList,
     TableDef, Value,
 };
 use row_codec::{encode_key, key_fits};
 use std::alloc::Global;
-use std::fmt::Write;
 use std::mem::forget;
 use table_store::{ListMaps, Tables, make_room};
 
@@ -101,6 +101,27 @@ fn change_by(
     change(alloc, catalog, tables, wanted)
 }
 
+// Makes room to take a change back, where it can be taken back.
+fn prepare_back(
+    alloc: Global,
+    catalog: &Catalog,
+    tables: &mut Tables<ListMaps>,
+    kept: &Kept,
+) -> anyhow::Result<()>
+    requires { (rows : Rows) × Holds catalog.now rows (map_at tables.old) }
+    ensures held { OnOk result ((rows : Rows) × Holds catalog.now rows (map_at tables.new)) }
+    ensures ready { OnOk result (IsTableAnd catalog.now kept.now.change.table (CanTakeBack catalog.now kept.now (map_at tables.new) (spare_at tables.new) None)) }
+{
+    let Some(table) = table_of(catalog, kept.change.table) else {
+        bail!("no table")
+    };
+    make_room(tables.maps_mut(), catalog, table, 1)?;
+    if !can_be_taken_back(alloc, catalog, table, tables.maps(), kept)? {
+        bail!("not to be taken back");
+    }
+    Ok(())
+}
+
 // Takes a change back.
 fn take_back(
     alloc: Global,
@@ -111,15 +132,16 @@ fn take_back(
     requires { (rows : Rows) × Holds catalog.now rows (map_at tables.old) }
     ensures { OnOk result ((rows : Rows) × Holds catalog.now rows (map_at tables.new)) }
 {
-    let Some(table) = table_of(catalog, kept.change.table) else {
-        bail!("no table")
-    };
-    make_room(tables.maps_mut(), catalog, table, 1)?;
-    if !can_be_taken_back(alloc, catalog, table, tables.maps(), &kept)? {
-        bail!("not to be taken back");
+    match prepare_back(alloc, catalog, tables, &kept) {
+        Ok(()) => {
+            tables.take_back(catalog, kept);
+            Ok(())
+        }
+        Err(error) => {
+            forget(kept);
+            Err(error)
+        }
     }
-    tables.take_back(catalog, kept);
-    Ok(())
 }
 
 // The bytes of values of the first columns of these kinds.
@@ -172,32 +194,58 @@ fn write_rows(out: &mut String, rows: &RowList) -> anyhow::Result<()> {
     Ok(())
 }
 
-// The rows of a table in an interval.
-fn rows_of(
+// Writes rows, and forgets them.
+fn write_rows_once(out: &mut String, rows: RowList) -> anyhow::Result<()> {
+    let told = write_rows(out, &rows);
+    forget(rows);
+    told
+}
+
+// Writes the rows of a table in an interval.
+fn write_rows_of(
+    out: &mut String,
     catalog: &Catalog,
     tables: &Tables<ListMaps>,
     table: &TableDef,
     interval: &Interval,
-) -> Result<RowList, NoMemory>
+) -> anyhow::Result<()>
     requires held { (rows : Rows) × Holds catalog.now rows (map_at tables.now) }
     requires table { specs.table_of catalog.now table.now.number ≡ Some table.now }
 {
-    tables.read(catalog, table.number, interval)
+    write_rows_once(out, tables.read(catalog, table.number, interval)?)
 }
 
-// The rows of a table in an interval of the keys of an index.
-fn rows_by_index(
+// Writes the rows of a table in an interval of the keys of an index.
+fn write_rows_by_index(
+    out: &mut String,
     catalog: &Catalog,
     tables: &Tables<ListMaps>,
     table: &TableDef,
     index: &IndexDef,
     interval: &Interval,
-) -> Result<RowList, NoMemory>
+) -> anyhow::Result<()>
     requires held { (rows : Rows) × Holds catalog.now rows (map_at tables.now) }
     requires table { specs.table_of catalog.now table.now.number ≡ Some table.now }
     requires index { IsIndexOf catalog.now table.now index.now }
 {
-    tables.read(catalog, index.number, interval)
+    write_rows_once(out, tables.read(catalog, index.number, interval)?)
+}
+
+// An interval of the keys of an index.
+fn interval_by_index(
+    alloc: Global,
+    table: &TableDef,
+    index: &IndexDef,
+    ends: &str,
+) -> anyhow::Result<Interval> {
+    let kinds = index_kinds(alloc, table, index)?;
+    interval(alloc, kinds.as_slice(), ends)
+}
+
+// An interval of a table's keys.
+fn interval_in(alloc: Global, table: &TableDef, ends: &str) -> anyhow::Result<Interval> {
+    let kinds = kinds_at(alloc, table)?;
+    interval(alloc, kinds.as_slice(), ends)
 }
 
 // Writes the rows of a table in an interval of the keys of an index.
@@ -215,15 +263,29 @@ fn write_by_index(
     let Some(table) = table_of(catalog, index.table) else {
         bail!("no table")
     };
-    let kinds = index_kinds(alloc, table, index)?;
-    let interval = interval(alloc, kinds.as_slice(), ends)?;
-    let rows = rows_by_index(catalog, tables, table, index, &interval)?;
-    let told = write_rows(out, &rows);
-    forget(rows);
-    told
+    let interval = interval_by_index(alloc, table, index, ends)?;
+    write_rows_by_index(out, catalog, tables, table, index, &interval)
 }
 
-// Writes the rows of a table in an interval of the keys of one of its indexes.
+// Writes the rows of a table in an interval of its keys.
+fn write_by_key(
+    alloc: Global,
+    out: &mut String,
+    catalog: &Catalog,
+    tables: &Tables<ListMaps>,
+    number: u32,
+    ends: &str,
+) -> anyhow::Result<()>
+    requires { (rows : Rows) × Holds catalog.now rows (map_at tables.now) }
+{
+    let Some(table) = table_of(catalog, number) else {
+        bail!("no table")
+    };
+    let interval = interval_in(alloc, table, ends)?;
+    write_rows_of(out, catalog, tables, table, &interval)
+}
+
+// Writes the rows of a table in an interval of its keys, or of those of one of its indexes.
 fn write_read(
     alloc: Global,
     out: &mut String,
@@ -235,23 +297,15 @@ fn write_read(
 {
     let (number, ends) = first_word(text);
     let number = number.parse::<u32>()?;
-    if let Some(index) = index_of(catalog, number) {
-        return write_by_index(alloc, out, catalog, tables, index, ends);
+    match index_of(catalog, number) {
+        Some(index) => write_by_index(alloc, out, catalog, tables, index, ends),
+        None => write_by_key(alloc, out, catalog, tables, number, ends),
     }
-    let Some(table) = table_of(catalog, number) else {
-        bail!("no table")
-    };
-    let kinds = kinds_at(alloc, table)?;
-    let interval = interval(alloc, kinds.as_slice(), ends)?;
-    let rows = rows_of(catalog, tables, table, &interval)?;
-    let told = write_rows(out, &rows);
-    forget(rows);
-    told
 }
 
 fn write_entry(out: &mut String, entry: &IndexEntry) -> anyhow::Result<()> {
-    let index = entry.index;
-    write!(out, "{index} ")?;
+    write_number(out, i128::from(entry.index))?;
+    out.push(' ')?;
     write_hexadecimal(out, entry.key.as_slice())?;
     if entry.value.as_slice().is_empty() {
         return Ok(());
@@ -284,6 +338,28 @@ fn write_latest(out: &mut String, kept: &[Kept]) -> anyhow::Result<()> {
     write_entries(out, latest.made.as_slice())
 }
 
+// Keeps what a change is taken back by.
+fn keep(kept: &mut Vec<Kept>, latest: Kept) -> anyhow::Result<()> {
+    kept.push(latest)?;
+    Ok(())
+}
+
+// Takes the latest change back.
+fn take_latest_back(
+    alloc: Global,
+    catalog: &Catalog,
+    tables: &mut Tables<ListMaps>,
+    kept: &mut Vec<Kept>,
+) -> anyhow::Result<()>
+    requires { (rows : Rows) × Holds catalog.now rows (map_at tables.old) }
+    ensures { OnOk result ((rows : Rows) × Holds catalog.now rows (map_at tables.new)) }
+{
+    match kept.pop() {
+        Some(latest) => take_back(alloc, catalog, tables, latest),
+        None => bail!("no change"),
+    }
+}
+
 // Makes a change, or takes one back.
 fn move_on(
     alloc: Global,
@@ -296,20 +372,36 @@ fn move_on(
     ensures { OnOk result ((rows : Rows) × Holds catalog.now rows (map_at tables.new)) }
 {
     if let Some(text) = asked.strip_prefix("change ") {
-        kept.push(change_by(alloc, catalog, tables, text)?)?;
-        return Ok(());
+        return keep(kept, change_by(alloc, catalog, tables, text)?);
     }
     if asked != "back" {
         bail!("no such call");
     }
-    match kept.pop() {
-        Some(latest) => take_back(alloc, catalog, tables, latest),
-        None => bail!("no change"),
+    take_latest_back(alloc, catalog, tables, kept)
+}
+
+// Writes what a call answers that changes nothing.
+fn look(
+    alloc: Global,
+    out: &mut String,
+    catalog: &Catalog,
+    tables: &Tables<ListMaps>,
+    kept: &[Kept],
+    asked: &str,
+) -> anyhow::Result<()>
+    requires { (rows : Rows) × Holds catalog.now rows (map_at tables.now) }
+{
+    if let Some(rest) = asked.strip_prefix("read ") {
+        return write_read(alloc, out, catalog, tables, rest);
+    }
+    match asked {
+        "entries" => write_latest(out, kept),
+        _ => write_number(out, i128::from(tables.used())),
     }
 }
 
 // Tells what a call answers that changes nothing.
-fn look(
+fn found(
     alloc: Global,
     catalog: &Catalog,
     tables: &Tables<ListMaps>,
@@ -319,16 +411,7 @@ fn look(
     requires { (rows : Rows) × Holds catalog.now rows (map_at tables.now) }
 {
     let mut out = String::new(alloc);
-    if let Some(rest) = asked.strip_prefix("read ") {
-        write_read(alloc, &mut out, catalog, tables, rest)?;
-        return Ok(out);
-    }
-    if asked == "entries" {
-        write_latest(&mut out, kept)?;
-        return Ok(out);
-    }
-    let used = tables.used();
-    write!(&mut out, "{used}")?;
+    look(alloc, &mut out, catalog, tables, kept, asked)?;
     Ok(out)
 }
 
@@ -344,7 +427,7 @@ fn call(
     ensures { OnOk result ((rows : Rows) × Holds catalog.now rows (map_at tables.new)) }
 {
     if asked.starts_with("read ") || asked == "entries" || asked == "used" {
-        return look(alloc, catalog, tables, kept, asked);
+        return found(alloc, catalog, tables, kept, asked);
     }
     move_on(alloc, catalog, tables, kept, asked)?;
     Ok(String::from_str(alloc, "done")?)

@@ -6,14 +6,14 @@
 //! INDEX KEY ROW` and `was NUMBER VIEW GROUP NUMBERS` answer what stood there at the number, where this stands there now. `empty`
 //! and `from` with an index and a key answer for rows, `idle` and `next` for deltas. `prune NUMBER` prunes both. `many COUNT`
 //! pushes so many versions of so many scattered keys, one a number, and answers of how many the first is right.
-use crate::maps::{bytes_at, write_text};
-use crate::numbers::{number_of, write_number};
+use crate::maps::{bytes_at, write_done, write_text};
 use anyhow::bail;
 use byteorder::{BigEndian, ByteOrder};
-use case_text::{all_words, first_word, number_at, short_number_at, word_at};
+use case_text::{
+    all_words, first_word, number_at, number_of, short_number_at, word_at, write_number,
+};
 use iv_types::{Bytes, GroupDelta, NumberList};
 use std::alloc::Global;
-use std::fmt::Write;
 use std::mem::{forget, replace};
 use version_chain::{DeltaChains, RowChains, Version};
 
@@ -79,71 +79,54 @@ fn write_view_row(out: &mut String, row: Option<&[u8]>) -> anyhow::Result<()> {
     Ok(())
 }
 
-fn push(alloc: Global, rows: &mut RowChains, words: &[&str]) -> anyhow::Result<()> {
+// Pushes a version, if there is room.
+fn push_version(rows: &mut RowChains, number: u64, change: Version) -> anyhow::Result<()> {
     if rows.room() == 0 {
         bail!("no room");
     }
-    let change = Version {
-        index: short_number_at(words, 1)?,
-        key: bytes_at(alloc, words, 2)?,
-        before: row_at(alloc, words, 3)?,
-    };
-    rows.push(number_at(words, 0)?, change);
+    rows.push(number, change);
     Ok(())
 }
 
-fn add(alloc: Global, deltas: &mut DeltaChains, words: &[&str]) -> anyhow::Result<()> {
+fn push(alloc: Global, rows: &mut RowChains, words: &[&str]) -> anyhow::Result<()> {
+    let number = number_at(words, 0)?;
+    let index = short_number_at(words, 1)?;
+    let key = bytes_at(alloc, words, 2)?;
+    let before = row_at(alloc, words, 3)?;
+    push_version(rows, number, Version { index, key, before })
+}
+
+// Pushes a delta, if there is room.
+fn push_delta(deltas: &mut DeltaChains, number: u64, change: GroupDelta) -> anyhow::Result<()> {
     if deltas.room() == 0 {
         bail!("no room");
     }
-    let numbers = numbers_at(alloc, words, 3)?;
-    let Some((count, sums)) = numbers.split_first() else {
-        bail!("no count");
-    };
-    let change = GroupDelta {
-        view: short_number_at(words, 1)?,
-        group: bytes_at(alloc, words, 2)?,
-        count: i8::try_from(*count)?,
-        sums: NumberList::from_vec(Vec::from_slice(alloc, sums)?),
-    };
-    deltas.push(number_at(words, 0)?, change);
+    deltas.push(number, change);
     Ok(())
 }
 
-fn row_then(
-    alloc: Global,
-    rows: &RowChains,
-    number: u64,
-    index: u32,
-    key: &[u8],
-    now: &Option<Bytes>,
-) -> anyhow::Result<Option<Bytes>> {
-    if number < rows.pruned() {
-        bail!("a number that was pruned");
-    }
-    let now = match now {
-        Some(now) => Some(now.as_slice()),
-        None => None,
+// The count and the sums of a word.
+fn count_and_sums(alloc: Global, words: &[&str], place: usize) -> anyhow::Result<(i8, NumberList)> {
+    let numbers = numbers_at(alloc, words, place)?;
+    let Some((count, sums)) = numbers.split_first() else {
+        bail!("no count");
     };
-    Ok(rows.at(alloc, number, index, key, now)?)
+    let count = i8::try_from(*count)?;
+    Ok((count, NumberList::from_vec(Vec::from_slice(alloc, sums)?)))
 }
 
-fn view_row_then(
-    alloc: Global,
-    deltas: &DeltaChains,
-    number: u64,
-    view: u32,
-    group: &[u8],
-    now: &Option<Bytes>,
-) -> anyhow::Result<Option<Bytes>> {
-    if number < deltas.pruned() {
-        bail!("a number that was pruned");
-    }
-    let now = match now {
-        Some(now) => Some(now.as_slice()),
-        None => None,
+fn add(alloc: Global, deltas: &mut DeltaChains, words: &[&str]) -> anyhow::Result<()> {
+    let number = number_at(words, 0)?;
+    let view = short_number_at(words, 1)?;
+    let group = bytes_at(alloc, words, 2)?;
+    let (count, sums) = count_and_sums(alloc, words, 3)?;
+    let change = GroupDelta {
+        view,
+        group,
+        count,
+        sums,
     };
-    Ok(deltas.at(alloc, number, view, group, now)?)
+    push_delta(deltas, number, change)
 }
 
 fn slice_of(row: &Option<Bytes>) -> Option<&[u8]> {
@@ -153,38 +136,99 @@ fn slice_of(row: &Option<Bytes>) -> Option<&[u8]> {
     }
 }
 
+fn row_then(
+    alloc: Global,
+    rows: &RowChains,
+    number: u64,
+    index: u32,
+    key: &[u8],
+    now: Option<&[u8]>,
+) -> anyhow::Result<Option<Bytes>> {
+    if number < rows.pruned() {
+        bail!("a number that was pruned");
+    }
+    Ok(rows.at(alloc, number, index, key, now)?)
+}
+
+fn view_row_then(
+    alloc: Global,
+    deltas: &DeltaChains,
+    number: u64,
+    view: u32,
+    group: &[u8],
+    now: Option<&[u8]>,
+) -> anyhow::Result<Option<Bytes>> {
+    if number < deltas.pruned() {
+        bail!("a number that was pruned");
+    }
+    Ok(deltas.at(alloc, number, view, group, now)?)
+}
+
+// The key of a number: the two bytes of where it is scattered to.
+fn scattered(number: u32) -> [u8; 2] {
+    ((number % 65_536) as u16)
+        .wrapping_mul(40_503)
+        .to_be_bytes()
+}
+
+// Pushes a version of a number's key, with the key as its row, one behind the number.
+fn push_one(alloc: Global, rows: &mut RowChains, number: u32) -> anyhow::Result<()> {
+    let bytes = scattered(number);
+    let key = Bytes::from_vec(Vec::from_slice(alloc, &bytes)?);
+    let before = Bytes::from_vec(Vec::from_slice(alloc, &bytes)?);
+    let change = Version {
+        index: 1,
+        key,
+        before: Some(before),
+    };
+    push_version(rows, u64::from(number) + 1, change)
+}
+
+// Whether a key's version is found at its number, and not behind it.
+fn is_right(alloc: Global, rows: &RowChains, number: u32) -> anyhow::Result<bool> {
+    let key = scattered(number);
+    let before = row_then(alloc, rows, u64::from(number), 1, &key, None)?;
+    let after = row_then(alloc, rows, u64::from(number) + 1, 1, &key, None)?;
+    Ok(slice_of(&before) == Some(&key) && after.is_none())
+}
+
 // Pushes so many versions, and counts those that are found at the number before theirs and not at theirs.
 fn push_many(alloc: Global, rows: &mut RowChains, count: u32) -> anyhow::Result<u32> {
     rows.reserve(alloc, count)?;
     for number in 0..count {
-        let key = ((number % 65_536) as u16)
-            .wrapping_mul(40_503)
-            .to_be_bytes();
-        if rows.room() == 0 {
-            bail!("no room");
-        }
-        let change = Version {
-            index: 1,
-            key: Bytes::from_vec(Vec::from_slice(alloc, &key)?),
-            before: Some(Bytes::from_vec(Vec::from_slice(alloc, &key)?)),
-        };
-        rows.push(u64::from(number) + 1, change);
+        push_one(alloc, rows, number)?;
     }
-    let mut found = 0;
+    let mut found = 0u32;
     for number in 0..count {
-        let key = ((number % 65_536) as u16)
-            .wrapping_mul(40_503)
-            .to_be_bytes();
-        let before = row_then(alloc, rows, u64::from(number), 1, &key, &None)?;
-        let after = row_then(alloc, rows, u64::from(number) + 1, 1, &key, &None)?;
-        if slice_of(&before) == Some(&key) && after.is_none() && found < count {
-            found += 1;
+        if is_right(alloc, rows, number)? {
+            found = found.saturating_add(1);
         }
     }
     Ok(found)
 }
 
-// Makes a call on the chains of rows or of deltas at one place.
+fn write_is(out: &mut String, is_so: bool) -> anyhow::Result<()> {
+    out.push_str(if is_so { "yes" } else { "no" })?;
+    Ok(())
+}
+
+// Writes what a call on the chains of rows or of deltas finds at one place.
+fn write_found(
+    out: &mut String,
+    versions: &Versions,
+    call: &str,
+    index: u32,
+    key: &[u8],
+) -> anyhow::Result<()> {
+    match call {
+        "empty" => write_is(out, versions.rows.is_empty(index, key)),
+        "idle" => write_is(out, versions.deltas.is_empty(index, key)),
+        "from" => write_row(out, versions.rows.first_from(index, key)),
+        "next" => write_row(out, versions.deltas.first_from(index, key)),
+        _ => bail!("no such call"),
+    }
+}
+
 fn look(
     alloc: Global,
     out: &mut String,
@@ -194,22 +238,62 @@ fn look(
 ) -> anyhow::Result<()> {
     let index = short_number_at(words, 0)?;
     let key = bytes_at(alloc, words, 1)?;
-    match call {
-        "empty" => out.push_str(if versions.rows.is_empty(index, key.as_slice()) {
-            "yes"
-        } else {
-            "no"
-        })?,
-        "idle" => out.push_str(if versions.deltas.is_empty(index, key.as_slice()) {
-            "yes"
-        } else {
-            "no"
-        })?,
-        "from" => write_row(out, versions.rows.first_from(index, key.as_slice()))?,
-        "next" => write_row(out, versions.deltas.first_from(index, key.as_slice()))?,
-        _ => bail!("no such call"),
-    }
-    Ok(())
+    write_found(out, versions, call, index, key.as_slice())
+}
+
+// Writes the row that stood at a place.
+fn write_then(
+    alloc: Global,
+    out: &mut String,
+    rows: &RowChains,
+    words: &[&str],
+) -> anyhow::Result<()> {
+    let number = number_at(words, 0)?;
+    let index = short_number_at(words, 1)?;
+    let key = bytes_at(alloc, words, 2)?;
+    let now = row_at(alloc, words, 3)?;
+    let row = row_then(alloc, rows, number, index, key.as_slice(), slice_of(&now))?;
+    write_row(out, slice_of(&row))
+}
+
+// Writes the view row that stood at a place.
+fn write_view_then(
+    alloc: Global,
+    out: &mut String,
+    deltas: &DeltaChains,
+    words: &[&str],
+) -> anyhow::Result<()> {
+    let number = number_at(words, 0)?;
+    let view = short_number_at(words, 1)?;
+    let group = bytes_at(alloc, words, 2)?;
+    let now = view_row_at(alloc, words, 3)?;
+    let row = view_row_then(
+        alloc,
+        deltas,
+        number,
+        view,
+        group.as_slice(),
+        slice_of(&now),
+    )?;
+    write_view_row(out, slice_of(&row))
+}
+
+// Writes how much room there is, for rows and then for deltas.
+fn write_room(out: &mut String, versions: &Versions) -> anyhow::Result<()> {
+    write_number(out, i128::from(versions.rows.room()))?;
+    out.push(' ')?;
+    write_number(out, i128::from(versions.deltas.room()))
+}
+
+// Pushes as many versions as the words say, and writes how many are right.
+fn write_many(
+    alloc: Global,
+    out: &mut String,
+    rows: &mut RowChains,
+    words: &[&str],
+) -> anyhow::Result<()> {
+    let found = push_many(alloc, rows, short_number_at(words, 0)?)?;
+    write_number(out, i128::from(found))
 }
 
 // Makes a call.
@@ -221,50 +305,30 @@ fn call(
     words: &[&str],
 ) -> anyhow::Result<()> {
     match call {
-        "at" => {
-            let key = bytes_at(alloc, words, 2)?;
-            let now = row_at(alloc, words, 3)?;
-            let row = row_then(
-                alloc,
-                &versions.rows,
-                number_at(words, 0)?,
-                short_number_at(words, 1)?,
-                key.as_slice(),
-                &now,
-            )?;
-            write_row(out, slice_of(&row))
-        }
-        "was" => {
-            let group = bytes_at(alloc, words, 2)?;
-            let now = view_row_at(alloc, words, 3)?;
-            let row = view_row_then(
-                alloc,
-                &versions.deltas,
-                number_at(words, 0)?,
-                short_number_at(words, 1)?,
-                group.as_slice(),
-                &now,
-            )?;
-            write_view_row(out, slice_of(&row))
-        }
-        "spare" => {
-            let rows = versions.rows.room();
-            let deltas = versions.deltas.room();
-            write!(out, "{rows} {deltas}")?;
-            Ok(())
-        }
-        "many" => {
-            let found = push_many(alloc, &mut versions.rows, short_number_at(words, 0)?)?;
-            write!(out, "{found}")?;
-            Ok(())
-        }
+        "at" => write_then(alloc, out, &versions.rows, words),
+        "was" => write_view_then(alloc, out, &versions.deltas, words),
+        "spare" => write_room(out, versions),
+        "many" => write_many(alloc, out, &mut versions.rows, words),
         "room" | "push" | "delta" | "prune" => {
             change(alloc, versions, call, words)?;
-            out.push_str("done")?;
-            Ok(())
+            write_done(out)
         }
         _ => look(alloc, out, versions, call, words),
     }
+}
+
+fn make_room(alloc: Global, versions: &mut Versions, words: &[&str]) -> anyhow::Result<()> {
+    let more = short_number_at(words, 0)?;
+    versions.rows.reserve(alloc, more)?;
+    versions.deltas.reserve(alloc, more)?;
+    Ok(())
+}
+
+fn prune(alloc: Global, versions: &mut Versions, words: &[&str]) -> anyhow::Result<()> {
+    let oldest = number_at(words, 0)?;
+    versions.rows.prune(alloc, oldest);
+    versions.deltas.prune(alloc, oldest);
+    Ok(())
 }
 
 // Makes a call that answers nothing.
@@ -277,16 +341,8 @@ fn change(
     match call {
         "push" => push(alloc, &mut versions.rows, words),
         "delta" => add(alloc, &mut versions.deltas, words),
-        "prune" => {
-            versions.rows.prune(alloc, number_at(words, 0)?);
-            versions.deltas.prune(alloc, number_at(words, 0)?);
-            Ok(())
-        }
-        _ => {
-            versions.rows.reserve(alloc, short_number_at(words, 0)?)?;
-            versions.deltas.reserve(alloc, short_number_at(words, 0)?)?;
-            Ok(())
-        }
+        "prune" => prune(alloc, versions, words),
+        _ => make_room(alloc, versions, words),
     }
 }
 

@@ -24,6 +24,6 @@ returns c = λ held.
       is_kept = is;
       there = found_there ds c.requires.held.0 maps t change.key change.after c.row_law.ensures.spelling c.requires.table c.requires.held.1 there (c.in_ok-stands_under-2.ensures c.if-not-branch-2.false);
       row_before = c.in_ok-stands_under.ensures c.if-not-branch.false;
-      can_hold = subst CanHoldEach c.as_slice-else-not-are_same.ensures (c.can_hold_each.ensures c.if-not-can_hold_each.false);
+      can_hold = subst CanHoldEach c.as_slice.ensures (c.can_hold_each.ensures c.if-not-can_hold_each.false);
       room = room;
     }

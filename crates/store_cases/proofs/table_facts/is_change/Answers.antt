@@ -14,7 +14,7 @@ returns c = λ held.
     let maps = map_at c.args.maps.now in
     let there : get (maps t.number) change.key ≡ stored t change.before = search rules in
     let other : change.before ≢ change.after = search rules in
-    let made : c.as_slice-2.result.now ≡ made_by ds change t = c.as_slice-2.ensures ∙ c.in_ok-made.ensures in
+    let made : c.as_slice.result.now ≡ made_by ds change t = c.as_slice.ensures ∙ c.in_ok-made.ensures in
     record {
       there = found_there ds c.requires.held.0 maps t change.key change.before c.row_law.ensures.spelling c.requires.table c.requires.held.1 there (c.in_ok-stands_under.ensures c.if-not-branch.false);
       row_after = c.in_ok-stands_under-2.ensures c.if-not-branch-2.false;

@@ -1,22 +1,8 @@
-use mathlib.Core.Path.{sym, ap, subst, ◌∙◌}
-use Rattle.std.specs.Prelude.{List}
 use Rattle.iv_meaning.specs.Database.{set_row}
-use Rattle.table_store.specs.Lists.{Listed, map_at}
-use Rattle.table_store.specs.Stored.{Holds}
-use Rattle.table_store.proofs.Staging.{hold_same}
 use Rattle.store_cases.proofs.tables.take_back.Goals as goal
 
-pub can_be_taken_back-requires-clause-held : goal.can_be_taken_back-requires-clause-held
-can_be_taken_back-requires-clause-held c =
-    let rows = c.requires.0 in
-    let held = hold_same c.args.catalog.now rows (map_at c.args.tables.now) (map_at c.make_room.new.maps)
-    (λ i. c.make_room.ensures.maps i ∙ ap (λ (maps : List Listed). map_at maps i) c.maps_mut.ensures.value) c.requires.1 in
-    (rows, subst (λ (m : List Listed). Holds c.args.catalog.now rows (map_at m)) (sym c.maps.ensures) held)
-
-pub returns : goal.returns
-returns c =
-    let rows = c.requires.0 in
+pub returns-in-Ok : goal.returns-in-Ok
+returns-in-Ok c =
+    let held = c.in-Ok.ensures.held in
     let change = c.args.kept.change in
-    let held = hold_same c.args.catalog.now rows (map_at c.args.tables.now) (map_at c.make_room.new.maps)
-    (λ i. c.make_room.ensures.maps i ∙ ap (λ (maps : List Listed). map_at maps i) c.maps_mut.ensures.value) c.requires.1 in
-    (set_row rows change.table change.key change.before, c.take_back.ensures.rows rows held)
+    (set_row held.0 change.table change.key change.before, c.take_back.ensures.rows held.0 held.1)
