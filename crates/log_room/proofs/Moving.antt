@@ -7,7 +7,6 @@ use Rattle.iv_types.specs.declared.lock.GroupDelta.{GroupDelta}
 use Rattle.iv_types.specs.declared.statement.Mode.{Mode}
 use Rattle.iv_types.specs.declared.statement.Mode.TheVariants.{Serial, Snapshot}
 use Rattle.iv_types.specs.Syntax.{StatementTree}
-use Rattle.iv_types.specs.Printing.{statement_text}
 use Rattle.table_laws.specs.Place.{Place}
 use Rattle.table_laws.proofs.Stored.{by_session}
 use Rattle.iv_meaning.specs.Database.{Database, Row}
@@ -27,7 +26,7 @@ use Rattle.txn_machine.proofs.Basics.{one_same, one_other}
 use Rattle.txn_machine.proofs.Rings.{other_opens}
 use Rattle.txn_machine.proofs.LogRoom.{logs_logged}
 use Rattle.txn_machine.proofs.LogSums.{sum_same, sum_none, sum_one, sum_first}
-use Rattle.log_room.specs.Rooms.{AreCountedIn, IsRoomOf, IsSerial, OwesFirst, KeepsLatest, OwesNothing}
+use Rattle.log_room.specs.Rooms.{AreCountedIn, IsRoomOf, IsSerial, OwesFirst, KeepsLatest, OwesNothing, ghost_left}
 use Rattle.log_room.specs.declared.room.LogRoom.{LogRoom}
 
 -- ---- numbers
@@ -112,15 +111,6 @@ owes_none false (suc back) = refl
 
 nothing_owed : (s : Store) (l : Log) (i : ℕ) → (now s i).owed ≡ [] → owed_bytes (l.logged i).ghosted (still_owed (now s i)) ≡ 0
 nothing_owed s l i e = ap (λ (ds : List GroupDelta). owed_bytes (l.logged i).ghosted (drop (now s i).back ds)) e ∙ owes_none (l.logged i).ghosted (now s i).back
-
--- what a delta's Ghost reserves, unless it had that
-abbrev pub ghost_left : Bool → GroupDelta → ℕ
-ghost_left true d = 0
-ghost_left false d = ghost_bytes d
-
-pub left_is : (g : Bool) (d : GroupDelta) (n m : ℕ) → n ≡ min (ghost_bytes d) (2 ^ 64 - 1) → m ≡ cond g 0 n → m ≡ min (ghost_left g d) (2 ^ 64 - 1)
-left_is true d n m e h = omega (arith, h)
-left_is false d n m e h = h ∙ e
 
 pub aborts : (wrote : Bool) (n : ℕ) → n ≡ cond (not wrote) 0 17 → n ≡ cond wrote abort_bytes 0
 aborts true n h = h
@@ -281,7 +271,7 @@ module _ (old new : LogRoom) (s : Store) (l : Log) (i : ℕ) (a : Act) where
       eased old new s (does the_views s i Commits) l (logs s i a Commits l) 34 (min (undos + 40) (2 ^ 64 - 1)) 34 (undo_bytes * length (now s i).kept + end_bytes) moves (omega arith) (omega (arith, undos_are)) (omega arith)
       (omega (arith, all, before, owed)) (omega arith) k
 
-  pub cleans_room : (place : Place) (record_bytes : ℕ) → Moves old new record_bytes 0 0 → record_bytes ≡ min (15 + length place.1) (2 ^ 64 - 1) → IsRoomOf old s l → Within old.limit (l.used + reserved s l + group_bytes place)
+  pub cleans_room : (place : Place) (record_bytes : ℕ) → Moves old new record_bytes 0 0 → record_bytes ≡ min (group_bytes place) (2 ^ 64 - 1) → IsRoomOf old s l → Within old.limit (l.used + reserved s l + group_bytes place)
       → IsRoomOf new (does the_views s i (Cleans place)) (logs s i a (Cleans place) l)
   cleans_room place record_bytes moves record_is k room =
       let same : reserved (does the_views s i (Cleans place)) (logs s i a (Cleans place) l) ≡ reserved s l = reserved_stays s (does the_views s i (Cleans place)) l (logs s i a (Cleans place) l) (λ j js. refl) (same_logged (Cleans place) refl) in
@@ -291,14 +281,14 @@ module _ (old new : LogRoom) (s : Store) (l : Log) (i : ℕ) (a : Act) where
       same_logged : (e : Effect) → logged_after s i l e ≡ l.logged i → (j : ℕ) → (logs s i a e l).logged j ≡ l.logged j
       same_logged e own j = ap (λ (f : ℕ → Logged). f j) (logs_logged s i a e l) ∙ by_session j i (λ x. one_same l.logged i (logged_after s i l e) j x ∙ (own ∙ ap l.logged (sym x))) (λ n. one_other l.logged i (logged_after s i l e) j n)
 
-pub defines_room : (old new : LogRoom) (s : Store) (l : Log) (i : ℕ) (statement : StatementTree) (object : Object) (record_bytes text : ℕ) → Moves old new record_bytes 0 0 → text ≡ length (statement_text statement) → record_bytes ≡ min (text + 30) (2 ^ 64 - 1)
+pub defines_room : (old new : LogRoom) (s : Store) (l : Log) (i : ℕ) (statement : StatementTree) (object : Object) (need : ℕ) → Moves old new need 0 0 → need ≡ min (definition_need statement) (2 ^ 64 - 1)
     → IsRoomOf old s l → Within old.limit (l.used + reserved s l + definition_need statement) → IsRoomOf new (does the_views s i (Defines object)) (logs s i (act.Schema statement) (Defines object) l)
-defines_room old new s l i statement object record_bytes text moves text_is record_is k room =
+defines_room old new s l i statement object need moves need_is k room =
     let t : Store = does the_views s i (Defines object) in
     let m : Log = logs s i (act.Schema statement) (Defines object) l in
     let same : reserved t m ≡ reserved s l = reserved_stays s t l m (λ j js. refl)
     (λ j. ap (λ (f : ℕ → Logged). f j) (logs_logged s i (act.Schema statement) (Defines object) l) ∙ by_session j i (λ x. one_same l.logged i (l.logged i) j x ∙ ap l.logged (sym x)) (λ n. one_other l.logged i (l.logged i) j n)) in
-    by_moves old new s t l m record_bytes 0 0 (definition_need statement) 0 0 (definition_need statement) moves (omega (arith, record_is, text_is)) (omega arith) (omega arith) (omega arith)
+    by_moves old new s t l m need 0 0 (definition_need statement) 0 0 (definition_need statement) moves need_is (omega arith) (omega arith) (omega arith)
     (omega (arith, same)) (omega arith) (omega arith) room k
 
 pub saves_room : (old new : LogRoom) (s : Store) (l : Log) (bytes kept : ℕ) → new.limit ≡ old.limit → new.reserved ≡ old.reserved → new.used ≡ min (bytes + 6) (2 ^ 64 - 1) → bytes ≡ kept → block_bytes + 1 + kept ≤ l.used

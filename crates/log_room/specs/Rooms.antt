@@ -1,7 +1,7 @@
 -- No clause of `run` rests on this module: it serves contracts between crates.
 --
 -- What is used and reserved of the log, as the machine counts it, and what is known of a session's transaction as an effect moves that.
-use Rattle.std.specs.Prelude.{◌≡◌, ℕ, ◌+◌, ◌<◌, ◌≤◌, ◌^◌, Bool, false, List, [], ◌∷◌, Option, Some, None}
+use Rattle.std.specs.Prelude.{◌≡◌, ℕ, ◌+◌, ◌<◌, ◌≤◌, ◌^◌, Bool, true, false, List, [], ◌∷◌, Option, Some, None}
 use Rattle.iv_types.specs.declared.lock.GroupDelta.{GroupDelta}
 use Rattle.iv_types.specs.declared.lock.Want.{Want}
 use Rattle.iv_types.specs.declared.statement.Mode.TheVariants.{Serial, Snapshot}
@@ -9,7 +9,7 @@ use Rattle.iv_meaning.specs.Escrow.{IsSession}
 use Rattle.txn_machine.specs.Acts.{Act}
 use Rattle.txn_machine.specs.Ghosts.{the_views}
 use Rattle.txn_machine.specs.Keeping.{KeptStep, Note}
-use Rattle.txn_machine.specs.Log.{Log, logs, reserved}
+use Rattle.txn_machine.specs.Log.{Log, logs, reserved, ghost_bytes}
 use Rattle.txn_machine.specs.Store.{Store, Effect, Opens, Takes, Notes, Loses, Ends, Prunes, does, now}
 use Rattle.log_room.specs.declared.room.LogRoom.{LogRoom}
 
@@ -42,6 +42,11 @@ pub record OwesFirst (s : Store) (l : Log) (session : ℕ) (d : GroupDelta) (gho
   pub owed_is : (now s session).owed ≡ d ∷ others
   pub none_back : (now s session).back ≡ 0
   pub ghosted_is : (l.logged session).ghosted ≡ ghosted
+
+-- what is still reserved for the Ghost of a delta's row, which is nothing where it had that
+abbrev pub ghost_left : Bool → GroupDelta → ℕ
+ghost_left true d = 0
+ghost_left false d = ghost_bytes d
 
 -- this is the latest step that it keeps, and the log has its record's number
 pub record KeepsLatest (s : Store) (l : Log) (session : ℕ) (k : KeptStep) : Type 0 where

@@ -6,8 +6,6 @@
 
 mod law;
 mod room;
-mod sizes;
 
 pub use law::same_room_law;
 pub use room::LogRoom;
-pub use sizes::{delta_bytes, ghost_bytes};

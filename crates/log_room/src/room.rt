@@ -1,28 +1,27 @@
 //! What is used and reserved of the log.
-ghost use Rattle.std.specs.Prelude.{◌≡◌, ◌+◌, ◌-◌, ◌≤◌, ◌^◌, [], ℕ, List, length, min, cond, false, Option, None, Some, IfSome, IfNone};
+ghost use Rattle.std.specs.Prelude.{◌≡◌, ◌+◌, ◌-◌, ◌≤◌, ◌^◌, [], ℕ, Bool, List, length, min, cond, false, Option, None, Some, IfSome, IfNone};
 ghost use Rattle.iv_types.specs.declared.lock.GroupDelta.{GroupDelta as Delta};
 ghost use Rattle.iv_types.specs.declared.refusal.EngineRefusal.TheVariants.{LogFull};
 ghost use Rattle.iv_types.specs.declared.statement.Mode.TheVariants.{Serial};
 ghost use Rattle.iv_types.specs.Syntax.{StatementTree};
-ghost use Rattle.iv_types.specs.Printing.{statement_text};
 ghost use Rattle.table_laws.specs.Place.{Place};
 ghost use Rattle.iv_meaning.specs.Database.{Database, Row};
 ghost use Rattle.iv_meaning.specs.Escrow.{IsSession};
 ghost use Rattle.iv_meaning.specs.Schema.{Object};
 ghost use Rattle.txn_machine.specs.Acts as act;
 ghost use Rattle.txn_machine.specs.Acts.{Act};
+ghost use Rattle.txn_machine.specs.Counts.{told_need};
 ghost use Rattle.txn_machine.specs.Deltas.{RowChange, place_of, columns_of};
 ghost use Rattle.txn_machine.specs.Ghosts.{the_views};
 ghost use Rattle.txn_machine.specs.Keeping.{Put, Pay};
-ghost use Rattle.txn_machine.specs.Log.{Log, Within, Above, logs, opened_log, reserved, end_bytes, block_bytes, owed_bytes, still_owed, definition_need, carried};
-ghost use Rattle.txn_machine.specs.Records.{write_bytes, group_bytes as place_bytes};
+ghost use Rattle.txn_machine.specs.Log.{Log, Within, Above, logs, opened_log, reserved, end_bytes, block_bytes, owed_bytes, ghost_bytes, still_owed, definition_need, carried};
+ghost use Rattle.txn_machine.specs.Records.{write_bytes, delta_bytes, group_bytes};
 ghost use Rattle.txn_machine.specs.Steps.{put_owed, with_ghost, log_need};
 ghost use Rattle.txn_machine.specs.Store.{Store, opened, does, change_at, schema_of, now, Opens, Writes, Pays, Ghosts, Undoes, Ends, Commits, Defines, Cleans};
 ghost use Rattle.txn_machine.specs.Stored.{ViewRows};
-ghost use Rattle.log_room.specs.Rooms.{IsRoomOf, OwesFirst, KeepsLatest, OwesNothing};
+ghost use Rattle.log_room.specs.Rooms.{IsRoomOf, OwesFirst, KeepsLatest, OwesNothing, ghost_left};
 
-use crate::sizes::{delta_bytes, ghost_bytes, group_bytes};
-use iv_types::{EngineRefusal, GroupDelta};
+use iv_types::EngineRefusal;
 
 // A block's gate and its length.
 const BLOCK_BYTES: u64 = 5;
@@ -39,9 +38,6 @@ const UNDO_BYTES: u64 = 25;
 const COMMIT_BYTES: u64 = 29;
 
 const ABORT_BYTES: u64 = 17;
-
-// The bytes of a definition's record besides its text.
-const DEFINITION_BYTES: u64 = 25;
 
 /// What is used and reserved of the log's area. Where the log has no limit nothing is said of the numbers.
 #[derive(Clone, Copy, Debug, PartialEq, Eq)]
@@ -118,39 +114,36 @@ impl LogRoom {
     pub fn put(&mut self, written: u64, owed: u64)
         ensures limit { self.new.limit ≡ self.old.limit }
         ensures room { (s : Store) (l : Log) (session : ℕ) (a : Act) (place : Place) (new : Option Row) → OwesNothing s session → IsRoomOf self.old s l
-            → written ≡ min (write_bytes (schema_of s) (change_at s place new)) (2 ^ 64 - 1) → owed ≡ min (owed_bytes false (put_owed s (change_at s place new))) (2 ^ 64 - 1)
+            → written ≡ told_need (write_bytes (schema_of s) (change_at s place new)) → owed ≡ told_need (owed_bytes false (put_owed s (change_at s place new)))
             → Within self.old.limit (l.used + reserved s l + log_need s (change_at s place new)) → IsRoomOf self.new (does the_views s session (Writes place new)) (logs s session a (Writes place new) l) }
     {
         self.move_by(written, owed.saturating_add(UNDO_BYTES), 0);
     }
 
-    /// The delta that is owed next is added to its row.
-    pub fn pay(&mut self, delta: &GroupDelta, is_ghosted: bool)
+    /// The delta that is owed next is added to its row: its record has so many bytes, and so many are still reserved for its Ghost.
+    pub fn pay(&mut self, appended: u64, for_ghost: u64)
         ensures limit { self.new.limit ≡ self.old.limit }
-        ensures room { (s : Store) (l : Log) (session : ℕ) (a : Act) → OwesFirst s l session delta.now is_ghosted → IsRoomOf self.old s l
-            → IsRoomOf self.new (does the_views s session Pays) (logs s session a Pays l) }
+        ensures room { (s : Store) (l : Log) (session : ℕ) (a : Act) (d : Delta) (ghosted : Bool) → OwesFirst s l session d ghosted → IsRoomOf self.old s l
+            → appended ≡ told_need (delta_bytes d) → for_ghost ≡ told_need (ghost_left ghosted d) → IsRoomOf self.new (does the_views s session Pays) (logs s session a Pays l) }
     {
-        let record = delta_bytes(delta);
-        let for_ghost = unless(is_ghosted, ghost_bytes(delta));
-        self.move_by(record, 0, record.saturating_add(for_ghost));
+        self.move_by(appended, 0, appended.saturating_add(for_ghost));
     }
 
-    /// The row of the delta that is owed next is made.
-    pub fn make_ghost(&mut self, delta: &GroupDelta)
+    /// The row of the delta that is owed next is made: its record has so many bytes.
+    pub fn make_ghost(&mut self, appended: u64)
         ensures limit { self.new.limit ≡ self.old.limit }
-        ensures room { (s : Store) (l : Log) (session : ℕ) (a : Act) → OwesFirst s l session delta.now false → IsRoomOf self.old s l
-            → IsRoomOf self.new (does the_views s session (Ghosts (place_of delta.now) (length (columns_of delta.now)))) (with_ghost (logs s session a (Ghosts (place_of delta.now) (length (columns_of delta.now))) l) session) }
+        ensures room { (s : Store) (l : Log) (session : ℕ) (a : Act) (d : Delta) → OwesFirst s l session d false → IsRoomOf self.old s l → appended ≡ told_need (ghost_bytes d)
+            → IsRoomOf self.new (does the_views s session (Ghosts (place_of d) (length (columns_of d)))) (with_ghost (logs s session a (Ghosts (place_of d) (length (columns_of d))) l) session) }
     {
-        let record = ghost_bytes(delta);
-        self.move_by(record, 0, record);
+        self.move_by(appended, 0, appended);
     }
 
-    /// The row of the delta that is owed next is there, so that it needs no Ghost any more.
-    pub fn find_row(&mut self, delta: &GroupDelta, is_ghosted: bool)
+    /// The row of the delta that is owed next is there, so that it needs no Ghost any more, for which so many bytes are still reserved.
+    pub fn find_row(&mut self, for_ghost: u64)
         ensures limit { self.new.limit ≡ self.old.limit }
-        ensures room { (s : Store) (l : Log) (session : ℕ) → OwesFirst s l session delta.now is_ghosted → IsRoomOf self.old s l → IsRoomOf self.new s (with_ghost l session) }
+        ensures room { (s : Store) (l : Log) (session : ℕ) (d : Delta) (ghosted : Bool) → OwesFirst s l session d ghosted → IsRoomOf self.old s l → for_ghost ≡ told_need (ghost_left ghosted d)
+            → IsRoomOf self.new s (with_ghost l session) }
     {
-        let for_ghost = unless(is_ghosted, ghost_bytes(delta));
         self.move_by(0, 0, for_ghost);
     }
 
@@ -158,7 +151,7 @@ impl LogRoom {
     pub fn undo_put(&mut self, owed: u64)
         ensures limit { self.new.limit ≡ self.old.limit }
         ensures room { (s : Store) (l : Log) (session : ℕ) (a : Act) (c : RowChange) (deltas : List Delta) → KeepsLatest s l session (Put c deltas) → IsRoomOf self.old s l
-            → owed ≡ min (owed_bytes (l.logged session).ghosted (still_owed (now s session))) (2 ^ 64 - 1) → IsRoomOf self.new (does the_views s session Undoes) (logs s session a Undoes l) }
+            → owed ≡ told_need (owed_bytes (l.logged session).ghosted (still_owed (now s session))) → IsRoomOf self.new (does the_views s session Undoes) (logs s session a Undoes l) }
     {
         self.move_by(UNDO_BYTES, 0, owed.saturating_add(UNDO_BYTES));
     }
@@ -195,23 +188,24 @@ impl LogRoom {
         );
     }
 
-    /// A definition is entered, for which there is room: its text has so many bytes.
-    pub fn define(&mut self, text: u64)
+    /// A definition is entered, which needs so many bytes: those of its record and the end of a block. There is room for them.
+    pub fn define(&mut self, need: u64)
         ensures limit { self.new.limit ≡ self.old.limit }
-        ensures room { (s : Store) (l : Log) (session : ℕ) (statement : StatementTree) (object : Object) → text ≡ length (statement_text statement) → IsRoomOf self.old s l
+        ensures room { (s : Store) (l : Log) (session : ℕ) (statement : StatementTree) (object : Object) → need ≡ told_need (definition_need statement) → IsRoomOf self.old s l
             → Within self.old.limit (l.used + reserved s l + definition_need statement) → IsRoomOf self.new (does the_views s session (Defines object)) (logs s session (act.Schema statement) (Defines object) l) }
     {
-        self.move_by(text.saturating_add(DEFINITION_BYTES + BLOCK_BYTES), 0, 0);
+        self.move_by(need, 0, 0);
     }
 
-    /// A ghost is removed, for the record of which there is room: its group has so many bytes.
-    pub fn clean(&mut self, group: usize)
+    /// A ghost is removed: its record has so many bytes, for which there is room.
+    pub fn clean(&mut self, appended: u64)
         ensures limit { self.new.limit ≡ self.old.limit }
-        ensures room { (s : Store) (l : Log) (session : ℕ) (a : Act) (place : Place) → group ≡ length place.1 → IsRoomOf self.old s l
-            → Within self.old.limit (l.used + reserved s l + place_bytes place) → IsRoomOf self.new (does the_views s session (Cleans place)) (logs s session a (Cleans place) l) }
+        ensures room { (s : Store) (l : Log) (session : ℕ) (a : Act) (place : Place) → appended ≡ told_need (group_bytes place) → IsRoomOf self.old s l
+            → Within self.old.limit (l.used + reserved s l + group_bytes place) → IsRoomOf self.new (does the_views s session (Cleans place)) (logs s session a (Cleans place) l) }
     {
-        self.move_by(group_bytes(group), 0, 0);
+        self.move_by(appended, 0, 0);
     }
+
     /// A checkpoint leaves one block, with so many bytes of carried records, which with its gates are no more than what was used.
     pub fn save(&mut self, bytes: u64)
         ensures limit { self.new.limit ≡ self.old.limit }
