@@ -18,10 +18,11 @@ fn write_encoded(
     entry: &Record,
     number: u64,
 ) -> anyhow::Result<()> {
-    if !is_short(entry) {
+    let lent = entry.lend();
+    if !is_short(lent) {
         bail!("the record is too long");
     }
-    let bytes = entry_bytes(alloc, entry, number)?;
+    let bytes = entry_bytes(alloc, lent, number)?;
     write_hexadecimal(out, bytes.as_slice())
 }
 

@@ -17,7 +17,7 @@ use std::alloc::Global;
 use std::fmt::Write;
 use std::mem::{forget, replace};
 use wal_log::{
-    AREAS_AT, LEAST_AREA, Log, LogFull, MOST_AREA, Record, RecordList, ScanFault, entry_size,
+    AREAS_AT, LEAST_AREA, LentRecord, Log, LogFull, MOST_AREA, RecordList, ScanFault, entry_size,
     is_short, scan,
 };
 
@@ -72,13 +72,11 @@ fn append(log: &mut Log, transaction: u64) -> Option<u64> {
     if log.next_number() == u64::MAX {
         return None;
     }
-    let entry = Record::Abort { transaction };
-    let mut number = None;
-    if is_short(&entry) && log.reserved() >= entry_size(&entry) as u64 {
-        number = Some(log.append(&entry));
+    let abort = LentRecord::Abort { transaction };
+    if !is_short(abort) || u128::from(log.reserved()) < entry_size(abort) {
+        return None;
     }
-    forget(entry);
-    number
+    Some(log.append(abort))
 }
 
 fn abort(out: &mut String, log: &mut Log, transaction: u64) -> anyhow::Result<()> {
@@ -216,11 +214,10 @@ fn restart(
     if log.used() != 6 || log.reserved() != 46 || log.area_bytes() != 96 {
         return None;
     }
-    let abort = Record::Abort { transaction };
-    if is_short(&abort) && entry_size(&abort) == 17 {
-        log.carry(&abort, number);
+    let abort = LentRecord::Abort { transaction };
+    if is_short(abort) && entry_size(abort) == 17 {
+        log.carry(abort, number);
     }
-    forget(abort);
     Some(state)
 }
 

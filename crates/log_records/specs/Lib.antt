@@ -1,4 +1,5 @@
 pub mod Spelling
+pub mod Lent
 pub mod Reading
 pub mod Buffer
 pub mod Area

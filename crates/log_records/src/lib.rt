@@ -12,6 +12,6 @@ mod scanning;
 mod writing;
 
 pub use fault::ScanFault;
-pub use record::{Record, RecordList, Scanned};
+pub use record::{LentRecord, Record, RecordList, Scanned};
 pub use scanning::{OPEN, read_entry, scan};
 pub use writing::{entry_bytes, entry_size, is_short, put_entry};

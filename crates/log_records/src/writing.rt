@@ -4,12 +4,15 @@ ghost use Rattle.std.specs.Int.{w8, w128};
 ghost use Rattle.std.specs.List.{flat_map, AllByRecursion};
 ghost use Rattle.std.specs.Int.RustNames.{FitsSigned};
 ghost use Rattle.byteorder.specs.Endian.{big_bytes};
+ghost use Rattle.std.specs.Option.{option_copied};
 ghost use Rattle.log_records.specs.Buffer.{Filled};
+ghost use Rattle.log_records.specs.declared.record.Record.{Record};
+ghost use Rattle.log_records.specs.Lent.{stands_for};
 ghost use Rattle.log_records.specs.Spelling.{string, optional, signed, numbers, fields, spelling, kind_of, IsShort, Fits};
 
-use crate::Record;
+use crate::LentRecord;
 use byteorder::{BigEndian, ByteOrder};
-use iv_types::{Bytes, NoMemory, NumberList};
+use iv_types::{Bytes, NoMemory};
 use std::alloc::Global;
 
 // The most bytes of a key, a group or a row.
@@ -72,30 +75,28 @@ fn put_sum(buffer: &mut [u8], fill: usize, sum: u128) -> usize
     put(buffer, fill, &bytes)
 }
 
-fn put_bytes(buffer: &mut [u8], fill: usize, bytes: &Bytes) -> usize
+fn put_bytes(buffer: &mut [u8], fill: usize, bytes: &[u8]) -> usize
     requires short { length bytes.now < 2 ^ 16 }
     requires room { fill + length (string 2 bytes.now) ≤ length buffer.old }
     ensures { Filled fill buffer.old result buffer.new (string 2 bytes.now) }
 {
-    let bytes = bytes.as_slice();
     let sized = put_u16(buffer, fill, bytes.len() as u16);
     put(buffer, sized, bytes)
 }
 
-fn put_text(buffer: &mut [u8], fill: usize, bytes: &Bytes) -> usize
+fn put_text(buffer: &mut [u8], fill: usize, bytes: &[u8]) -> usize
     requires short { length bytes.now < 2 ^ 32 }
     requires room { fill + length (string 4 bytes.now) ≤ length buffer.old }
     ensures { Filled fill buffer.old result buffer.new (string 4 bytes.now) }
 {
-    let bytes = bytes.as_slice();
     let sized = put_u32(buffer, fill, bytes.len() as u32);
     put(buffer, sized, bytes)
 }
 
-fn put_row(buffer: &mut [u8], fill: usize, row: &Option<Bytes>) -> usize
-    requires short { IfSome row.now (λ bytes. length bytes < 2 ^ 16) }
-    requires room { fill + length (optional row.now) ≤ length buffer.old }
-    ensures { Filled fill buffer.old result buffer.new (optional row.now) }
+fn put_row(buffer: &mut [u8], fill: usize, row: Option<&[u8]>) -> usize
+    requires short { IfSome (option_copied row) (λ bytes. length bytes < 2 ^ 16) }
+    requires room { fill + length (optional (option_copied row)) ≤ length buffer.old }
+    ensures { Filled fill buffer.old result buffer.new (optional (option_copied row.entry)) }
 {
     match row {
         None => put_u8(buffer, fill, 0),
@@ -119,13 +120,12 @@ fn put_sums(buffer: &mut [u8], fill: usize, sums: &[i128]) -> usize
     at
 }
 
-fn put_numbers(buffer: &mut [u8], fill: usize, sums: &NumberList) -> usize
+fn put_numbers(buffer: &mut [u8], fill: usize, sums: &[i128]) -> usize
     requires few { length sums.now < 2 ^ 8 }
     requires room { fill + length (numbers sums.now) ≤ length buffer.old }
     ensures filled { Filled fill buffer.old result buffer.new (numbers sums.now) }
     ensures fits { AllByRecursion (FitsSigned w128) sums.now }
 {
-    let sums = sums.as_slice();
     let counted = put_u8(buffer, fill, sums.len() as u8);
     put_sums(buffer, counted, sums)
 }
@@ -135,14 +135,14 @@ fn put_write(
     fill: usize,
     transaction: u64,
     table: u32,
-    key: &Bytes,
-    before: &Option<Bytes>,
-    after: &Option<Bytes>,
+    key: &[u8],
+    before: Option<&[u8]>,
+    after: Option<&[u8]>,
 ) -> usize
-    requires short { IsShort (Record.Write transaction table key.now before.now after.now) }
-    requires room { fill + length (fields (Record.Write transaction table key.now before.now after.now)) ≤ length buffer.old }
-    ensures filled { Filled fill buffer.old result buffer.new (fields (Record.Write transaction table key.now before.now after.now)) }
-    ensures fits { Fits (Record.Write transaction table key.now before.now after.now) }
+    requires short { IsShort (Record.Write transaction table key.now (option_copied before) (option_copied after)) }
+    requires room { fill + length (fields (Record.Write transaction table key.now (option_copied before) (option_copied after))) ≤ length buffer.old }
+    ensures filled { Filled fill buffer.old result buffer.new (fields (Record.Write transaction table key.now (option_copied before.entry) (option_copied after.entry))) }
+    ensures fits { Fits (Record.Write transaction table key.now (option_copied before.entry) (option_copied after.entry)) }
 {
     let of_transaction = put_u64(buffer, fill, transaction);
     let of_table = put_u32(buffer, of_transaction, table);
@@ -156,9 +156,9 @@ fn put_delta(
     fill: usize,
     transaction: u64,
     view: u32,
-    group: &Bytes,
+    group: &[u8],
     count: i8,
-    sums: &NumberList,
+    sums: &[i128],
 ) -> usize
     requires short { IsShort (Record.Delta transaction view group.now count sums.now) }
     requires room { fill + length (fields (Record.Delta transaction view group.now count sums.now)) ≤ length buffer.old }
@@ -172,7 +172,7 @@ fn put_delta(
     put_numbers(buffer, of_count, sums)
 }
 
-fn put_group(buffer: &mut [u8], fill: usize, view: u32, group: &Bytes) -> usize
+fn put_group(buffer: &mut [u8], fill: usize, view: u32, group: &[u8]) -> usize
     requires short { IsShort (Record.Ghost view group.now) }
     requires room { fill + length (fields (Record.Ghost view group.now)) ≤ length buffer.old }
     ensures filled { Filled fill buffer.old result buffer.new (fields (Record.Ghost view group.now)) }
@@ -201,7 +201,7 @@ fn put_commit(buffer: &mut [u8], fill: usize, transaction: u64, commit: u64, ses
     put_u32(buffer, of_commit, session)
 }
 
-fn put_schema(buffer: &mut [u8], fill: usize, commit: u64, session: u32, text: &Bytes) -> usize
+fn put_schema(buffer: &mut [u8], fill: usize, commit: u64, session: u32, text: &[u8]) -> usize
     requires short { IsShort (Record.Schema commit session text.now) }
     requires room { fill + length (fields (Record.Schema commit session text.now)) ≤ length buffer.old }
     ensures filled { Filled fill buffer.old result buffer.new (fields (Record.Schema commit session text.now)) }
@@ -212,106 +212,105 @@ fn put_schema(buffer: &mut [u8], fill: usize, commit: u64, session: u32, text: &
     put_text(buffer, of_session, text)
 }
 
-fn put_fields(buffer: &mut [u8], fill: usize, entry: &Record) -> usize
-    requires short { IsShort entry.now }
-    requires room { fill + length (fields entry.now) ≤ length buffer.old }
-    ensures filled { Filled fill buffer.old result buffer.new (fields entry.now) }
-    ensures fits { Fits entry.now }
+fn put_fields(buffer: &mut [u8], fill: usize, lent: LentRecord<'_>) -> usize
+    requires short { IsShort (stands_for lent) }
+    requires room { fill + length (fields (stands_for lent)) ≤ length buffer.old }
+    ensures filled { Filled fill buffer.old result buffer.new (fields (stands_for lent.entry)) }
+    ensures fits { Fits (stands_for lent.entry) }
 {
-    match entry {
-        Record::Write {
+    match lent {
+        LentRecord::Write {
             transaction,
             table,
             key,
             before,
             after,
-        } => put_write(buffer, fill, *transaction, *table, key, before, after),
-        Record::Delta {
+        } => put_write(buffer, fill, transaction, table, key, before, after),
+        LentRecord::Delta {
             transaction,
             view,
             group,
             count,
             sums,
-        } => put_delta(buffer, fill, *transaction, *view, group, *count, sums),
-        Record::Ghost { view, group } => put_group(buffer, fill, *view, group),
-        Record::Clean { view, group } => put_group(buffer, fill, *view, group),
-        Record::Undo {
+        } => put_delta(buffer, fill, transaction, view, group, count, sums),
+        LentRecord::Ghost { view, group } => put_group(buffer, fill, view, group),
+        LentRecord::Clean { view, group } => put_group(buffer, fill, view, group),
+        LentRecord::Undo {
             transaction,
             number,
-        } => put_undo(buffer, fill, *transaction, *number),
-        Record::Commit {
+        } => put_undo(buffer, fill, transaction, number),
+        LentRecord::Commit {
             transaction,
             commit,
             session,
-        } => put_commit(buffer, fill, *transaction, *commit, *session),
-        Record::Abort { transaction } => put_u64(buffer, fill, *transaction),
-        Record::Schema {
+        } => put_commit(buffer, fill, transaction, commit, session),
+        LentRecord::Abort { transaction } => put_u64(buffer, fill, transaction),
+        LentRecord::Schema {
             commit,
             session,
             text,
-        } => put_schema(buffer, fill, *commit, *session, text),
+        } => put_schema(buffer, fill, commit, session, text),
     }
 }
 
-fn kind(entry: &Record) -> u8
-    ensures { result ≡ kind_of entry.now }
+fn kind(lent: LentRecord<'_>) -> u8
+    ensures { result ≡ kind_of (stands_for lent.entry) }
 {
-    match entry {
-        Record::Write { .. } => 1,
-        Record::Delta { .. } => 2,
-        Record::Ghost { .. } => 3,
-        Record::Clean { .. } => 4,
-        Record::Undo { .. } => 5,
-        Record::Commit { .. } => 6,
-        Record::Abort { .. } => 7,
-        Record::Schema { .. } => 8,
+    match lent {
+        LentRecord::Write { .. } => 1,
+        LentRecord::Delta { .. } => 2,
+        LentRecord::Ghost { .. } => 3,
+        LentRecord::Clean { .. } => 4,
+        LentRecord::Undo { .. } => 5,
+        LentRecord::Commit { .. } => 6,
+        LentRecord::Abort { .. } => 7,
+        LentRecord::Schema { .. } => 8,
     }
 }
 
 /// Puts a record behind the first bytes of the buffer, and answers how many there are then.
-pub fn put_entry(buffer: &mut [u8], fill: usize, number: u64, entry: &Record) -> usize
-    requires short { IsShort entry.now }
-    requires room { fill + length (spelling number entry.now) ≤ length buffer.old }
-    ensures filled { Filled fill buffer.old result buffer.new (spelling number entry.now) }
-    ensures fits { Fits entry.now }
+pub fn put_entry(buffer: &mut [u8], fill: usize, number: u64, lent: LentRecord<'_>) -> usize
+    requires short { IsShort (stands_for lent) }
+    requires room { fill + length (spelling number (stands_for lent)) ≤ length buffer.old }
+    ensures filled { Filled fill buffer.old result buffer.new (spelling number (stands_for lent.entry)) }
+    ensures fits { Fits (stands_for lent.entry) }
 {
-    let of_kind = put_u8(buffer, fill, kind(entry));
+    let of_kind = put_u8(buffer, fill, kind(lent));
     let of_number = put_u64(buffer, of_kind, number);
-    put_fields(buffer, of_number, entry)
+    put_fields(buffer, of_number, lent)
 }
 
-fn row_size(row: &Option<Bytes>) -> usize
-    requires { IfSome row.now (λ bytes. length bytes < 2 ^ 16) }
-    ensures { result ≡ length (optional row.now) }
+fn row_size(row: Option<&[u8]>) -> u128
+    ensures size { result ≡ length (optional (option_copied row.entry)) }
+    ensures most { result < 2 ^ 65 }
 {
     match row {
         None => 1,
-        Some(bytes) => 3 + bytes.as_slice().len(),
+        Some(bytes) => 3 + bytes.len() as u128,
     }
 }
 
-/// How many bytes a record has.
-pub fn entry_size(entry: &Record) -> usize
-    requires { IsShort entry.now }
-    ensures size { result ≡ 9 + length (fields entry.now) }
-    ensures small { result < 2 ^ 33 }
+/// How many bytes a record has, also one that is too long to be written.
+pub fn entry_size(lent: LentRecord<'_>) -> u128
+    ensures size { result ≡ 9 + length (fields (stands_for lent.entry)) }
+    ensures small { IsShort (stands_for lent.entry) → result < 2 ^ 33 }
 {
-    match entry {
-        Record::Write {
+    match lent {
+        LentRecord::Write {
             key,
             before,
             after,
             ..
-        } => 23 + key.as_slice().len() + row_size(before) + row_size(after),
-        Record::Delta { group, sums, .. } => {
-            25 + group.as_slice().len() + 16 * sums.as_slice().len()
+        } => 23 + key.len() as u128 + row_size(before) + row_size(after),
+        LentRecord::Delta { group, sums, .. } => {
+            25 + group.len() as u128 + 16 * sums.len() as u128
         }
-        Record::Ghost { group, .. } => 15 + group.as_slice().len(),
-        Record::Clean { group, .. } => 15 + group.as_slice().len(),
-        Record::Undo { .. } => 25,
-        Record::Commit { .. } => 29,
-        Record::Abort { .. } => 17,
-        Record::Schema { text, .. } => 25 + text.as_slice().len(),
+        LentRecord::Ghost { group, .. } => 15 + group.len() as u128,
+        LentRecord::Clean { group, .. } => 15 + group.len() as u128,
+        LentRecord::Undo { .. } => 25,
+        LentRecord::Commit { .. } => 29,
+        LentRecord::Abort { .. } => 17,
+        LentRecord::Schema { text, .. } => 25 + text.len() as u128,
     }
 }
 
@@ -320,46 +319,46 @@ pub fn entry_size(entry: &Record) -> usize
 /// # Errors
 ///
 /// Where there is no memory for them.
-pub fn entry_bytes(alloc: Global, entry: &Record, number: u64) -> Result<Bytes, NoMemory>
-    requires { IsShort entry.now }
-    ensures { IfOk result (λ bytes. bytes ≡ spelling number entry.now) }
+pub fn entry_bytes(alloc: Global, lent: LentRecord<'_>, number: u64) -> Result<Bytes, NoMemory>
+    requires { IsShort (stands_for lent) }
+    ensures { IfOk result (λ bytes. bytes ≡ spelling number (stands_for lent.entry)) }
 {
-    let mut bytes = vec![in alloc; 0; entry_size(entry)]?;
-    put_entry(&mut bytes, 0, number, entry);
+    let mut bytes = vec![in alloc; 0; entry_size(lent) as usize]?;
+    put_entry(&mut bytes, 0, number, lent);
     Ok(Bytes::from_vec(bytes))
 }
 
-fn row_is_short(row: &Option<Bytes>) -> bool
-    ensures yes { IsTrue result → IfSome row.now (λ bytes. length bytes < 2 ^ 16) }
-    ensures no { IfSome row.now (λ bytes. length bytes < 2 ^ 16) → IsTrue result }
+fn row_is_short(row: Option<&[u8]>) -> bool
+    ensures yes { IsTrue result → IfSome (option_copied row.entry) (λ bytes. length bytes < 2 ^ 16) }
+    ensures no { IfSome (option_copied row.entry) (λ bytes. length bytes < 2 ^ 16) → IsTrue result }
 {
     match row {
         None => true,
-        Some(bytes) => bytes.as_slice().len() <= MOST_FIELD,
+        Some(bytes) => bytes.len() <= MOST_FIELD,
     }
 }
 
 /// Whether the record's bytes can hold it: keys, groups and rows of at most 65,535 bytes, a text below 2^32 bytes and at
 /// most 255 sums.
-pub fn is_short(entry: &Record) -> bool
-    ensures yes { IsTrue result → IsShort entry.now }
-    ensures no { IsShort entry.now → IsTrue result }
+pub fn is_short(lent: LentRecord<'_>) -> bool
+    ensures yes { IsTrue result → IsShort (stands_for lent.entry) }
+    ensures no { IsShort (stands_for lent.entry) → IsTrue result }
 {
-    match entry {
-        Record::Write {
+    match lent {
+        LentRecord::Write {
             key,
             before,
             after,
             ..
-        } => key.as_slice().len() <= MOST_FIELD && row_is_short(before) && row_is_short(after),
-        Record::Delta { group, sums, .. } => {
-            group.as_slice().len() <= MOST_FIELD && sums.as_slice().len() <= MOST_SUMS
+        } => key.len() <= MOST_FIELD && row_is_short(before) && row_is_short(after),
+        LentRecord::Delta { group, sums, .. } => {
+            group.len() <= MOST_FIELD && sums.len() <= MOST_SUMS
         }
-        Record::Ghost { group, .. } => group.as_slice().len() <= MOST_FIELD,
-        Record::Clean { group, .. } => group.as_slice().len() <= MOST_FIELD,
-        Record::Undo { .. } => true,
-        Record::Commit { .. } => true,
-        Record::Abort { .. } => true,
-        Record::Schema { text, .. } => text.as_slice().len() <= MOST_TEXT,
+        LentRecord::Ghost { group, .. } => group.len() <= MOST_FIELD,
+        LentRecord::Clean { group, .. } => group.len() <= MOST_FIELD,
+        LentRecord::Undo { .. } => true,
+        LentRecord::Commit { .. } => true,
+        LentRecord::Abort { .. } => true,
+        LentRecord::Schema { text, .. } => text.len() <= MOST_TEXT,
     }
 }

@@ -10,5 +10,6 @@ mod log;
 pub use iv_types::DiskFault;
 pub use log::{AREAS_AT, LEAST_AREA, Log, LogFull, MOST_AREA, held_blocks_stand};
 pub use log_records::{
-    Record, RecordList, ScanFault, Scanned, entry_bytes, entry_size, is_short, read_entry, scan,
+    LentRecord, Record, RecordList, ScanFault, Scanned, entry_bytes, entry_size, is_short,
+    read_entry, scan,
 };

@@ -1,5 +1,6 @@
 //! Records that wait in memory for a flush, and the place of the next block.
 ghost use Rattle.std.specs.Prelude.{◌≡◌, ◌<◌, ◌≤◌, ◌+◌, ◌-◌, ◌*◌, ◌^◌, ◌++◌, ◌∷◌, [], List, length, OnOk, OnErr, IfOk, IfErr};
+ghost use Rattle.log_records.specs.Lent.{stands_for};
 ghost use Rattle.log_records.specs.Spelling.{spelling, IsShort};
 ghost use Rattle.disk_io.specs.Disk.{Only, LeavesOnly, CountsFault};
 ghost use Rattle.log_records.specs.Area.{Entry, group, block, IsSmall};
@@ -8,7 +9,7 @@ ghost use Rattle.wal_log.specs.Log.{new_log, used_by, restarted, after_flush, ar
 use crate::block::{enclose, flush_block};
 use disk_io::Disk;
 use iv_types::{DiskFault, NoMemory};
-use log_records::{Record, entry_size, put_entry};
+use log_records::{LentRecord, entry_size, put_entry};
 use std::alloc::Global;
 use std::marker::Model;
 use thiserror::Error;
@@ -158,18 +159,18 @@ impl Log {
     }
 
     /// Adds a record to those that wait, in bytes that are reserved, and answers its number.
-    pub fn append(&mut self, entry: &Record) -> u64
-        requires short { IsShort entry.now }
+    pub fn append(&mut self, lent: LentRecord<'_>) -> u64
+        requires short { IsShort (stands_for lent) }
         requires number { self.old.next < 2 ^ 64 - 1 }
-        requires room { length (spelling self.old.next entry.now) ≤ self.old.reserved }
+        requires room { length (spelling self.old.next (stands_for lent)) ≤ self.old.reserved }
         ensures number { result ≡ self.old.next }
         // A scan reads it as it is.
-        ensures small { IsSmall (record { number = result; entry = entry.now }) }
-        ensures waits { self.new ≡ record self.old { waiting = self.old.waiting ++ spelling self.old.next entry.now; next = self.old.next + 1; reserved = self.old.reserved - length (spelling self.old.next entry.now) } }
+        ensures small { IsSmall (record { number = result; entry = stands_for lent.entry }) }
+        ensures waits { self.new ≡ record self.old { waiting = self.old.waiting ++ spelling self.old.next (stands_for lent.entry); next = self.old.next + 1; reserved = self.old.reserved - length (spelling self.old.next (stands_for lent.entry)) } }
     {
         let number = self.next;
-        let size = entry_size(entry) as u64;
-        self.fill = put_entry(&mut self.buffer, self.fill, number, entry);
+        let size = entry_size(lent) as u64;
+        self.fill = put_entry(&mut self.buffer, self.fill, number, lent);
         self.next += 1;
         self.reserved -= size;
         number
@@ -194,16 +195,16 @@ impl Log {
     }
 
     /// Adds a record to the first block, before any record is appended. The block fits the area beside what is reserved.
-    pub fn carry(&mut self, entry: &Record, number: u64)
-        requires short { IsShort entry.now }
+    pub fn carry(&mut self, lent: LentRecord<'_>, number: u64)
+        requires short { IsShort (stands_for lent) }
         requires none_waits { self.old.waiting ≡ [] }
         requires none_flushed { self.old.gate ≡ 5 + length self.old.first }
-        requires room { used_by self.old + self.old.reserved + length (spelling number entry.now) ≤ self.old.size }
-        ensures small { IsSmall (record { number = number; entry = entry.now }) }
-        ensures carried { self.new ≡ record self.old { first = self.old.first ++ spelling number entry.now; gate = self.old.gate + length (spelling number entry.now) } }
+        requires room { used_by self.old + self.old.reserved + length (spelling number (stands_for lent)) ≤ self.old.size }
+        ensures small { IsSmall (record { number = number; entry = stands_for lent.entry }) }
+        ensures carried { self.new ≡ record self.old { first = self.old.first ++ spelling number (stands_for lent.entry); gate = self.old.gate + length (spelling number (stands_for lent.entry)) } }
     {
-        let size = entry_size(entry) as u64;
-        self.first_fill = put_entry(&mut self.first, self.first_fill, number, entry);
+        let size = entry_size(lent) as u64;
+        self.first_fill = put_entry(&mut self.first, self.first_fill, number, lent);
         enclose(&mut self.first, self.first_fill);
         self.gate += size;
     }

@@ -1,6 +1,7 @@
 use Rattle.std.proofs.Common.{◌≡◌, ◌++◌, ◌-◌, ◌+◌, List, ℕ, length, take, drop, ap, sym, ◌∙◌, arith}
 use Rattle.std.proofs.lemmas.List.{with_items_is}
 use Rattle.std.specs.Vec.{with_items}
+use Rattle.log_records.specs.Lent.{stands_for}
 use Rattle.log_records.specs.Spelling.{spelling}
 use Rattle.wal_log.specs.Log.{LogState}
 use Rattle.wal_log.proofs.KeptLaws.{put_behind, one_waits}
@@ -27,7 +28,7 @@ invariant_of-self c =
 
 pub returns-clause-waits : goal.returns-clause-waits
 returns-clause-waits c =
-    let entry = c.args.entry.now in
+    let entry = stands_for c.args.lent in
     let next : c.self.inside.next ≡ c.args.self.now.next = ap (λ (s : LogState). s.next) c.self.view_is in
     let left : c.self.inside.reserved ≡ c.args.self.now.reserved = ap (λ (s : LogState). s.reserved) c.self.view_is in
     let was : c.deref_mut.result.now ≡ c.self.inside.buffer.items = c.deref_mut.ensures.value in

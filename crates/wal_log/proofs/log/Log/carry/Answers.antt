@@ -2,6 +2,7 @@ use Rattle.std.proofs.Common.{◌≡◌, ◌++◌, ◌∷◌, [], ◌+◌, ◌�
 use Rattle.std.proofs.lemmas.List.{with_items_is}
 use Rattle.std.specs.Vec.{with_items}
 use Rattle.log_records.specs.Area.{block}
+use Rattle.log_records.specs.Lent.{stands_for}
 use Rattle.log_records.specs.Spelling.{spelling}
 use Rattle.wal_log.specs.Log.{LogState, used_by}
 use Rattle.wal_log.proofs.KeptLaws.{length-behind, put_behind, enclosed, one_carried}
@@ -31,7 +32,7 @@ invariant_of-self c =
 
 pub returns-clause-carried : goal.returns-clause-carried
 returns-clause-carried c =
-    let entry = c.args.entry.now in
+    let entry = stands_for c.args.lent in
     let size = c.entry_size-size.ensures.size in
     let was : c.deref_mut.result.now ≡ c.self.inside.first.items = c.deref_mut.ensures.value in
     let put = with_items_is c.self.inside.first c.put_entry-self-inside.new.buffer (omega (arith, ap length was)) in

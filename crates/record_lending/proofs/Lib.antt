@@ -1,0 +1,3 @@
+pub mod Lent
+pub mod Short
+pub mod Owed
