@@ -1,5 +1,5 @@
 -- Rule 10: no two entries of one index have one key.
-use Rattle.std.proofs.Common.{◌≡◌, ◌≢◌, Bool, true, false, if◌then◌else◌, ℕ, zero, suc, ◌+◌, ◌-◌, ◌<◌, List, [], ◌++◌, get_or, Option, Some, None, refl, sym, ◌∙◌, ap, subst, arith}
+use Rattle.std.proofs.Common.{◌≡◌, ◌≢◌, Bool, true, false, if◌then◌else◌, ℕ, zero, suc, ◌-◌, ◌<◌, List, [], ◌++◌, get_or, Some, None, refl, sym, ◌∙◌, ap, subst, arith}
 use Rattle.std.specs.Bool.{OnTrue}
 use Rattle.std.specs.FinMap.{FinMap}
 use Rattle.disk_io.specs.Disk.{part}

@@ -1,5 +1,5 @@
 -- Entries that are put under their places, one after another.
-use Rattle.std.proofs.Common.{◌≡◌, ◌≢◌, inl, inr, ⊎_elim, ℕ, ◌+◌, ◌<◌, ◌≤◌, List, [], ◌∷◌, ◌++◌, map, length, get_or, take, drop, Option, Some, None, refl, sym, ◌∙◌, ap, subst, arith, append_assoc}
+use Rattle.std.proofs.Common.{◌≡◌, ◌≢◌, inl, ⊎_elim, List, [], ◌∷◌, ◌++◌, Option, Some, None, refl, sym, ◌∙◌, ap, subst}
 use Rattle.std.specs.List.{Contains}
 use Rattle.std.specs.FinMap.{FinMap, empty, get, insert, get-empty}
 use Rattle.std.proofs.lemmas.Option.{none-some}
@@ -10,11 +10,11 @@ use Rattle.table_laws.proofs.Tables.{get-write_same, get-write_other}
 use Rattle.txn_machine.proofs.Basics.{contains_none}
 use Rattle.txn_machine.proofs.Holding.{contains_here, contains_map}
 use Rattle.txn_machine.proofs.Agreeing.{by_place}
-use Rattle.txn_log.specs.Damaged.{Found, FirstBad}
+use Rattle.txn_log.specs.Damaged.{Found}
 use Rattle.txn_log.proofs.Placing.{in_rest}
 use Rattle.image_finding.specs.declared.fault.BadImage.{BadImage}
 use Rattle.image_entries.specs.declared.stored.StoredEntry.{StoredEntry}
-use Rattle.image_entries.specs.Entries.{held_of, found_at, HasEntries, IsTwice, NoneBad, Gathers, TellsTwice}
+use Rattle.image_entries.specs.Entries.{held_of, found_at, HasEntries, IsTwice, Gathers, TellsTwice}
 use Rattle.image_entries.proofs.Firsts.{onto, none_append, first_after, in_onto, onto_has, of_one}
 
 abbrev Entries : Type 0

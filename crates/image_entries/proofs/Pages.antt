@@ -1,16 +1,15 @@
 -- The entries of pages, one after another, and those that are found in the bytes.
-use Rattle.std.proofs.Common.{◌≡◌, inl, inr, ℕ, zero, suc, ◌+◌, ◌-◌, ◌<◌, ◌≤◌, List, [], ◌∷◌, ◌++◌, map, length, get_or, take, drop, Option, Some, None, refl, sym, ◌∙◌, ap, subst, arith, append_assoc}
+use Rattle.std.proofs.Common.{◌≡◌, ℕ, zero, suc, ◌+◌, ◌-◌, ◌<◌, List, [], ◌∷◌, ◌++◌, map, length, get_or, take, drop, refl, sym, ◌∙◌, ap, subst, arith, append_assoc}
 use Rattle.std.proofs.Math.Seq.{take-suc, drop-cons}
 use Rattle.std.proofs.lemmas.List.{append-nil, take-append-drop}
 use Rattle.std.specs.List.{range_with_len}
-use Rattle.disk_io.specs.Disk.{part}
 use Rattle.disk_io.specs.Bytes.{byte-part}
-use Rattle.page_store.specs.Image.{header_at, slot_at, map_byte}
+use Rattle.page_store.specs.Image.{header_at, map_byte}
 use Rattle.slot_page.specs.Page.{Entry, no_entry, entries, index_of}
 use Rattle.txn_log.specs.Stored.{PageEntry}
 use Rattle.txn_log.specs.Damaged.{Header, Page, Found, Device, found_in, all_found}
 use Rattle.log_disk.specs.Bears.{page_entries}
-use Rattle.log_disk.specs.Found.{IsFound, IsFoundIn, IsFoundBy, IsPageOf, StandsFirst, ArePagesOf}
+use Rattle.log_disk.specs.Found.{IsFound, IsFoundIn, IsFoundBy, StandsFirst, ArePagesOf}
 use Rattle.image_finding.specs.declared.image.FoundImage.{FoundImage}
 use Rattle.image_finding.specs.Headers.{as_header, IsLiveHeader, map_in}
 use Rattle.image_finding.specs.Images.{HasImage}

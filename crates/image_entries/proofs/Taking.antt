@@ -1,5 +1,5 @@
 -- The entries of a page as they are taken, one after another.
-use Rattle.std.proofs.Common.{◌≡◌, ◌≢◌, ℕ, suc, ◌+◌, ◌<◌, List, [], ◌∷◌, ◌++◌, map, length, get_or, drop, None, refl, sym, ◌∙◌, ap, subst, append_assoc}
+use Rattle.std.proofs.Common.{◌≡◌, ◌≢◌, ℕ, suc, ◌+◌, ◌<◌, List, [], ◌∷◌, ◌++◌, map, length, get_or, drop, None, sym, ◌∙◌, ap, subst, append_assoc}
 use Rattle.std.specs.FinMap.{FinMap, get, insert}
 use Rattle.slot_page.specs.Page.{no_entry, entries, index_of}
 use Rattle.table_laws.specs.Place.{place_cmp}

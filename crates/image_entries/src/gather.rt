@@ -73,7 +73,12 @@ fn take_next<D: Disk>(
         return Ok(());
     }
     read_page(disk, image, n, page)?;
-    take_stored(alloc, entries, slot_place(image.header.area_bytes, n, byte - 1), page)
+    take_stored(
+        alloc,
+        entries,
+        slot_place(image.header.area_bytes, n, byte - 1),
+        page,
+    )
 }
 
 /// Reads the stored pages, one after another into one buffer, and puts their entries under their places.

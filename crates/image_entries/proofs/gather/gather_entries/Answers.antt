@@ -1,7 +1,6 @@
-use Rattle.std.proofs.Common.{◌≡◌, ℕ, List, [], sym, subst}
-use Rattle.std.specs.FinMap.{empty}
+use Rattle.std.proofs.Common.{[], sym, subst}
 use Rattle.std.proofs.lemmas.Result.{err_from_is_err_and}
-use Rattle.image_entries.specs.Entries.{found_entries, Gathers}
+use Rattle.image_entries.specs.Entries.{Gathers}
 use Rattle.image_entries.proofs.Gathering.{gathers_none}
 use Rattle.image_entries.proofs.Taking.{told_so}
 use Rattle.image_entries.proofs.Apart.{keys_fail, keys_stand}

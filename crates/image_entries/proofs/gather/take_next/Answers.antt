@@ -1,12 +1,11 @@
-use Rattle.std.proofs.Common.{◌≡◌, ◌≢◌, ℕ, ◌-◌, List, ◌++◌, get_or, sym, ◌∙◌, ap, subst, arith}
+use Rattle.std.proofs.Common.{◌≡◌, ◌≢◌, ℕ, ◌-◌, List, ◌++◌, get_or, sym, ◌∙◌, ap, subst}
 use Rattle.std.specs.Prelude.{OnOk}
 use Rattle.std.proofs.lemmas.List.{append-nil}
 use Rattle.std.proofs.lemmas.Result.{err_from_is_err_and}
 use Rattle.page_store.specs.Image.{slot_at}
-use Rattle.txn_log.specs.Damaged.{Found, found_in}
-use Rattle.log_disk.specs.Bears.{page_entries}
+use Rattle.txn_log.specs.Damaged.{Found}
 use Rattle.image_finding.specs.Faults.{IfBad, FindFaults}
-use Rattle.image_entries.specs.Entries.{found_on, Gathers, TellsTwice}
+use Rattle.image_entries.specs.Entries.{Gathers, TellsTwice}
 use Rattle.image_entries.proofs.Apart.{on_page, leaf_on, no_page}
 use Rattle.image_entries.proofs.gather.take_next.Goals as goal
 

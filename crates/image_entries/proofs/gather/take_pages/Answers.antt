@@ -1,10 +1,8 @@
-use Rattle.std.proofs.Common.{◌≡◌, ℕ, suc, ◌+◌, List, [], ◌++◌, get_or, refl, sym, ap, subst, rules, arith}
-use Rattle.std.specs.Prelude.{OnOk}
-use Rattle.txn_log.specs.Damaged.{Found}
+use Rattle.std.proofs.Common.{◌≡◌, ℕ, suc, ◌+◌, List, ◌++◌, get_or, refl, sym, subst, rules, arith}
 use Rattle.image_finding.specs.Faults.{told_by}
 use Rattle.image_finding.specs.Images.{HasImage}
 use Rattle.image_finding.proofs.OnlyReads.{no_read, read_on}
-use Rattle.image_entries.specs.Entries.{found_on, found_before, found_entries, Gathers, TellsTwice}
+use Rattle.image_entries.specs.Entries.{found_on, found_before, Gathers, TellsTwice}
 use Rattle.image_entries.proofs.Apart.{page_tells}
 use Rattle.image_entries.proofs.gather.take_pages.Goals as goal
 

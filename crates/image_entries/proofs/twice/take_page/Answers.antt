@@ -1,4 +1,4 @@
-use Rattle.std.proofs.Common.{List, ◌++◌, ◌<◌, length, sym, ◌∙◌, ap, subst, arith}
+use Rattle.std.proofs.Common.{List, ◌++◌, ◌<◌, length, sym, subst, arith}
 use Rattle.std.proofs.lemmas.List.{append-nil}
 use Rattle.slot_page.specs.Page.{entries, count_of}
 use Rattle.slot_page.proofs.Pages.{length-entries}
