@@ -17,6 +17,7 @@ mod plain;
 mod publishing;
 mod quiet;
 mod record_texts;
+mod stored;
 mod subjects;
 
 use case_text::print_cases;

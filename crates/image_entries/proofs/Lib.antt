@@ -1,0 +1,5 @@
+pub mod Firsts
+pub mod Gathering
+pub mod Pages
+pub mod Taking
+pub mod Apart

@@ -1,0 +1,13 @@
+//! The entries of the stored pages of an image that was found: all of them in one map, and the rules of the image that
+//! they have to keep.
+//!
+//! Nothing is written.
+#![tactic(auto)]
+
+mod fault;
+mod gather;
+mod stored;
+mod twice;
+
+pub use gather::gather_entries;
+pub use stored::{EntryMap, StoredEntry};
