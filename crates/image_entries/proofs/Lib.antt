@@ -6,3 +6,4 @@ pub mod Apart
 pub mod KeyNumbers
 pub mod Behind
 pub mod Walks
+pub mod Linked

@@ -18,20 +18,20 @@ use Rattle.image_entries.specs.declared.parts.Part.{Part}
 use Rattle.image_entries.specs.Entries.{found_at}
 use Rattle.image_entries.specs.Parts.{IsPartOf, IsPartAt, part_found, parts_found, definitions_in, with_definition}
 
-and_first : (a b : Bool) → T (a && b) → T a
+pub and_first : (a b : Bool) → T (a && b) → T a
 and_first true b p = tt
 and_first false b p = p
 
-and_second : (a b : Bool) → T (a && b) → T b
+pub and_second : (a b : Bool) → T (a && b) → T b
 and_second true b p = p
 and_second false b p = absurd p
 
-lt_less : (o : Ordering) → T (is_lt o) → o ≡ Less
+pub lt_less : (o : Ordering) → T (is_lt o) → o ≡ Less
 lt_less Less p = refl
 lt_less Equal p = absurd p
 lt_less Greater p = absurd p
 
-abbrev Held : Type 0
+abbrev pub Held : Type 0
 Held = List (Place × StoredEntry)
 
 -- what is held from the first place on that passes

@@ -1,7 +1,12 @@
 //! The parts of the definitions of an image: rule 11, as far as no text is read.
-ghost use Rattle.std.specs.Prelude.{◌≡◌, ℕ, IfOk, OnOk};
+ghost use Rattle.std.specs.Prelude.{◌≡◌, ℕ, List, IfOk, OnOk};
 ghost use Rattle.std.specs.FinMap as map;
 ghost use Rattle.image_finding.specs.Faults.{IfBad, FindFaults};
+ghost use Rattle.image_finding.specs.declared.image.FoundImage.{FoundImage};
+ghost use Rattle.image_finding.specs.Rules.{IsRefused};
+ghost use Rattle.image_finding.specs.Headers.{as_header, StandsUpTo};
+ghost use Rattle.image_finding.specs.Images.{HasImage};
+ghost use Rattle.image_entries.specs.Entries.{Gathers, found_entries};
 ghost use Rattle.image_entries.specs.Parts.{parts_found, definitions_in, KeysStand, SizesStand, TellsDefinition};
 
 use crate::keys::check_parts;
@@ -23,6 +28,8 @@ pub fn read_parts(alloc: Global, entries: &EntryMap) -> Result<Vec<Part>, FindFa
     ensures sizes { OnOk result (SizesStand (definitions_in (map.entries entries.now.entries))) }
     // What is told is the first place at which the rule fails.
     ensures refused { IfBad result (λ bad. TellsDefinition (definitions_in (map.entries entries.now.entries)) bad) }
+    // And it is the least rule that fails in the bytes of an image that has just these entries in its stored pages.
+    ensures rule { (c : List ℕ) (image : FoundImage) → HasImage c image → Gathers entries.now.entries (found_entries image c) → StandsUpTo 10 c (as_header image.header) → IfBad result (λ bad. IsRefused c bad) }
     // The disk is not asked.
     ensures no_disk { (count : ℕ) → FindFaults result count count }
 {
