@@ -4,12 +4,10 @@
 //! of 512 pages with log areas of 64 KiB. `find` answers the place of the live header, its number, the greatest commit
 //! number, the next record number, the area in use and the redo place, and then how many records and how many stored
 //! pages there are; or `rule RULE at PLACE`, or `fault`. `page NUMBER` finds the image and answers the first eight bytes
-//! of a page, or `none` where it is not stored. `entries` answers those of the stored pages. Beside these there are the
-//! calls of any disk.
+//! of a page, or `none` where it is not stored. Beside these there are the calls of any disk.
 use crate::calls::{call_disk, calls_to_fail, write_done};
 use crate::publishing::format;
 use crate::quiet::Quiet;
-use crate::stored::entries;
 use anyhow::bail;
 use case_text::{all_words, first_word, number_at, write_hexadecimal};
 use disk_io::{Disk, MemoryDisk};
@@ -61,8 +59,7 @@ fn write_image(out: &mut String, found: &FoundImage) -> anyhow::Result<()> {
     Ok(())
 }
 
-/// Writes why there is no image.
-pub fn write_fault(out: &mut String, fault: FindFault) -> anyhow::Result<()> {
+fn write_fault(out: &mut String, fault: FindFault) -> anyhow::Result<()> {
     match fault {
         FindFault::BadImage(BadImage { rule, place }) => write!(out, "rule {rule} at {place}")?,
         FindFault::DiskFault => out.push_str("fault")?,
@@ -126,7 +123,6 @@ fn call_image(
     match call {
         "format" => write_done(out, format(alloc, disk)?),
         "find" => find(alloc, out, disk),
-        "entries" => entries(alloc, out, disk),
         "page" => page(alloc, out, disk, rest.parse::<u32>()?),
         _ => call_disk(alloc, out, disk, asked),
     }

@@ -17,7 +17,6 @@ mod plain;
 mod publishing;
 mod quiet;
 mod record_texts;
-mod stored;
 mod subjects;
 
 use case_text::print_cases;
