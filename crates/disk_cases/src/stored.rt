@@ -16,12 +16,7 @@ use std::mem::forget;
 /// The most entries that are written.
 const MOST_WRITTEN: u32 = 9;
 
-fn write_entry(
-    out: &mut String,
-    entries: &EntryMap,
-    index: u32,
-    key: &[u8],
-) -> anyhow::Result<()> {
+fn write_entry(out: &mut String, entries: &EntryMap, index: u32, key: &[u8]) -> anyhow::Result<()> {
     let Some(stored) = entries.get(index, key) else {
         bail!("no such entry")
     };

@@ -1,16 +1,14 @@
 -- The first of a list that is bad beside those before it.
-use Rattle.std.proofs.Common.{◌≡◌, inl, inr, ◌⊎◌, ⊎_elim, List, [], ◌∷◌, ◌++◌, map, refl, subst}
+use Rattle.std.proofs.Common.{◌≡◌, inl, inr, ◌⊎◌, ⊎_elim, ℕ, suc, ◌+◌, ◌<◌, List, [], ◌∷◌, ◌++◌, map, length, get_or, take, drop, refl, sym, ap, subst, ◌∙◌, arith}
+use Rattle.std.proofs.Math.Seq.{take-suc, drop-cons}
+use Rattle.std.proofs.lemmas.List.{take-append-drop}
 use Rattle.std.specs.List.{Contains}
 use Rattle.txn_machine.proofs.Basics.{contains_none}
 use Rattle.txn_machine.proofs.Holding.{contains_here, contains_next}
 use Rattle.txn_log.specs.Damaged.{FirstBad}
 use Rattle.txn_log.proofs.Placing.{in_rest}
 use Rattle.image_entries.specs.Entries.{NoneBad}
-
--- a list behind others, the latest first
-abbrev pub onto : {X : Type 0} → List X → List X → List X
-onto [] earlier = earlier
-onto (x ∷ xs) earlier = onto xs (x ∷ earlier)
+use Rattle.image_entries.specs.Parts.{onto, before}
 
 module _ {X : Type 0} (bad : List X → X → Type 0) where
   pub none_append : (earlier xs ys : List X) → NoneBad bad earlier xs → NoneBad bad (onto xs earlier) ys → NoneBad bad earlier (xs ++ ys)
@@ -25,6 +23,28 @@ module _ {X : Type 0} (bad : List X → X → Type 0) where
   none_first earlier [] x h k = k
   none_first earlier (y ∷ ys) x h (inl k) = h.0 k.1
   none_first earlier (y ∷ ys) x h (inr k) = none_first (y ∷ earlier) ys x h.1 k.1
+
+-- ---- by the place in the list
+
+onto_append : {X : Type 0} (xs ys earlier : List X) → onto (xs ++ ys) earlier ≡ onto ys (onto xs earlier)
+onto_append [] ys earlier = refl
+onto_append (x ∷ xs) ys earlier = onto_append xs ys (x ∷ earlier)
+
+pub take_next : {X : Type 0} (xs : List X) (i : ℕ) (d : X) → i < length xs → take (i + 1) xs ≡ take i xs ++ get_or xs i d ∷ []
+take_next xs i d inside = ap (λ n. take n xs) (let e : i + 1 ≡ suc i = omega arith in e) ∙ take-suc xs i d inside
+
+-- one further
+pub before_next : {X : Type 0} (xs : List X) (i : ℕ) (d : X) → i < length xs → before (i + 1) xs ≡ get_or xs i d ∷ before i xs
+before_next {X} xs i d inside = ap (λ (ys : List X). onto ys []) (take_next xs i d inside) ∙ onto_append (take i xs) (get_or xs i d ∷ []) []
+
+module _ {X : Type 0} (bad : List X → X → Type 0) (xs : List X) (i : ℕ) (d : X) (inside : i < length xs) where
+  pub none_next : NoneBad bad [] (take i xs) → (bad (before i xs) (get_or xs i d) → ⊥) → NoneBad bad [] (take (i + 1) xs)
+  none_next h good = subst (λ (ys : List X). NoneBad bad [] ys) (sym (take_next xs i d inside)) (none_append bad [] (take i xs) (get_or xs i d ∷ []) h (good, tt))
+
+  pub first_here : NoneBad bad [] (take i xs) → bad (before i xs) (get_or xs i d) → FirstBad bad [] xs (get_or xs i d)
+  first_here h is =
+      let split : xs ≡ take i xs ++ get_or xs i d ∷ drop (suc i) xs = sym (take-append-drop i xs) ∙ ap (λ (ys : List X). take i xs ++ ys) (drop-cons xs i d inside) in
+      subst (λ (ys : List X). FirstBad bad [] ys (get_or xs i d)) (sym split) (first_after bad [] (take i xs) (get_or xs i d) (drop (suc i) xs) h is)
 
 -- ---- elements
 

@@ -15,7 +15,8 @@ use Rattle.txn_log.proofs.Placing.{in_rest}
 use Rattle.image_finding.specs.declared.fault.BadImage.{BadImage}
 use Rattle.image_entries.specs.declared.stored.StoredEntry.{StoredEntry}
 use Rattle.image_entries.specs.Entries.{held_of, found_at, HasEntries, IsTwice, Gathers, TellsTwice}
-use Rattle.image_entries.proofs.Firsts.{onto, none_append, first_after, in_onto, onto_has, of_one}
+use Rattle.image_entries.specs.Parts.{onto}
+use Rattle.image_entries.proofs.Firsts.{none_append, first_after, in_onto, onto_has, of_one}
 
 abbrev Entries : Type 0
 Entries = FinMap place_cmp StoredEntry

@@ -8,7 +8,8 @@ use Rattle.log_disk.specs.Bears.{page_entries}
 use Rattle.image_finding.specs.declared.fault.BadImage.{BadImage}
 use Rattle.image_finding.specs.declared.fault.FindFault.{FindFault}
 use Rattle.image_finding.specs.declared.fault.FindFault.TheVariants as faults
-use Rattle.image_finding.specs.Faults.{told_by}
+use Rattle.std.specs.Prelude.{Result, Ok, Err}
+use Rattle.image_finding.specs.Faults.{told_by, IfBad}
 use Rattle.image_entries.specs.declared.stored.StoredEntry.{StoredEntry}
 use Rattle.image_entries.specs.Entries.{found_at, Gathers, TellsTwice}
 use Rattle.image_entries.proofs.Gathering.{gathers_more, tells_twice}
@@ -18,6 +19,10 @@ pub told_so : (fault : FindFault) (P Q : BadImage → Type 0) → ((bad : BadIma
 told_so (faults.BadImage bad) P Q so h = so bad h
 told_so faults.DiskFault P Q so h = tt
 told_so faults.NoMemory P Q so h = tt
+
+pub bad_so : {A : Type 0} (r : Result A FindFault) (P Q : BadImage → Type 0) → ((bad : BadImage) → P bad → Q bad) → IfBad r P → IfBad r Q
+bad_so (Ok x) P Q so h = tt
+bad_so (Err fault) P Q so h = told_so fault P Q so h
 
 module _ (m : FinMap place_cmp StoredEntry) (fs : List Found) (place of i : ℕ) (page key value : List ℕ) (inside : i < length (entries page)) (of_is : of ≡ index_of page)
     (key_is : key ≡ (get_or (entries page) i no_entry).0) (value_is : value ≡ (get_or (entries page) i no_entry).1) (gathers : Gathers m (fs ++ found_first place page i)) where

@@ -10,6 +10,14 @@ pub(crate) const PAGES_FORMED: u8 = 9;
 
 pub(crate) const KEYS_APART: u8 = 10;
 
+pub(crate) const DEFINITIONS_READ: u8 = 11;
+
+/// The bytes of a part's key: the object number in four, and its own in two.
+pub(crate) const PART_KEY: usize = 6;
+
+/// The bytes of a full part of a definition's text.
+pub(crate) const PART_BYTES: usize = 1024;
+
 /// What was made, or want of memory as a fault.
 pub(crate) fn with_memory<T>(made: Result<T, NoMemory>) -> Result<T, FindFault>
     ensures made { IfOk result (λ value. made ≡ Ok value) }

@@ -9,7 +9,7 @@ ghost use Rattle.image_finding.specs.Faults.{IfBad, FindFaults};
 ghost use Rattle.image_finding.specs.Rules.{IsRefused};
 ghost use Rattle.image_finding.specs.Headers.{as_header, StandsUpTo};
 ghost use Rattle.image_finding.specs.Images.{HasImage};
-ghost use Rattle.image_entries.specs.Entries.{found_on, found_before, found_entries, HasEntries, Gathers, TellsTwice};
+ghost use Rattle.image_entries.specs.Entries.{found_on, found_before, found_entries, Gathers, TellsTwice};
 
 use crate::fault::PAGES_FORMED;
 use crate::stored::EntryMap;
@@ -116,8 +116,8 @@ pub fn gather_entries<D: Disk>(
     image: &FoundImage,
 ) -> Result<EntryMap, FindFault>
     requires disk { D.size_of disk.old ≡ 278528 + 2 * image.now.header.area_bytes + 16384 * image.now.header.pages }
-    // The map has just the entries of the stored pages.
-    ensures found { D.is_told → HasImage (D.seen disk.old) image.now → IfOk result (λ entries. HasEntries entries.entries (found_entries image.now (D.seen disk.old))) }
+    // The map has just the entries of the stored pages, of which no two have one place.
+    ensures found { D.is_told → HasImage (D.seen disk.old) image.now → IfOk result (λ entries. Gathers entries.entries (found_entries image.now (D.seen disk.old))) }
     // No rule up to 10 fails.
     ensures stands { D.is_told → HasImage (D.seen disk.old) image.now → OnOk result (StandsUpTo 10 (D.seen disk.old) (as_header image.now.header)) }
     // What is answered is the least rule that fails.

@@ -6,8 +6,13 @@
 
 mod fault;
 mod gather;
+mod keys;
+mod parts;
+mod read;
 mod stored;
 mod twice;
 
 pub use gather::gather_entries;
+pub use parts::Part;
+pub use read::read_parts;
 pub use stored::{EntryMap, StoredEntry};

@@ -17,7 +17,7 @@ returns-in_err-page-clause-refused g c = λ told has. let p = err_from_is_err_an
 
 pub returns-in-Ok-clause-found : goal.returns-in-Ok-clause-found
 returns-in-Ok-clause-found g c = λ told has.
-    (c.in-Ok.ensures.taken told (subst (λ m. Gathers m []) (sym c.new-entries.ensures.entries) gathers_none)).has
+    c.in-Ok.ensures.taken told (subst (λ m. Gathers m []) (sym c.new-entries.ensures.entries) gathers_none)
 
 pub returns-in-Ok-clause-stands : goal.returns-in-Ok-clause-stands
 returns-in-Ok-clause-stands g c = λ told has.

@@ -1,0 +1,18 @@
+use Rattle.std.proofs.Common.{◌≡◌, ◌+◌, ◌%◌, ◌^◌, sym, subst}
+use Rattle.std.proofs.lemmas.Bool.{false≢true}
+use Rattle.byteorder.specs.Endian.{big_number}
+use Rattle.image_entries.specs.Parts.{HasKey}
+use Rattle.image_entries.proofs.KeyNumbers.{no_key, next_there, next_so}
+use Rattle.image_entries.proofs.keys.begins_next.Goals as goal
+
+pub returns-then-one-ne-PART_KEY : goal.returns-then-one-ne-PART_KEY
+returns-then-one-ne-PART_KEY c = ((λ t. absurd (false≢true t)), (λ far. absurd (no_key c.args.one.now far.object far.part c.if-one-ne-PART_KEY.true far.first)))
+
+pub returns : goal.returns
+returns c =
+    let one = c.args.one.now in
+    let next = c.args.next.now in
+    let object : c.read_u32-object.result ≡ big_number 4 one = c.read_u32-object.ensures in (
+      (λ t. next_there one (λ i. (c.type_inv.one i).fits) c.if-one-ne-PART_KEY.false next (subst (λ n. HasKey next ((n + 1) % 2 ^ 32) 0) object (c.is_key.ensures.0 t))),
+      (λ far. c.is_key.ensures.1 (subst (λ n. HasKey next ((n + 1) % 2 ^ 32) 0) (sym object) (next_so one (λ i. (c.type_inv.one i).fits) c.if-one-ne-PART_KEY.false next far))),
+    )
