@@ -1,1 +1,4 @@
+pub mod Meeting
 pub mod Parsing
+pub mod PartLaws
+pub mod Shapes

@@ -1,7 +1,7 @@
 -- What clap makes of the words that are commands.
-use Rattle.std.proofs.Common.{◌≡◌, ◌≤◌, ◌<◌, ◌+◌, ◌-◌, ◌^◌, ◌%◌, ◌++◌, ◌∙◌, ℕ, zero, suc, List, [], ◌∷◌, Option, Some, None, true, false, refl, sym, ap, subst, codes, decimal, option_map, eqb, arith, rules, get_or}
+use Rattle.std.proofs.Common.{◌≡◌, ◌≢◌, ◌==◌, Bool, ◌≤◌, ◌<◌, ◌+◌, ◌-◌, ◌^◌, ◌%◌, ◌++◌, ◌∙◌, ℕ, zero, suc, List, [], ◌∷◌, Option, Some, None, true, false, refl, sym, ap, subst, codes, decimal, option_map, eqb, arith, rules, get_or}
 use Rattle.std.specs.Cmp.Lexicographic.{pointwise}
-use Rattle.std.proofs.lemmas.Bool.{eq-eqb, false≢true}
+use Rattle.std.proofs.lemmas.Bool.{eq-eqb, eqb-true}
 use Rattle.std.specs.Prelude.{IsSome, MatchOption}
 use Rattle.std.proofs.lemmas.Fmt.{decimal_by_steps, first_decimal}
 use Rattle.clap.specs.Words.{Row, Text, first_of, is_simple, subcommand_of, subcommand_rows_of, takes}
@@ -9,10 +9,9 @@ use Rattle.clap.specs.Matches.{subcommand_name_of}
 use Rattle.clap.specs.declared.parser.matches.ArgMatches.{ArgMatches}
 use Rattle.clap.specs.declared.parser.matches.ArgMatches.TheViews.{out-ArgMatches}
 use Rattle.clap.proofs.OnLiterals.{clap_on_literals}
-use Rattle.made_script.specs.declared.lines.TheConstants.{MOST_ROUNDS}
-use Rattle.command_words.specs.declared.asked.Asked.{Asked}
-use Rattle.command_words.specs.declared.asked.Asked.TheVariants as asked
-use Rattle.command_words.specs.Commands.{commands, IsFound}
+use Rattle.command_words.specs.Commands.{commands}
+use Rattle.command_words.specs.Init.{IsPlain}
+use Rattle.command_words.specs.Words.{IsFile}
 
 pub simple : is_simple commands ≡ true
 unfolding clap_on_literals
@@ -38,6 +37,32 @@ begins : (n : ℕ) → n < 2 ^ 64 → BeginsWithDigit (decimal n)
 begins = decimal_by_steps (λ n text. BeginsWithDigit text)
     (λ n less. record { digit = 48 + n; rest = []; most = omega (arith, less); is = refl })
     (λ n ds ten b. record { digit = b.digit; rest = b.rest ++ (48 + n % 10) ∷ []; most = b.most; is = ap (λ (xs : List ℕ). xs ++ (48 + n % 10) ∷ []) b.is })
+
+-- a number above 0 and FILE do not begin with `-`
+not_minus : (b : ℕ) → b ≢ 45 → (b == 45) ≡ false
+not_minus b ne = by (b == 45) refl
+  where
+    by : (t : Bool) → (b == 45) ≡ t → (b == 45) ≡ false
+    by true e = absurd (ne (eqb-true b 45 e))
+    by false e = e
+
+pub plain_number : (n : ℕ) → 1 ≤ n → n < 2 ^ 64 → IsPlain (decimal n)
+plain_number n least less =
+    let b = begins n less in
+    let above : 48 < b.digit = subst (λ (xs : List ℕ). 48 < get_or xs 0 0) b.is (first_decimal n (omega (arith, least)) less) in
+    subst IsPlain (sym b.is) (not_minus b.digit (λ e. omega (arith, e, above)))
+
+pub plain_file : (name : List ℕ) → IsFile name → IsPlain name
+plain_file [] here = absurd here
+plain_file (b ∷ bs) ne = not_minus b ne
+
+first_text : List (List ℕ) → List ℕ
+first_text [] = []
+first_text (x ∷ xs) = x
+
+pub same_head : (x y : List ℕ) → x ∷ [] ≡ y ∷ [] → x ≡ y
+unfolding first_text
+same_head x y e = ap first_text e
 
 one_of_nine : (P : ℕ → Type 0) → P 49 → P 50 → P 51 → P 52 → P 53 → P 54 → P 55 → P 56 → P 57 → (d : ℕ) → d < 9 → P (49 + d)
 one_of_nine P p1 p2 p3 p4 p5 p6 p7 p8 p9 zero less = p1
@@ -120,22 +145,8 @@ maps_twice : {A B C : Type 0} (f : A → B) (g : B → C) (o : Option A) → opt
 maps_twice f g None = refl
 maps_twice f g (Some x) = refl
 
-names_agree : (m : ArgMatches) → subcommand_name_of m ≡ option_map (λ p. p.0) (subcommand_rows_of m)
+pub names_agree : (m : ArgMatches) → subcommand_name_of m ≡ option_map (λ p. p.0) (subcommand_rows_of m)
 names_agree m = maps_twice _ (λ (p : Text × List Row). p.0) (out-ArgMatches m).subcommand
-
--- a number was found where the name is not `script`
-pub record FoundNumber (what : Asked) (value : Option Text) : Type 0 where
-  pub number : ℕ
-  pub least : 1 ≤ number
-  pub most : number ≤ MOST_ROUNDS
-  pub what_is : what ≡ asked.Make number
-  pub value_is : value ≡ Some (decimal number)
-
-pub number_found : (m : ArgMatches) (what : Asked) (name : Text) (rows : List Row) → IsFound m what → Some name ≡ subcommand_name_of m → Some rows ≡ option_map (λ p. p.1) (subcommand_rows_of m)
-    → pointwise eqb name (codes "script") ≡ false → FoundNumber what (first_of (codes "NUMBER") rows)
-number_found m asked.Script name rows f named r other = absurd (false≢true (sym other ∙ same_bytes name (codes "script") (same_value name (codes "script") (named ∙ names_agree m ∙ f))))
-number_found m (asked.Make number) name rows f named r other =
-    record { number = number; least = f.0; most = f.1; what_is = refl; value_is = value_met (subcommand_rows_of m) rows (codes "make") (decimal number) f.2 r }
 
 pub is_value : {A B : Type 0} (f : A → B) (r : Option A) (y : B) → option_map f r ≡ Some y → IsSome r
 is_value f None y e = absurd (cc)

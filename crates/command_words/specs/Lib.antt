@@ -1,2 +1,4 @@
-pub mod Words
 pub mod Commands
+pub mod Init
+pub mod Parts
+pub mod Words

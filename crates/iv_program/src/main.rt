@@ -1,8 +1,11 @@
-//! The program `iv`: it makes the real source and sink, and `view_server::run` does the rest.
+//! The program `iv`: it makes the real outside, source and sink, and `view_server::run` does the rest.
 #![tactic(auto)]
+
+mod real;
 
 use iv_types::NoMemory;
 use line_wire::{StdSink, StdSource};
+use real::RealOutside;
 use std::env;
 use std::io::ErrorKind;
 use std::process::ExitCode;
@@ -29,9 +32,10 @@ fn words(rt: &HostRuntime) -> Result<Vec<String>, NoMemory> {
 fn main(rt: HostRuntime) -> ExitCode {
     let status = match words(&rt) {
         Ok(words) => {
+            let mut outside = RealOutside::new(&rt);
             let mut source = StdSource::new(rt.stdin());
             let mut sink = StdSink::new(rt.stdout());
-            run(rt.alloc(), &words, &mut source, &mut sink)
+            run(rt.alloc(), &words, &mut outside, &mut source, &mut sink)
         }
         Err(NoMemory) => Status::NoMemory,
     };

@@ -4,9 +4,10 @@
 //! sink fail in a script of 40,000 lines `x`, whose replies have 17 bytes each; `asked:` which call of the sink fails in
 //! a script of one line; `lines:` what is read of an input, line by line, or how many bytes that is; `reads:` how often a
 //! view of many rows is read (`reads`); `made:` the words of the command and which call of the sink fails, where the first
-//! call of the source would fail.
+//! call of the source would fail; `init:` the words of the command, the name of a disk, and which calls of the outside, of its
+//! disk and of the sink fail, where the first call of the source would fail.
 use crate::reads::of_reads;
-use crate::running::{Ended, asked, lines_read, run_words};
+use crate::running::{Ended, Failing, Initiated, asked, lines_read, run_init, run_words};
 use anyhow::bail;
 use case_text::{expanded, unescaped, write_escaped};
 use std::alloc::Global;
@@ -44,6 +45,39 @@ fn of_made(alloc: Global, asked: &str) -> anyhow::Result<String> {
         return Ok(format!(in alloc; "{status:?} and nothing")?);
     }
     write_ended(alloc, &found)
+}
+
+fn of_init(alloc: Global, asked: &str) -> anyhow::Result<String> {
+    let Some((texts, rest)) = asked.split_once("`, ") else {
+        bail!("no words")
+    };
+    let texts = texts.strip_prefix('`').unwrap_or(texts);
+    let Some((name, rest)) = rest.split_once(", ") else {
+        bail!("no name")
+    };
+    let Some((outside, rest)) = rest.split_once(", ") else {
+        bail!("no calls")
+    };
+    let Some((disk, write)) = rest.split_once(", ") else {
+        bail!("no calls")
+    };
+    let failing = Failing {
+        outside: number_behind(outside, "outside ")?,
+        disk: number_behind(disk, "disk ")?,
+        write: number_behind(write, "write ")?,
+    };
+    let Initiated {
+        ended,
+        size,
+        faults,
+    } = run_init(alloc, texts, name, failing)?;
+    let mut out = write_ended(alloc, &ended)?;
+    match size {
+        Some(size) => out.push_str(format!(in alloc; ", {size} bytes")?.as_str())?,
+        None => out.push_str(", no disk")?,
+    }
+    out.push_str(format!(in alloc; ", {faults} faults")?.as_str())?;
+    Ok(out)
 }
 
 // So many lines of two bytes.
@@ -118,6 +152,7 @@ pub fn answer(alloc: Global, table: &str, asked: &str) -> anyhow::Result<String>
         "faults" => of_faults(alloc, asked),
         "asked" => of_asked(alloc, asked),
         "made" => of_made(alloc, asked),
+        "init" => of_init(alloc, asked),
         "lines" => of_lines(alloc, asked),
         "reads" => of_reads(alloc, asked),
         _ => bail!("no kind of rows"),

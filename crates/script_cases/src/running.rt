@@ -1,6 +1,8 @@
 //! A script run on a source and a sink in memory.
+use disk_io::Disk;
 use iv_types::{CallList, Failed, Sequence};
 use line_wire::{Line, LineBuffer, ListSink, ListSource, Source, read_line};
+use outside::ListOutside;
 use std::alloc::Global;
 use view_server::{Status, run};
 
@@ -30,6 +32,11 @@ fn source(alloc: Global, input: &[u8], failing: u64) -> anyhow::Result<ListSourc
     Ok(ListSource::new(Sequence::from_vec(input), calls(alloc, failing)?))
 }
 
+// An outside without disks, of which this call fails, and this call of its disks.
+fn outside(alloc: Global, disk_failing: u64, failing: u64) -> anyhow::Result<ListOutside> {
+    Ok(ListOutside::new(alloc, ROOM, calls(alloc, disk_failing)?, calls(alloc, failing)?))
+}
+
 /// How a run ended, and what it wrote.
 #[derive(Drop)]
 pub struct Ended {
@@ -45,7 +52,8 @@ fn run_to_end(
     mut sink: ListSink,
 ) -> anyhow::Result<Ended> {
     let words = words(alloc, texts)?;
-    let status = run(alloc, &words, &mut source, &mut sink);
+    let mut outside = outside(alloc, 0, 0)?;
+    let status = run(alloc, &words, &mut outside, &mut source, &mut sink);
     let written = sink.written().to_vec(alloc)?;
     Ok(Ended { status, written })
 }
@@ -76,6 +84,47 @@ pub fn run_script(alloc: Global, input: &[u8], room: u64) -> anyhow::Result<Ende
     let source = source(alloc, input, 0)?;
     let sink = ListSink::new(alloc, room, calls(alloc, 0)?)?;
     run_to_end(alloc, "script -", source, sink)
+}
+
+/// Which calls fail, counted from 1; 0 for none.
+#[derive(Clone, Copy)]
+pub struct Failing {
+    pub outside: u64,
+    pub disk: u64,
+    pub write: u64,
+}
+
+/// What came of a new database: how the run ended, and how many bytes the disk of a name has, if one lies there.
+#[derive(Drop)]
+pub struct Initiated {
+    pub ended: Ended,
+    pub size: Option<u64>,
+    pub faults: u64,
+}
+
+/// Runs the program with these words, where the source fails at its first call, and looks for a disk.
+///
+/// # Errors
+///
+/// Where memory is wanting.
+pub fn run_init(
+    alloc: Global,
+    texts: &str,
+    name: &str,
+    failing: Failing,
+) -> anyhow::Result<Initiated> {
+    let words = words(alloc, texts)?;
+    let mut source = source(alloc, b"1: HELLO\n", 1)?;
+    let mut sink = ListSink::new(alloc, ROOM, calls(alloc, failing.write)?)?;
+    let mut outside = outside(alloc, failing.disk, failing.outside)?;
+    let status = run(alloc, &words, &mut outside, &mut source, &mut sink);
+    let written = sink.written().to_vec(alloc)?;
+    let size = outside.disk(name).map(|disk| disk.size());
+    Ok(Initiated {
+        ended: Ended { status, written },
+        size,
+        faults: outside.faults(),
+    })
 }
 
 // A source that counts how often it is asked, and tells nothing.
@@ -110,7 +159,8 @@ pub fn asked(alloc: Global, input: &[u8], write: u64) -> anyhow::Result<(Status,
         asked: 0,
     };
     let mut sink = ListSink::new(alloc, ROOM, calls(alloc, write)?)?;
-    let status = run(alloc, &words, &mut source, &mut sink);
+    let mut outside = outside(alloc, 0, 0)?;
+    let status = run(alloc, &words, &mut outside, &mut source, &mut sink);
     Ok((status, source.asked))
 }
 

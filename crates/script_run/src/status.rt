@@ -13,6 +13,8 @@ pub enum Status {
     ReadFault,
     /// The sink failed.
     WriteFault,
+    /// A disk could not be opened or made, or it failed.
+    DiskFault,
     /// There was no memory outside a statement.
     NoMemory,
     /// All the bytes that may be taken from a source were taken.
@@ -29,6 +31,7 @@ impl Status {
             Status::Usage => 1,
             Status::ReadFault => 2,
             Status::WriteFault => 3,
+            Status::DiskFault => 4,
             Status::NoMemory => 6,
             Status::TooMuch => 8,
         }

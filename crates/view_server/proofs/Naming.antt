@@ -1,12 +1,76 @@
--- Words name one number of rounds.
-use Rattle.std.proofs.Common.{◌≡◌, ◌∙◌, ℕ, List, [], ◌∷◌, ap, arith, sym}
+-- Words ask for one thing alone.
+use Rattle.std.proofs.Common.{◌≡◌, ℕ, List, [], ap, arith}
 use Rattle.std.specs.Prelude.{String}
-use Rattle.std.proofs.lemmas.Fmt.{decimal_injective}
-use Rattle.command_words.specs.Words.{IsMake}
+use Rattle.command_words.specs.Words.{Wanted, a_script, rounds, database, AsksFor, IsScript, IsMake, IsInit}
 
-abbrev second : List (List ℕ) → List ℕ
-second (a ∷ b ∷ words) = b
-second _ = []
+number_in : Wanted → ℕ
+number_in a_script = 0
+number_in (rounds n) = n
+number_in (database name p l) = 0
 
-pub one_number : {A : Type 0} (a b : ℕ) (words : List (String A)) → IsMake a words → IsMake b words → a ≡ b
-one_number a b words x y = decimal_injective a b (omega (arith, x.most)) (omega (arith, y.most)) (ap second (sym x.are ∙ y.are))
+name_in : Wanted → List ℕ
+name_in a_script = []
+name_in (rounds n) = []
+name_in (database name p l) = name
+
+pages_of : Wanted → ℕ
+pages_of a_script = 0
+pages_of (rounds n) = 0
+pages_of (database name p l) = p
+
+log_of : Wanted → ℕ
+log_of a_script = 0
+log_of (rounds n) = 0
+log_of (database name p l) = l
+
+kind_of_wanted : Wanted → ℕ
+kind_of_wanted a_script = 0
+kind_of_wanted (rounds n) = 1
+kind_of_wanted (database name p l) = 2
+
+-- the words ask for this and for nothing else
+abbrev pub Only : {A : Type 0} → Wanted → List (String A) → Type 0
+Only wanted words = (other : Wanted) → AsksFor other words → wanted ≡ other
+
+module _ {A : Type 0} {words : List (String A)} where
+  pub one_number : (a b : ℕ) → Only (rounds a) words → IsMake b words → a ≡ b
+  unfolding number_in
+  one_number a b only make = ap number_in (only (rounds b) make)
+
+  pub script_not_make : (b : ℕ) → Only a_script words → IsMake b words → ⊥
+  unfolding kind_of_wanted
+  script_not_make b only make = let e : 0 ≡ 1 = ap kind_of_wanted (only (rounds b) make) in absurd (omega (arith, e))
+
+  pub script_not_init : (n : List ℕ) (p l : ℕ) → Only a_script words → IsInit n p l words → ⊥
+  unfolding kind_of_wanted
+  script_not_init n p l only init = let e : 0 ≡ 2 = ap kind_of_wanted (only (database n p l) init) in absurd (omega (arith, e))
+
+  pub make_not_script : (a : ℕ) → Only (rounds a) words → IsScript words → ⊥
+  unfolding kind_of_wanted
+  make_not_script a only script = let e : 1 ≡ 0 = ap kind_of_wanted (only a_script script) in absurd (omega (arith, e))
+
+  pub make_not_init : (a : ℕ) (n : List ℕ) (p l : ℕ) → Only (rounds a) words → IsInit n p l words → ⊥
+  unfolding kind_of_wanted
+  make_not_init a n p l only init = let e : 1 ≡ 2 = ap kind_of_wanted (only (database n p l) init) in absurd (omega (arith, e))
+
+  pub init_not_script : (m : List ℕ) (q k : ℕ) → Only (database m q k) words → IsScript words → ⊥
+  unfolding kind_of_wanted
+  init_not_script m q k only script = let e : 2 ≡ 0 = ap kind_of_wanted (only a_script script) in absurd (omega (arith, e))
+
+  pub init_not_make : (m : List ℕ) (q k b : ℕ) → Only (database m q k) words → IsMake b words → ⊥
+  unfolding kind_of_wanted
+  init_not_make m q k b only make = let e : 2 ≡ 1 = ap kind_of_wanted (only (rounds b) make) in absurd (omega (arith, e))
+
+  -- the name and the sizes are the ones that were asked for
+  pub record SameSizes (m n : List ℕ) (q p k l : ℕ) : Type 0 where
+    pub name : m ≡ n
+    pub pages : q ≡ p
+    pub log : k ≡ l
+
+  pub one_database : (m n : List ℕ) (q p k l : ℕ) → Only (database m q k) words → IsInit n p l words → SameSizes m n q p k l
+  unfolding name_in pages_of log_of
+  one_database m n q p k l only init = record {
+    name = ap name_in (only (database n p l) init);
+    pages = ap pages_of (only (database n p l) init);
+    log = ap log_of (only (database n p l) init);
+  }

@@ -1,6 +1,7 @@
-//! The program's top call: its words, scripts, and the large script that it makes itself.
+//! The program's top call: its words, new databases on disks, scripts, and the large script that it makes itself.
 #![tactic(auto)]
 
+mod init;
 mod script;
 
 pub use script::run;

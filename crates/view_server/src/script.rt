@@ -9,26 +9,27 @@ ghost use Rattle.engine_core.specs.Standing.{IsIn};
 ghost use Rattle.iv_meaning.specs.Database.{created};
 ghost use Rattle.script_run.specs.Run.{Output, Taken, SourceFaults, SinkFaults};
 ghost use Rattle.script_run.specs.Summary.{Made, EndsMade};
-ghost use Rattle.command_words.specs.Words.{IsScript, IsMake, IsCommand};
+ghost use Rattle.command_words.specs.Words.{IsScript, IsMake, IsInit, IsCommand};
+ghost use Rattle.outside.specs.Outside.{OthersStay};
 ghost use Rattle.view_server.specs.declared.script.TheConstants.{DATA_LIMIT};
+ghost use Rattle.view_server.specs.Init.{DiskFaults, EndsInit, HasBlank, IsMade, ToldInit};
 ghost use Rattle.view_server.specs.Usage.{ToldUsage};
 
-use command_words::{Asked, is_command, read_words};
+use crate::init::init;
+use command_words::{Asked, DEFAULT_PAGES, is_command, read_words};
 use engine_core::Core;
 use iv_types::NoMemory;
 use line_wire::{Sink, Source, write_all};
 use ordered_index::PageMaps;
+use outside::Outside;
 use script_run::{Status, run_lines, run_made};
 use std::alloc::Global;
 use txn_machine::steps::empty_law;
 
 const USAGE: &[u8] = b"usage: iv init FILE, script FILE, serve FILE, make NUMBER\n";
 
-/// The pages of a new database.
-const PAGES: u32 = 4096;
-
 /// What the data of a new database may count, in bytes: 1,200 for each page but 256.
-const DATA_LIMIT: u32 = (PAGES - 256) * 1200;
+const DATA_LIMIT: u32 = (DEFAULT_PAGES - 256) * 1200;
 
 // Lets an engine go. Its drop is proved here alone.
 fn let_go(engine: Core<PageMaps>) {
@@ -39,7 +40,7 @@ fn let_go(engine: Core<PageMaps>) {
 fn new_engine(alloc: Global) -> Result<Core<PageMaps>, NoMemory>
     ensures { IfOk result (λ engine. IsIn map_of spare_of limit_of engine (opened_state (limited (Some DATA_LIMIT)) (opened created empty))) }
 {
-    let maps = PageMaps::new(alloc, PAGES)?;
+    let maps = PageMaps::new(alloc, DEFAULT_PAGES)?;
     Core::new(alloc, maps, Some(DATA_LIMIT), 0)
 }
 
@@ -52,6 +53,7 @@ fn run_on<S: Source, K: Sink>(
 ) -> Status
     requires { IsIn map_of spare_of limit_of engine.old (opened_state (limited (Some DATA_LIMIT)) (opened created empty)) }
     ensures command { result ≢ Status.Usage }
+    ensures disks { result ≢ Status.DiskFault }
     ensures output { (input before : List ℕ) → S.left source.old ≡ Some input → K.written sink.old ≡ Some before → Output created result input before (S.left source.new) (K.written sink.new) }
     ensures taken { (input : List ℕ) → S.left source.old ≡ Some input → Taken result input (S.left source.new) }
     ensures source_faults { SourceFaults result (S.faults source.old) (S.faults source.new) }
@@ -64,6 +66,7 @@ fn run_on<S: Source, K: Sink>(
 // Runs the lines of a source on a new database.
 fn run_script<S: Source, K: Sink>(alloc: Global, source: &mut S, sink: &mut K) -> Status
     ensures command { result ≢ Status.Usage }
+    ensures disks { result ≢ Status.DiskFault }
     ensures output { (input before : List ℕ) → S.left source.old ≡ Some input → K.written sink.old ≡ Some before → Output created result input before (S.left source.new) (K.written sink.new) }
     ensures taken { (input : List ℕ) → S.left source.old ≡ Some input → Taken result input (S.left source.new) }
     ensures source_faults { SourceFaults result (S.faults source.old) (S.faults source.new) }
@@ -110,10 +113,13 @@ fn make<K: Sink>(alloc: Global, sink: &mut K, number: u32) -> Status
 
 /// Does what the program's words, without its name, ask for. For `script -` the lines of the source are run as a script, and the
 /// replies go to the sink; they wait until the source is to be asked for more, or until they fill a buffer. For `make NUMBER`
-/// the made script of so many rounds is run, and its summary goes to the sink; nothing is taken from the source.
-pub fn run<S: Source, K: Sink>(
+/// the made script of so many rounds is run, and its summary goes to the sink. For `init FILE` a new database is made on the disk
+/// FILE of the outside, and its sizes go to the sink. Nothing is taken from the source but for a script, and nothing is asked of
+/// the outside but for `init`.
+pub fn run<O: Outside, S: Source, K: Sink>(
     alloc: Global,
     words: &[String],
+    outside: &mut O,
     source: &mut S,
     sink: &mut K,
 ) -> Status
@@ -124,14 +130,25 @@ pub fn run<S: Source, K: Sink>(
     // A script: where the source tells its bytes and the sink what was written, the output is that of the input, on a database
     // that is empty at first.
     ensures output { IsScript words.now → (input before : List ℕ) → S.left source.old ≡ Some input → K.written sink.old ≡ Some before → Output created result input before (S.left source.new) (K.written sink.new) }
-    ensures taken { ((number : ℕ) → ¬ (IsMake number words.now)) → (input : List ℕ) → S.left source.old ≡ Some input → Taken result input (S.left source.new) }
+    ensures taken { IsScript words.now → (input : List ℕ) → S.left source.old ≡ Some input → Taken result input (S.left source.new) }
 
     // A made script: what is written is the summary of a run of its lines, on a database that is empty at first.
     ensures made { (number : ℕ) → IsMake number words.now → (before : List ℕ) → K.written sink.old ≡ Some before → Made created result number before (K.written sink.new) }
     ensures made_status { (number : ℕ) → IsMake number words.now → EndsMade result }
-    ensures untouched { (number : ℕ) → IsMake number words.now → source.new ≡ source.old }
+
+    // A new database: its sizes are told, and where the outside tells its disks, the disk of that name bears a database of these
+    // sizes that defines nothing, and a crash leaves nothing else of it.
+    ensures init { (file : List ℕ) (pages log_kib : ℕ) → IsInit file pages log_kib words.now → (before : List ℕ) → K.written sink.old ≡ Some before → ToldInit result pages log_kib before (K.written sink.new) }
+    ensures init_status { (file : List ℕ) (pages log_kib : ℕ) → IsInit file pages log_kib words.now → EndsInit result }
+    ensures blank { O.is_told → O.Disk.is_told → (file : List ℕ) (pages log_kib : ℕ) → IsInit file pages log_kib words.now → IsMade result → HasBlank O.Disk.seen O.Disk.may_leave (O.lies outside.new file) pages log_kib }
+    ensures other_disks { O.is_told → (file : List ℕ) (pages log_kib : ℕ) → IsInit file pages log_kib words.now → OthersStay file (O.lies outside.old) (O.lies outside.new) }
+
+    // Only a script takes from the source, and only `init` asks for a disk.
+    ensures untouched { (IsScript words.now → ⊥) → source.new ≡ source.old }
+    ensures no_disks { ((file : List ℕ) (pages log_kib : ℕ) → IsInit file pages log_kib words.now → ⊥) → outside.new ≡ outside.old }
 
     // A fault is told only where there was one.
+    ensures disk_faults { DiskFaults result (O.faults outside.old) (O.faults outside.new) }
     ensures source_faults { SourceFaults result (S.faults source.old) (S.faults source.new) }
     ensures sink_faults { SinkFaults result (K.faults sink.old) (K.faults sink.new) }
 {
@@ -142,6 +159,7 @@ pub fn run<S: Source, K: Sink>(
     match read_words(alloc, words) {
         Ok(Asked::Script) => run_script(alloc, source, sink),
         Ok(Asked::Make(number)) => make(alloc, sink, number),
+        Ok(Asked::Init(database)) => init(alloc, outside, sink, &database),
         Err(NoMemory) => Status::NoMemory,
     }
 }

@@ -15,5 +15,7 @@ returns c =
     ap app_of_fields c.no_binary_name.ensures ∙ ap (on_top (λ s. record s { no_binary_name = true })) c.new-5.ensures.app in
     let script_local : (fields_of c.in_ok-script.script).has_globals ≡ false = search rules in
     let make_local : (fields_of c.in_ok-make.make).has_globals ≡ false = search rules in
-    c.in_ok-program.ensures.shape make_local
-    ∙ ap₂ with_subcommand (c.in_ok-subcommand.ensures.shape script_local ∙ ap₂ with_subcommand name_is (ap (λ (a : App). a.top) script_is)) (ap (λ (a : App). a.top) make_is)
+    let init_local : (fields_of c.in_ok-init.init).has_globals ≡ false = c.in_ok-init.ensures.local in
+    let two = c.in_ok-subcommand-2.ensures.shape make_local
+    ∙ ap₂ with_subcommand (c.in_ok-subcommand.ensures.shape script_local ∙ ap₂ with_subcommand name_is (ap (λ (a : App). a.top) script_is)) (ap (λ (a : App). a.top) make_is) in
+    c.in_ok-program.ensures.shape init_local ∙ ap₂ with_subcommand two (ap (λ (a : App). a.top) c.in_ok-init.ensures.app)
