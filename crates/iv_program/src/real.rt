@@ -21,7 +21,11 @@ pub struct RealOutside<'a, R> {
 impl<'a, R: Files<File = File>> RealOutside<'a, R> {
     /// An outside without faults as yet.
     pub fn new(rt: &'a R) -> Self {
-        RealOutside { rt, lock: None, faults: 0 }
+        RealOutside {
+            rt,
+            lock: None,
+            faults: 0,
+        }
     }
 
     // Locks a file, which is made where it is not there and may be.

@@ -34,7 +34,12 @@ fn source(alloc: Global, input: &[u8], failing: u64) -> anyhow::Result<ListSourc
 
 // An outside without disks, of which this call fails, and this call of its disks.
 fn outside(alloc: Global, disk_failing: u64, failing: u64) -> anyhow::Result<ListOutside> {
-    Ok(ListOutside::new(alloc, ROOM, calls(alloc, disk_failing)?, calls(alloc, failing)?))
+    Ok(ListOutside::new(
+        alloc,
+        ROOM,
+        calls(alloc, disk_failing)?,
+        calls(alloc, failing)?,
+    ))
 }
 
 /// How a run ended, and what it wrote.

@@ -1,7 +1,11 @@
 -- Words ask for one thing alone.
-use Rattle.std.proofs.Common.{◌≡◌, ℕ, List, [], ap, arith}
+use Rattle.std.proofs.Common.{◌≡◌, ℕ, List, [], ap, arith, subst}
 use Rattle.std.specs.Prelude.{String}
-use Rattle.command_words.specs.Words.{Wanted, a_script, rounds, database, AsksFor, IsScript, IsMake, IsInit}
+use Rattle.command_words.specs.Words.{Wanted, a_script, rounds, database, wanted_of, AsksFor, HasBounds, IsScript, IsMake, IsInit}
+use Rattle.command_words.specs.declared.asked.Asked.{Asked}
+use Rattle.command_words.specs.declared.asked.Asked.TheVariants as asked
+use Rattle.command_words.specs.declared.asked.NewDatabase.{NewDatabase}
+use Rattle.recovery.specs.Formatted.{IsGeometry}
 
 number_in : Wanted → ℕ
 number_in a_script = 0
@@ -32,6 +36,12 @@ kind_of_wanted (database name p l) = 2
 abbrev pub Only : {A : Type 0} → Wanted → List (String A) → Type 0
 Only wanted words = (other : Wanted) → AsksFor other words → wanted ≡ other
 
+-- the name and the sizes are the ones that were asked for
+pub record SameSizes (m n : List ℕ) (q p k l : ℕ) : Type 0 where
+  pub name : m ≡ n
+  pub pages : q ≡ p
+  pub log : k ≡ l
+
 module _ {A : Type 0} {words : List (String A)} where
   pub one_number : (a b : ℕ) → Only (rounds a) words → IsMake b words → a ≡ b
   unfolding number_in
@@ -61,12 +71,6 @@ module _ {A : Type 0} {words : List (String A)} where
   unfolding kind_of_wanted
   init_not_make m q k b only make = let e : 2 ≡ 1 = ap kind_of_wanted (only (rounds b) make) in absurd (omega (arith, e))
 
-  -- the name and the sizes are the ones that were asked for
-  pub record SameSizes (m n : List ℕ) (q p k l : ℕ) : Type 0 where
-    pub name : m ≡ n
-    pub pages : q ≡ p
-    pub log : k ≡ l
-
   pub one_database : (m n : List ℕ) (q p k l : ℕ) → Only (database m q k) words → IsInit n p l words → SameSizes m n q p k l
   unfolding name_in pages_of log_of
   one_database m n q p k l only init = record {
@@ -74,3 +78,13 @@ module _ {A : Type 0} {words : List (String A)} where
     pages = ap pages_of (only (database n p l) init);
     log = ap log_of (only (database n p l) init);
   }
+
+  -- and so of what was read
+  pub sizes_asked : (read : Asked) (new : NewDatabase) (n : List ℕ) (p l : ℕ) → read ≡ asked.Init new → Only (wanted_of read) words → IsInit n p l words → SameSizes new.file.now n new.pages p new.log_kib l
+  sizes_asked read new n p l e only init = one_database new.file.now n new.pages p new.log_kib l (subst (λ (a : Asked). Only (wanted_of a) words) e only) init
+
+-- the bounds of a new database that was read are those of a disk
+pub geometry_of : (read : Asked) (new : NewDatabase) → read ≡ asked.Init new → HasBounds (wanted_of read) → IsGeometry new.pages new.log_kib
+geometry_of read new e bounds =
+    let b = subst (λ (a : Asked). HasBounds (wanted_of a)) e bounds in
+    record { least_pages = b.0; most_pages = b.1; least_log = b.2; most_log = b.3 }

@@ -6,7 +6,7 @@ use Rattle.line_wire.specs.Wire.{WroteFront}
 use Rattle.log_disk.specs.Bears.{Bears}
 use Rattle.recovery.specs.Formatted.{area_bytes, blank}
 use Rattle.script_run.specs.declared.status.Status.{Status}
-use Rattle.script_run.specs.declared.status.Status.TheVariants.{Done, Usage, ReadFault, WriteFault, DiskFault, NoMemory, TooMuch}
+use Rattle.script_run.specs.declared.status.Status.TheVariants.{Done, WriteFault, DiskFault, NoMemory}
 
 -- the line that tells the sizes of a database that was made
 abbrev pub init_line : ℕ → ℕ → List ℕ

@@ -61,8 +61,9 @@ pub fn init<O: Outside, K: Sink>(
     ensures disk_faults { DiskFaults result (O.faults outside.old) (O.faults outside.new) }
     ensures sink_faults { SinkFaults result (K.faults sink.old) (K.faults sink.new) }
 {
-    let Ok(line) = told_line(alloc, asked.pages, asked.log_kib) else {
-        return Status::NoMemory;
+    let line = match told_line(alloc, asked.pages, asked.log_kib) {
+        Ok(line) => line,
+        Err(NoMemory) => return Status::NoMemory,
     };
     match make_database(alloc, outside, asked.file, asked.pages, asked.log_kib) {
         Ok(()) => match write_all(sink, &line) {

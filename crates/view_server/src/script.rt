@@ -116,6 +116,7 @@ fn make<K: Sink>(alloc: Global, sink: &mut K, number: u32) -> Status
 /// the made script of so many rounds is run, and its summary goes to the sink. For `init FILE` a new database is made on the disk
 /// FILE of the outside, and its sizes go to the sink. Nothing is taken from the source but for a script, and nothing is asked of
 /// the outside but for `init`.
+#[tactic(auto, using(crate::proofs::Naming::geometry_of))]
 pub fn run<O: Outside, S: Source, K: Sink>(
     alloc: Global,
     words: &[String],
