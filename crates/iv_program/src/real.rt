@@ -1,5 +1,6 @@
 //! The real outside: disks in files.
-ghost use Rattle.std.specs.Prelude.{◌<◌, ◌^◌, None};
+ghost use Rattle.std.specs.Prelude.{◌≡◌, ◌<◌, ◌^◌, None, IfOk};
+ghost use Rattle.disk_io.specs.File.{file_faults, file_size};
 
 use disk_io::{Disk, FileDisk};
 use iv_types::Failed;
@@ -41,14 +42,21 @@ impl<'a, R: Files<File = File>> RealOutside<'a, R> {
         Ok(file)
     }
 
-    fn open(&mut self, name: &str) -> Result<FileDisk, Failed> {
+    fn open(&mut self, name: &str) -> Result<FileDisk, Failed>
+        ensures no_faults { IfOk result (λ disk. file_faults disk ≡ 0) }
+        ensures uncounted { self.new.faults ≡ self.old.faults }
+    {
         let lock = self.lock(name, false)?;
         let disk = FileDisk::open(self.rt, name)?;
         self.lock = Some(lock);
         Ok(disk)
     }
 
-    fn create(&mut self, name: &str, bytes: u64) -> Result<FileDisk, Failed> {
+    fn create(&mut self, name: &str, bytes: u64) -> Result<FileDisk, Failed>
+        ensures no_faults { IfOk result (λ disk. file_faults disk ≡ 0) }
+        ensures size { IfOk result (λ disk. file_size disk ≡ bytes) }
+        ensures uncounted { self.new.faults ≡ self.old.faults }
+    {
         let lock = self.lock(name, true)?;
         let disk = FileDisk::create(self.rt, name, bytes)?;
         self.lock = Some(lock);
