@@ -120,6 +120,11 @@ fn write_refusal(out: &mut String, refusal: &EngineRefusal) -> anyhow::Result<()
             write!(out, "Escrow {column} {inf} {sup}")?;
         }
         EngineRefusal::TxnFull { kept, need } => write!(out, "TxnFull {kept} {need}")?,
+        EngineRefusal::LogFull {
+            used,
+            reserved,
+            need,
+        } => write!(out, "LogFull {used} {reserved} {need}")?,
         EngineRefusal::DataFull { used, need } => write!(out, "DataFull {used} {need}")?,
         EngineRefusal::HistoryFull { kept, need } => write!(out, "HistoryFull {kept} {need}")?,
         EngineRefusal::SchemaBusy(session) => write!(out, "SchemaBusy {session}")?,

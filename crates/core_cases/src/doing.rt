@@ -4,6 +4,7 @@
 //! `kept SESSION` to the number of steps that its transaction keeps, `none` where none is open, and `refused SESSION` to its
 //! last refusal with the number of its step. A step that may not be asked for ends the program.
 ghost use Rattle.std.specs.Prelude.{◌≤◌, IfOk};
+ghost use Rattle.txn_machine.specs.Log.{Within};
 ghost use Rattle.core_cases.specs.Asking.{IsStanding, IsSpelt};
 
 use crate::answers::{answer_text, refusal_text};
@@ -23,12 +24,34 @@ const PAGES: u32 = 768;
 /// What its data may count, in bytes: 1,200 for each page but 256.
 const DATA_LIMIT: u32 = (PAGES - 256) * 1200;
 
-// A core that has nothing.
-fn new_core(alloc: Global) -> anyhow::Result<Core<PageMaps>>
+// The bytes of an area of a log, which holds an empty block.
+fn log_bytes(text: &str) -> anyhow::Result<u32>
+    ensures { IfOk result (λ bytes. 6 ≤ bytes) }
+{
+    let bytes = text.parse::<u32>()?;
+    if bytes < 6 {
+        bail!("no log");
+    }
+    Ok(bytes)
+}
+
+// A core that has nothing, with a limit of its log or without one.
+fn new_core(alloc: Global, log: Option<u32>) -> anyhow::Result<Core<PageMaps>>
+    requires { Within log 6 }
     ensures { IfOk result IsStanding }
 {
     let maps = PageMaps::new(alloc, PAGES)?;
-    Ok(Core::new(alloc, maps, Some(DATA_LIMIT), 0)?)
+    Ok(Core::new(alloc, maps, log, DATA_LIMIT, 0)?)
+}
+
+// The same, with the limit of its log that is given, if one is.
+fn core_with(alloc: Global, log: &str) -> anyhow::Result<Core<PageMaps>>
+    ensures { IfOk result IsStanding }
+{
+    match log {
+        "" => new_core(alloc, None),
+        _ => new_core(alloc, Some(log_bytes(log)?)),
+    }
 }
 
 // The number of a session.
@@ -170,18 +193,20 @@ fn last_text(
     all_text(alloc, core, calls)
 }
 
-/// What calls come to, on a new core, after those that are given and those of the rows before.
+/// What calls come to, on a new core, after those that are given and those of the rows before. An area of the core's log takes so
+/// many bytes, or any, where no number is given.
 ///
 /// # Errors
 ///
 /// Where one is no call, or a step that may not be asked for.
 pub fn last_answer(
     alloc: Global,
+    log: &str,
     given: &str,
     before: &str,
     calls: &str,
 ) -> anyhow::Result<String> {
-    let mut core = new_core(alloc)?;
+    let mut core = core_with(alloc, log)?;
     let last = last_text(alloc, &mut core, given, before, calls);
     forget(core);
     last

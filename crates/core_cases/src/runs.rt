@@ -1,15 +1,17 @@
 //! Tables of runs.
 //!
-//! A line `+ STEPS` gives a table the steps that come before its rows; a table without such a line takes those that the one
-//! before has. For each row all steps of its table are done again from the first on: what a proof knows of the core behind a
+//! A line `+ STEPS` gives a table the steps that come before its rows, and `+ log BYTES` the bytes of an area of its log, which has
+//! no limit else; a table without such a line takes those that the one before has. For each row all steps of its table are done again from the first on: what a proof knows of the core behind a
 //! step is not kept from one row to the next.
 use crate::doing::last_answer;
-use case_text::Cases;
+use case_text::{Cases, first_word};
 use std::alloc::Global;
 
 /// The steps of a table so far.
 #[derive(Drop)]
 pub struct Runs {
+    // The bytes of an area of its log, if it has a limit.
+    log: String,
     // The steps before its rows, with `; ` between them.
     given: String,
     // Whether they are an earlier table's.
@@ -21,6 +23,7 @@ pub struct Runs {
 impl Runs {
     pub fn new(alloc: Global) -> Runs {
         Runs {
+            log: String::new(alloc),
             given: String::new(alloc),
             is_earlier: false,
             calls: String::new(alloc),
@@ -46,14 +49,28 @@ impl Cases for Runs {
 
     fn give(&mut self, alloc: Global, text: &str) -> anyhow::Result<()> {
         if self.is_earlier {
+            self.log = String::new(alloc);
             self.given = String::new(alloc);
             self.is_earlier = false;
         }
-        add(&mut self.given, text)
+        let (word, rest) = first_word(text);
+        match word {
+            "log" => {
+                self.log = String::from_str(alloc, rest)?;
+                Ok(())
+            }
+            _ => add(&mut self.given, text),
+        }
     }
 
     fn answer(&mut self, alloc: Global, asked: &str) -> anyhow::Result<String> {
-        let told = last_answer(alloc, self.given.as_str(), self.calls.as_str(), asked)?;
+        let told = last_answer(
+            alloc,
+            self.log.as_str(),
+            self.given.as_str(),
+            self.calls.as_str(),
+            asked,
+        )?;
         add(&mut self.calls, asked)?;
         Ok(told)
     }

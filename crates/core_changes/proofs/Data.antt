@@ -1,5 +1,5 @@
 -- What a Put needs of the data, and what is kept for its transaction.
-use Rattle.std.specs.Prelude.{◌≡◌, ◌≢◌, ℕ, ◌+◌, ◌-◌, ◌*◌, ◌^◌, ◌<◌, ◌≤◌, min, false, List, [], ◌∷◌, ◌++◌, map, Option, Some, refl}
+use Rattle.std.specs.Prelude.{◌≡◌, ◌≢◌, ℕ, ◌+◌, ◌-◌, ◌^◌, ◌<◌, ◌≤◌, false, List, [], ◌∷◌, ◌++◌, map, Option, Some, refl}
 use Rattle.std.specs.List.{sum}
 use Rattle.std.specs.Option.{unwrap_or}
 use Rattle.std.specs.FinMap.{get}
@@ -20,10 +20,10 @@ use Rattle.txn_machine.specs.Counts.{told_need}
 use Rattle.txn_machine.specs.Deltas.{RowChange}
 use Rattle.txn_machine.specs.Ghosts.{the_views}
 use Rattle.txn_machine.specs.Keeping.{Open, Put, idle}
-use Rattle.txn_machine.specs.Log.{Opening, Log, Logged, Within, Above, logs, keeps, growth, growth_back, perhaps_entries, view_entries, delta_entry, room_kept}
+use Rattle.txn_machine.specs.Log.{Log, Logged, Within, logs, keeps, growth, growth_back, perhaps_entries, view_entries, delta_entry, room_kept}
 use Rattle.txn_machine.specs.RowChanges.{row_change}
 use Rattle.txn_machine.specs.State.{State}
-use Rattle.txn_machine.specs.Steps.{FitsData, IsDataFull, data_need, put_owed, used_data}
+use Rattle.txn_machine.specs.Steps.{FitsData, data_need, put_owed, used_data}
 use Rattle.txn_machine.specs.Store.{Store, Takes, Writes, change_at, does, now, schema_of, wrote}
 use Rattle.txn_machine.proofs.LogRoom.{logs_logged}
 use Rattle.txn_log.specs.Room.{rows_bytes}
@@ -32,7 +32,7 @@ use Rattle.data_room.specs.declared.room.DataRoom.{DataRoom}
 use Rattle.data_room.proofs.Counted.{change_sizes}
 use Rattle.data_room.proofs.Kept.{share_least, reserved_one, reserved_moved, aside_moves}
 use Rattle.data_room.proofs.Transactions.{now_room, row_least, written_room}
-use Rattle.data_room.proofs.Wheres.{where_always, where_map, where_two, where_above, within_is, is_within, within_fewer, above_more}
+use Rattle.data_room.proofs.Wheres.{where_map, where_two, within_is, within_fewer}
 use Rattle.core_state.specs.Stands.{Began}
 use Rattle.core_state.specs.declared.state.CoreState.{CoreState}
 use Rattle.core_state.proofs.Data.{began_entries, began_used, limit_of}
@@ -85,7 +85,7 @@ module _ {M : Type 0} (maps : M → ℕ → Map) (spare : M → ℕ → ℕ) (li
       between_reserves : IsReserved core.data_room (schema_of s.store) between.open_of first.logged s.definitions
       between_reserves =
           reserved_one (schema_of s.store) s.store.open_of s.log.logged first.logged i (Some (record (now s.store i) { locks = wants ++ (now s.store i).locks })) (s.log.logged i) (λ j. ap (λ (f : ℕ → Logged). f j) (logs_logged s.store i a (Takes wants) s.log))
-          core.data_room s.definitions (now_room (schema_of s.store) (s.store.open_of i) (s.log.logged i).ghosted) h.reserves
+          core.data_room s.definitions (now_room (schema_of s.store) (s.store.open_of i) (s.log.logged i).ghosted) h.reserves.data_room
 
       none_between : (now between i).owed ≡ []
       none_between = ap (λ (x : Option Open). (unwrap_or x idle).owed) (Rattle.txn_machine.proofs.Basics.one_same s.store.open_of i (Some (record (now s.store i) { locks = wants ++ (now s.store i).locks })) i refl) ∙ none

@@ -6,5 +6,6 @@ pub mod Making
 pub mod Rightly
 pub mod Puts
 pub mod Data
+pub mod Logged
 pub mod Within
 pub mod Full

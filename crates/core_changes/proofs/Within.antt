@@ -1,5 +1,5 @@
 -- A Put that is within the limits, in a core that has room for it.
-use Rattle.std.specs.Prelude.{◌≡◌, ◌≢◌, ℕ, ◌+◌, ◌*◌, ◌-◌, ◌^◌, ◌<◌, ◌≤◌, List, [], ◌∷◌, ◌++◌, map, length, reverse, Option, Some, refl}
+use Rattle.std.specs.Prelude.{◌≡◌, ◌≢◌, ℕ, ◌+◌, ◌*◌, ◌-◌, ◌^◌, ◌<◌, ◌≤◌, false, List, [], ◌∷◌, ◌++◌, map, length, reverse, Option, Some, refl}
 use Rattle.std.specs.Option.{unwrap_or}
 use Rattle.std.specs.List.{Contains, sum}
 use Rattle.std.specs.FinMap.{get}
@@ -7,18 +7,19 @@ use mathlib.Core.Path.{sym, ap, subst, ◌∙◌}
 use Rattle.std.proofs.Common.{arith}
 use Rattle.std.proofs.lemmas.List.{length-reverse}
 use Rattle.iv_types.specs.Maps.{Map, IsWithin, used}
-use Rattle.iv_types.specs.Definitions.{AreNumbered}
+use Rattle.iv_types.specs.Definitions.{Definitions, AreNumbered}
 use Rattle.iv_types.specs.declared.catalog.TableDef.{TableDef}
 use Rattle.iv_types.specs.declared.lock.Change.{Change}
 use Rattle.iv_types.specs.declared.lock.GroupDelta.{GroupDelta}
 use Rattle.iv_types.specs.declared.lock.Kept.{Kept}
 use Rattle.iv_types.specs.declared.lock.Want.{Want}
 use Rattle.lock_manager.specs.Table as lock
-use Rattle.table_store.specs.Stored.{table_of, OfTable}
+use Rattle.table_store.specs.Stored.{table_of, IsTableAnd, OfTable}
 use Rattle.table_store.specs.Changes.{IsKept, IsChange, made_by, gone_by, how_many, sizes}
 use Rattle.table_store.specs.Readying.{HasPlaces}
 use Rattle.table_store.proofs.TableIndexes.{table_number}
 use Rattle.txn_machine.specs.Acts as act
+use Rattle.iv_meaning.specs.Objects as defined
 use Rattle.iv_meaning.specs.Schema.{table, numbered}
 use Rattle.txn_machine.specs.Counts.{put_size, kept_change_size, transaction_size, told_need}
 use Rattle.txn_machine.specs.Deltas.{RowChange}
@@ -33,7 +34,7 @@ use Rattle.txn_machine.proofs.Basics.{one_same}
 use Rattle.txn_machine.proofs.Standing.{notes_stand}
 use Rattle.txn_book.specs.Books.{IsBook, IsOpenAnd, open_changes, total_bytes}
 use Rattle.txn_book.specs.Opens.{open_at}
-use Rattle.txn_book.specs.Txns.{txn_of, changes_in}
+use Rattle.txn_book.specs.Txns.{txn_of}
 use Rattle.core_state.specs.Rooms.{all_gone}
 use Rattle.core_state.specs.Stands.{Began, Holds}
 use Rattle.core_state.specs.declared.state.CoreState.{CoreState}
@@ -42,19 +43,22 @@ use Rattle.core_effects.proofs.Gone.{its_number}
 use Rattle.core_changes.specs.Putting.{CanPut}
 use Rattle.core_changes.specs.Room.{HasRoom}
 use Rattle.core_changes.proofs.Data.{change_within, put_reserved}
+use Rattle.core_changes.proofs.Logged.{put_logged}
 use Rattle.core_changes.proofs.Making.{mine}
 use Rattle.lock_manager.specs.Table.{Table, AddAtMost}
 use Rattle.lock_manager.proofs.Counts.{all_new}
 use Rattle.std.proofs.lemmas.List.{nil_from_length}
 use Rattle.txn_machine.specs.Answers as answer
-use Rattle.txn_machine.specs.Log.{Within, logs, growth_back, delta_entry}
-use Rattle.txn_machine.specs.Steps.{FitsData, history_bytes, put_need, log_need, data_need, group_want}
-use Rattle.txn_machine.specs.Log.{reserved}
+use Rattle.txn_machine.specs.Log.{Log, Within, logs, growth_back, delta_entry, reserved, owed_bytes}
+use Rattle.txn_machine.specs.Records.{write_bytes}
+use Rattle.txn_machine.specs.Steps.{FitsLog, FitsData, history_bytes, put_need, log_need, data_need, group_want}
 use Rattle.txn_machine.specs.Store.{Writes}
 use Rattle.core_state.specs.Stands.{Told}
 use Rattle.data_room.specs.Reserved.{share_at}
 use Rattle.data_room.specs.declared.room.DataRoom.{DataRoom}
-use Rattle.core_state.proofs.Data.{data_holds}
+use Rattle.log_room.specs.Rooms.{IsRoomOf, OwesNothing, SameRoomLaw}
+use Rattle.log_room.specs.declared.room.LogRoom.{LogRoom}
+use Rattle.core_state.proofs.Data.{data_holds, log_holds}
 use Rattle.core_state.proofs.Counted.{counted}
 use Rattle.core_effects.specs.Writing.{CanWrite, IsNoting}
 use Rattle.data_store.specs.Machine.{bytes_of}
@@ -217,33 +221,74 @@ module _ {M : Type 0} (maps : M → ℕ → Map) (spare : M → ℕ → ℕ) (li
         wants = wants_are_it ∙ ap (map (λ d. group_want d ∷ [])) (sym owed_are_it);
       }
 
+  -- ---- what its record takes
+
+  pub written_are : (k : Kept) (written : ℕ) → OfTable core.store.catalog change.table (IsKept core.store.catalog change k)
+      → ((definitions : Definitions) → IsTableAnd definitions k.change.table (IsKept definitions k.change k) → written ≡ told_need (write_bytes (defined.schema_of definitions) (row_change k.change))) → written ≡ told_need (write_bytes (schema_of s.store) c)
+  written_are k written kept told =
+      let there : table_of core.store.catalog change.table ≡ Some its_table = table_here maps spare limit core s i change wants can.puts in
+      let is_kept : IsKept core.store.catalog change k its_table = kept its_table there in
+      let same : k.change ≡ change = is_kept.change_is in
+      told core.store.catalog (its_table, ap (λ (ch : Change). table_of core.store.catalog ch.table) same ∙ there, subst (λ ch. IsKept core.store.catalog ch k its_table) (sym same) is_kept)
+      ∙ (ap (λ (ch : Change). told_need (write_bytes (defined.schema_of core.store.catalog) (row_change ch))) same ∙ ap (λ o. told_need (write_bytes o c)) h.holds.stored.objects)
+
   -- ---- what is told
 
   abbrev its_act : act.Act
   its_act = act.Put change.table change.key change.after
 
-  module _ (new : CoreState M) (room : DataRoom) (bytes_kept : ℕ) (kept_are : bytes_kept ≡ told_need (growth_back (schema_of s.store) c + sum (map delta_entry deltas))) where
+  abbrev pub taken : Log
+  taken = logs s.store i its_act (Takes wants) s.log
+
+  abbrev made : RowChange
+  made = change_at s.store (change.table, change.key) change.after
+
+  -- the store and the log as the change leaves them
+  abbrev pub left_store : Store
+  left_store = does the_views between i (Writes (change.table, change.key) change.after)
+
+  abbrev pub left_log : Log
+  left_log = logs between i its_act (Writes (change.table, change.key) change.after) taken
+
+  fits_log : FitsLog s (log_need s.store made)
+  fits_log = subst (λ x. FitsLog s (log_need s.store x)) can.puts.is can.log_room
+
+  -- the log's room as it leaves it, where its record takes so many bytes and its deltas reserve so many
+  pub log_left : (law : SameRoomLaw) (old new : LogRoom) (written owes : ℕ) → old ≡ core.log_room → written ≡ told_need (write_bytes (schema_of s.store) c) → owes ≡ told_need (owed_bytes false deltas)
+      → (OwesNothing between i → IsRoomOf old between taken → written ≡ told_need (write_bytes (schema_of between) (change_at between (change.table, change.key) change.after))
+      → owes ≡ told_need (owed_bytes false (put_owed between (change_at between (change.table, change.key) change.after)))
+      → Within old.limit (taken.used + reserved between taken + log_need between (change_at between (change.table, change.key) change.after)) → IsRoomOf new left_store left_log)
+      → IsRoomOf new left_store left_log
+  log_left law old new written owes same written_is owes_are moves =
+      put_logged maps spare limit core s i h can.puts.may.0 law wants its_act (change.table, change.key) change.after old new written owes same
+      (written_is ∙ ap (λ x. told_need (write_bytes (schema_of s.store) x)) can.puts.is) (owes_are ∙ ap (λ ds. told_need (owed_bytes false ds)) (can.owed_is ∙ ap (put_owed s.store) can.puts.is)) fits_log moves
+
+  module _ (new : CoreState M) (room : DataRoom) (logged : LogRoom) (bytes_kept : ℕ) (kept_are : bytes_kept ≡ told_need (growth_back (schema_of s.store) c + sum (map delta_entry deltas))) where
     -- with what is kept for its transaction
-    pub put_told : Holds maps spare limit new (does the_views between i (Writes (change.table, change.key) change.after)) (logs between i its_act (Writes (change.table, change.key) change.after) (logs s.store i its_act (Takes wants) s.log)) s.definitions
+    pub put_told : Holds maps spare limit new left_store left_log s.definitions
         → new.data_room ≡ core.data_room → room.limit ≡ new.data_room.limit
         → (share_at new.data_room.shares i ≤ new.data_room.total → new.data_room.total + bytes_kept < 2 ^ 64 → share_at room.shares i ≡ share_at new.data_room.shares i + bytes_kept) → ((j : ℕ) → j ≢ i → share_at room.shares j ≡ share_at new.data_room.shares j) → (new.data_room.total + bytes_kept < 2 ^ 64 → room.total ≡ new.data_room.total + bytes_kept)
-        → AreUncounted core (record new { data_room = room }) → lock.waiting_of new.locks i ≡ [] → ((j : ℕ) → j ≢ i → lock.waiting_of new.locks j ≡ lock.waiting_of core.locks j)
-        → Told maps spare limit s i its_act (answer.Changed change.before deltas) (record new { data_room = room })
-    put_told holds same_data same_limit mine rest total same_counts own others =
-        done_told maps spare limit core (record new { data_room = room }) s i h its_act (answer.Changed change.before deltas) (Takes wants ∷ Writes (change.table, change.key) change.after ∷ [])
+        → IsRoomOf logged left_store left_log
+        → AreUncounted core (record new { data_room = room; log_room = logged }) → lock.waiting_of new.locks i ≡ [] → ((j : ℕ) → j ≢ i → lock.waiting_of new.locks j ≡ lock.waiting_of core.locks j)
+        → Told maps spare limit s i its_act (answer.Changed change.before deltas) (record new { data_room = room; log_room = logged })
+    put_told holds same_data same_limit mine rest total log_then same_counts own others =
+        done_told maps spare limit core (record new { data_room = room; log_room = logged }) s i h its_act (answer.Changed change.before deltas) (Takes wants ∷ Writes (change.table, change.key) change.after ∷ [])
         (record {
           free = subst (IsFree s.store i) can.puts.wants_are can.puts.free;
-          room = let r = can.room in let need : bytes ≡ put_need s.store (change_at s.store (change.table, change.key) change.after) = can.bytes_are ∙ ap (put_need s.store) can.puts.is in omega (arith, r, need);
-          log_room = subst (λ o. Within o.log_limit (s.log.used + reserved s.store s.log + log_need s.store (change_at s.store (change.table, change.key) change.after))) (sym h.opening.is) tt;
+          room = let r = can.room in let need : bytes ≡ put_need s.store made = can.bytes_are ∙ ap (put_need s.store) can.puts.is in omega (arith, r, need);
+          log_room = fits_log;
           data_room = subst (λ x. FitsData s (data_need s.store x)) can.puts.is can.data_room;
-          history_room = let r = can.history_room in let need : entry_bytes ≡ kept_change_size (schema_of s.store) (change_at s.store (change.table, change.key) change.after) = can.entry_bytes_are ∙ ap (kept_change_size (schema_of s.store)) can.puts.is in omega (arith, r, need);
+          history_room = let r = can.history_room in let need : entry_bytes ≡ kept_change_size (schema_of s.store) made = can.entry_bytes_are ∙ ap (kept_change_size (schema_of s.store)) can.puts.is in omega (arith, r, need);
           before_is = ap (λ (x : RowChange). x.before) can.puts.is;
           owed_is = can.owed_is ∙ ap (put_owed s.store) can.puts.is;
           effects = ap (λ ws. Takes ws ∷ Writes (change.table, change.key) change.after ∷ []) can.puts.wants_are;
         })
-        (data_holds maps spare limit new room (does the_views between i (Writes (change.table, change.key) change.after)) (logs between i its_act (Writes (change.table, change.key) change.after) (logs s.store i its_act (Takes wants) s.log)) s.definitions same_limit holds)
-        (put_reserved maps spare limit core s i h c deltas (sym (ap (λ (x : RowChange). x.before) can.puts.is)) can.owed_is can.data_small its_open.of_session wants its_act owes_none (change.table, change.key) change.after can.puts.is
-        room new.data_room bytes_kept kept_are same_data same_limit mine rest total)
+        (log_holds maps spare limit (record new { data_room = room }) logged left_store left_log s.definitions (data_holds maps spare limit new room left_store left_log s.definitions same_limit holds))
+        (record {
+          data_room = put_reserved maps spare limit core s i h c deltas (sym (ap (λ (x : RowChange). x.before) can.puts.is)) can.owed_is can.data_small its_open.of_session wants its_act owes_none (change.table, change.key) change.after can.puts.is
+              room new.data_room bytes_kept kept_are same_data same_limit mine rest total;
+          log_room = log_then;
+        })
         same_counts (λ _. own) (λ j js n. others j n ∙ h.waiting j js n) refl refl (omega arith) (omega arith)
 
 -- the same Put in a core that has begun its step in the same state
@@ -255,6 +300,7 @@ can_still maps spare limit core new s i change wants deltas bytes entry_bytes ca
   bytes_are = can.bytes_are;
   entry_bytes_are = can.entry_bytes_are;
   room = can.room;
+  log_room = can.log_room;
   data_room = can.data_room;
   data_small = can.data_small;
   history_room = can.history_room;

@@ -15,10 +15,11 @@ ghost use Rattle.txn_machine.specs.Steps.{group_want};
 ghost use Rattle.txn_machine.specs.Store.{Store, schema_of};
 ghost use Rattle.txn_book.specs.Acts.{answer_of};
 ghost use Rattle.txn_book.specs.Books.{IsOpenAnd, OfOpen, total_bytes};
+ghost use Rattle.log_room.specs.Rooms.{IsRoomOf};
 ghost use Rattle.core_state.specs.declared.limits.TheConstants.{MOST_OF_TRANSACTION, MOST_OF_HISTORY};
 ghost use Rattle.core_state.specs.Stands.{Began, Holds, Told};
 ghost use Rattle.view_delta.specs.Owing.{RowsFit};
-ghost use Rattle.core_changes.specs.Putting.{IsFreePut, CanPut, DataFits, IsFull};
+ghost use Rattle.core_changes.specs.Putting.{IsFreePut, CanPut, LogFits, DataFits, IsFull};
 
 use crate::ahead::reserve_ahead;
 use crate::room::make_room;
@@ -31,6 +32,8 @@ use iv_types::{
     Bytes, Change, DeltaList, EngineRefusal, GroupDelta, LockMode, NoMemory, Row, SortedMaps, Want,
     WantList, copied_perhaps,
 };
+use log_room::same_room_law;
+use record_lending::{owed_bytes, write_bytes};
 use row_codec::point;
 use std::alloc::Global;
 use txn_book::Answer;
@@ -82,22 +85,28 @@ fn wants_of(alloc: Global, owed: &[GroupDelta]) -> Result<Vec<WantList>, NoMemor
     Ok(wants)
 }
 
-// Why a change is refused that counts so many bytes in its session's transaction, in the data and in the history, if it is.
+// Why a change is refused that counts so many bytes in its session's transaction, in the log, in the data and in the history, if
+// it is.
 fn refusal<M: SortedMaps>(
     core: &CoreState<M>,
     session: u32,
     bytes: u64,
+    log_need: u64,
     data_need: u64,
     entry_bytes: u64,
 ) -> Option<EngineRefusal>
     requires is_open { IsOpenAnd core.now.book session (λ o. ⊤) }
+    requires logged { (s : Store) × (l : Log) × IsRoomOf core.now.log_room s l }
     requires within { IsWithin core.now.data_room.limit (used (M.maps core.now.store.tables) + core.now.data_room.total) }
-    ensures none { IfNone result (OfOpen core.now.book session (λ o. o.txn_bytes + bytes ≤ MOST_OF_TRANSACTION) × DataFits M.maps core.now data_need × (total_bytes core.now.book + entry_bytes ≤ MOST_OF_HISTORY)) }
-    ensures some { IfSome result (IsFull M.maps core.now session bytes data_need entry_bytes) }
+    ensures none { IfNone result (OfOpen core.now.book session (λ o. o.txn_bytes + bytes ≤ MOST_OF_TRANSACTION) × LogFits core.now.log_room log_need × DataFits M.maps core.now data_need × (total_bytes core.now.book + entry_bytes ≤ MOST_OF_HISTORY)) }
+    ensures some { IfSome result (IsFull M.maps core.now session bytes log_need data_need entry_bytes) }
 {
     let kept = core.open_of(session).txn_bytes;
     if !fits(kept, bytes, MOST_OF_TRANSACTION) {
         return Some(EngineRefusal::TxnFull { kept, need: bytes });
+    }
+    if let Some(why) = core.log_room.refusal(log_need) {
+        return Some(why);
     }
     if let Some(used) = core.full_of_data(data_need) {
         return Some(EngineRefusal::DataFull {
@@ -153,11 +162,15 @@ fn put_within<M: SortedMaps>(
     )?;
     core.book.book_law();
     core.store.catalog.number_law();
+    same_room_law();
     let noting = ready_note(&core.store, change.table, change.key.as_slice())?;
     let version = version_of(core.alloc, &core.store.catalog, &change)?;
     let copies = copied_deltas(core.alloc, owed.as_slice())?;
     let aside = kept_room(core, &change, owed.as_slice());
     let ready = core.store.tables.prepare(&core.store.catalog, change)?;
+    let written = write_bytes(&ready.kept);
+    // None of them had its Ghost, so their order does not matter.
+    let reserved = owed_bytes(owed.as_slice(), false);
     take(core, session, wants);
     write(
         core,
@@ -174,6 +187,7 @@ fn put_within<M: SortedMaps>(
         },
     );
     core.data_room.set_aside(session, aside);
+    core.log_room.put(written, reserved);
     Ok(Answer::Changed { before, owed: told })
 }
 
@@ -191,16 +205,17 @@ fn put_free<M: SortedMaps>(
     core.book.book_law();
     let owed = core.store.owed(&change)?;
     let bytes = core.store.put_size(&change, owed.as_slice());
+    let log_need = core.store.write_need(&change, owed.as_slice());
     let data_need = core.store.change_need(&change, owed.as_slice());
     let entry_bytes = core.store.kept_change_size(&change);
-    match refusal(core, session, bytes, data_need, entry_bytes) {
+    match refusal(core, session, bytes, log_need, data_need, entry_bytes) {
         Some(why) => Ok(Answer::Refused(why)),
         None => put_within(core, session, change, wants, owed, bytes, entry_bytes),
     }
 }
 
 /// Makes a row of a table the new one under its key, or takes it away, where nobody is in the way of its locks and it is within the
-/// limits.
+/// limits: those of the transaction, of the log, of the data and of the history, of which the first that it passes is told.
 ///
 /// # Errors
 ///

@@ -4,7 +4,6 @@ use mathlib.Core.Path.{sym, ap, subst, ◌∙◌}
 use Rattle.iv_types.specs.Maps.{Map}
 use Rattle.iv_meaning.specs.Escrow.{IsSession}
 use Rattle.lock_manager.specs.Table as table
-use Rattle.lock_manager.specs.Table.{Table}
 use Rattle.txn_machine.specs.Acts.{Act}
 use Rattle.txn_machine.specs.Answers.{Answer}
 use Rattle.txn_machine.specs.Ghosts.{the_views}
@@ -24,9 +23,14 @@ pub record AreUncounted {M : Type 0} (core new : CoreState M) : Type 0 where
   pub cleaner : new.cleaner ≡ core.cleaner
   pub stop : new.stop ≡ core.stop
   pub limit : new.data_room.limit ≡ core.data_room.limit
+  pub log_limit : new.log_room.limit ≡ core.log_room.limit
 
 pub uncounted_twice : {M : Type 0} (one two three : CoreState M) → AreUncounted one two → AreUncounted two three → AreUncounted one three
-uncounted_twice one two three a b = record { steps = b.steps ∙ a.steps; seats = b.seats ∙ a.seats; cleaner = b.cleaner ∙ a.cleaner; stop = b.stop ∙ a.stop; limit = b.limit ∙ a.limit }
+uncounted_twice one two three a b = record { steps = b.steps ∙ a.steps; seats = b.seats ∙ a.seats; cleaner = b.cleaner ∙ a.cleaner; stop = b.stop ∙ a.stop; limit = b.limit ∙ a.limit; log_limit = b.log_limit ∙ a.log_limit }
+
+-- so its limits stay
+pub opening_as : {M : Type 0} {core new : CoreState M} {s : State} → AreUncounted core new → IsOpening core.log_room.limit core.data_room.limit s → IsOpening new.log_room.limit new.data_room.limit s
+opening_as {M} {core} {new} {s} same h = subst (λ m. IsOpening new.log_room.limit m s) (sym same.limit) (subst (λ m. IsOpening m core.data_room.limit s) (sym same.log_limit) h)
 
 module _ {M : Type 0} (maps : M → ℕ → Map) (spare : M → ℕ → ℕ) (limit : M → Option ℕ) (core new : CoreState M) (s : State) (i : ℕ) (h : Began maps spare limit core s i) where
   pub counts_as : AreUncounted core new → Counts maps spare limit new s
@@ -49,7 +53,7 @@ module _ {M : Type 0} (maps : M → ℕ → Map) (spare : M → ℕ → ℕ) (li
       → Told maps spare limit s i a said new
   done_told a said es says holds reserves same own others not fine begins appends = record {
     reached = h.reached;
-    opening = subst (λ m. IsOpening m s) (sym same.limit) h.opening;
+    opening = opening_as same h.opening;
     runs = h.runs;
     effects = es;
     says = says;
@@ -73,7 +77,7 @@ pub still_underway : {M : Type 0} (maps : M → ℕ → Map) (spare : M → ℕ 
     → (IsSession i → table.waiting_of new.locks i ≡ []) → ((j : ℕ) → j ≢ i → table.waiting_of new.locks j ≡ table.waiting_of core.locks j) → IsUnderway maps spare limit s i new
 still_underway maps spare limit core new s i u same own others = record {
   reached = u.reached;
-  opening = subst (λ m. IsOpening m s) (sym same.limit) u.opening;
+  opening = opening_as same u.opening;
   runs = u.runs;
   own = own;
   waiting = λ j js n. others j n ∙ u.waiting j js n;

@@ -13,7 +13,7 @@ use Rattle.core_state.specs.declared.state.CoreState.{CoreState}
 -- a session's step has begun in this state: it waits for nothing, the others for what they waited for, and nothing is counted yet
 pub record IsUnderway {M : Type 0} (maps : M → ℕ → Map) (spare : M → ℕ → ℕ) (limit : M → Option ℕ) (s : State) (session : ℕ) (core : CoreState M) : Type 0 where
   pub reached : IsReached s
-  pub opening : IsOpening core.data_room.limit s
+  pub opening : IsOpening core.log_room.limit core.data_room.limit s
   pub runs : s.stop ≡ None
   pub own : IsSession session → table.waiting_of core.locks session ≡ []
   pub waiting : (other : ℕ) → IsSession other → other ≢ session → table.waiting_of core.locks other ≡ s.waiting other

@@ -7,6 +7,7 @@ use Rattle.std.proofs.lemmas.List.{length-map}
 use Rattle.iv_types.specs.Maps.{Map}
 use Rattle.iv_types.specs.declared.statement.Mode.{Mode}
 use Rattle.iv_types.specs.declared.statement.Mode.TheVariants.{Serial, Snapshot}
+use Rattle.iv_types.specs.declared.refusal.EngineRefusal.{EngineRefusal}
 use Rattle.iv_types.specs.declared.refusal.EngineRefusal.TheVariants as refusal
 use Rattle.iv_meaning.specs.Objects.{object_of}
 use Rattle.iv_meaning.specs.Escrow.{IsSession}
@@ -17,11 +18,12 @@ use Rattle.txn_machine.specs.Answers as answer
 use Rattle.txn_machine.specs.Locks.{with_one}
 use Rattle.txn_machine.specs.Keeping as machine
 use Rattle.txn_machine.specs.Keeping.{Open, idle}
-use Rattle.txn_machine.specs.Store.{committed, schema_of, with_txn, Opens}
+use Rattle.txn_machine.specs.Ghosts.{the_views}
+use Rattle.txn_machine.specs.Store.{committed, schema_of, with_txn, Opens, does}
 use Rattle.txn_machine.specs.Counts.{definition_sizes, entry_size, most_of_history}
-use Rattle.txn_machine.specs.Log.{Log, Logged, Within, begins, begun_after, reserved, end_bytes, room_kept}
+use Rattle.txn_machine.specs.Log.{Log, Logged, Within, Above, begins, begun_after, logs, reserved, end_bytes, room_kept}
 use Rattle.txn_machine.specs.State.{State}
-use Rattle.txn_machine.specs.Steps.{MayBegin, history_bytes}
+use Rattle.txn_machine.specs.Steps.{FitsLog, MayBegin, history_bytes}
 use Rattle.std.proofs.lemmas.Option.{none-some}
 use mathlib.Core.Logic.{inl, inr}
 use Rattle.txn_machine.proofs.Basics.{one_same, one_other}
@@ -37,13 +39,30 @@ use Rattle.data_store.specs.Held.{IsHeld}
 use Rattle.data_past.proofs.Aheads.{ahead_opens}
 use Rattle.data_past.proofs.Effects.{past_opens}
 use Rattle.data_room.proofs.Kept.{reserved_one}
-use Rattle.core_state.specs.Stands.{Began, Told}
+use Rattle.log_room.specs.Rooms.{IsRoomOf}
+use Rattle.log_room.specs.declared.room.LogRoom.{LogRoom}
+use Rattle.core_state.specs.Stands.{Began, Told, IsOpening}
+use Rattle.core_state.proofs.Logged.{log_limit_of, log_full}
 use Rattle.core_state.proofs.Unchanged.{unchanged_told}
 use Rattle.core_state.specs.declared.state.CoreState.{CoreState}
-use Rattle.core_ends.specs.Ends.{number_in_log}
+use Rattle.core_ends.specs.Ends.{number_in_log, FitsEnd}
 use Rattle.lock_desk.specs.PayWants.{wants_at}
 use Rattle.core_state.proofs.Rooms.{rooms_changed, elsewhere_same, covered_begun}
 use Rattle.core_state.proofs.Sessions.{contents_as, kept_same, locks_same, snapshots_bare}
+
+-- what the log has room for
+module _ {M : Type 0} (maps : M → ℕ → Map) (spare : M → ℕ → ℕ) (limit : M → Option ℕ) (core : CoreState M) (s : State) (i : ℕ) (h : Began maps spare limit core s i) where
+  -- it has room for a transaction's end
+  pub fits_end : (mode : Mode) → MayBegin s mode → FitsEnd mode core.log_room.limit s.store s.log
+  fits_end Serial room = subst (λ most. Within most (s.log.used + reserved s.store s.log + end_bytes)) (log_limit_of maps spare limit core s i h) room.0
+  fits_end Snapshot room = tt
+
+  -- it has none
+  pub log_full_told : (why : EngineRefusal) → (why ≡ refusal.LogFull s.log.used (reserved s.store s.log) end_bytes) × Above core.log_room.limit (s.log.used + reserved s.store s.log + end_bytes)
+      → Told maps spare limit s i (act.Begin Serial) (answer.Refused why) core
+  log_full_told why full = subst (λ w. Told maps spare limit s i (act.Begin Serial) (answer.Refused w) core) (sym full.0)
+      (unchanged_told maps spare limit core s i (act.Begin Serial) (answer.Refused (refusal.LogFull s.log.used (reserved s.store s.log) end_bytes)) h
+      (refl, refl, refl, log_full maps spare limit core s i h end_bytes end_bytes (omega arith) full.1) refl refl refl refl)
 
 module _ {M : Type 0} (maps : M → ℕ → Map) (spare : M → ℕ → ℕ) (limit : M → Option ℕ) (core : CoreState M) (s : State) (i : ℕ) (h : Began maps spare limit core s i) (is : IsSession i) (none : s.store.open_of i ≡ None) (good : IsBook core.book) where
   -- what the history counts
@@ -59,8 +78,8 @@ module _ {M : Type 0} (maps : M → ℕ → Map) (spare : M → ℕ → ℕ) (li
   fits Snapshot room = let few : total_bytes core.book < 2 ^ 64 = good.fits in omega (arith, few)
 
   -- a serial one fits where it was looked for
-  pub may_begin : total_bytes core.book + entry_size ≤ most_of_history → MayBegin s Serial
-  may_begin room = (subst (λ o. Within o.log_limit (s.log.used + reserved s.store s.log + end_bytes)) (sym h.opening.is) tt, subst (λ n. n + entry_size ≤ most_of_history) counted room)
+  pub may_begin : FitsLog s end_bytes → total_bytes core.book + entry_size ≤ most_of_history → MayBegin s Serial
+  may_begin log room = (log, subst (λ n. n + entry_size ≤ most_of_history) counted room)
 
   abbrev number : ℕ
   number = (committed s.store).number
@@ -81,13 +100,14 @@ module _ {M : Type 0} (maps : M → ℕ → Map) (spare : M → ℕ → ℕ) (li
   begun_keeps Serial = refl
   begun_keeps Snapshot = refl
 
-  pub begun_told : (mode : Mode) (id more told defs : ℕ) (after : Books) → MayBegin s mode → Changes core.book after i (begun mode (number_of core.book) id)
+  pub begun_told : (mode : Mode) (id more told defs : ℕ) (after : Books) (log : LogRoom) → MayBegin s mode → Changes core.book after i (begun mode (number_of core.book) id)
       → begins mode s.log ≡ record { transaction = id; kept = []; wrote = false; ghosted = false } → more ≡ begun_after (Opens mode) s.log.begun → more ≤ s.log.begun + 1
       → told ≡ number_of core.book → defs ≡ length core.store.catalog
-      → Told maps spare limit s i (act.Begin mode) (answer.Begun told defs) (record core { book = after; begun = more })
-  begun_told mode id more told defs after room changes logged begun_is_more few number_told defs_told = record {
+      → log.limit ≡ core.log_room.limit → IsRoomOf log (does the_views s.store i (Opens mode)) (logs s.store i (act.Begin mode) (Opens mode) s.log)
+      → Told maps spare limit s i (act.Begin mode) (answer.Begun told defs) (record core { book = after; begun = more; log_room = log })
+  begun_told mode id more told defs after log room changes logged begun_is_more few number_told defs_told same_limit log_room = record {
     reached = h.reached;
-    opening = h.opening;
+    opening = subst (λ most. IsOpening most core.data_room.limit s) (sym same_limit) h.opening;
     runs = h.runs;
     effects = Opens mode ∷ [];
     says = record {
@@ -112,8 +132,11 @@ module _ {M : Type 0} (maps : M → ℕ → Map) (spare : M → ℕ → ℕ) (li
       rooms = rooms_changed (spare core.store.tables) (spare core.store.tables) core.store.catalog core.store.views core.store.views core.book after core.locks core.locks core.wants core.wants i
           (begun mode (number_of core.book) id) good is h.holds.rooms changes (λ index. omega arith) (elsewhere_same i core.store.views core.locks core.wants) (covered_begun core.store.catalog core.store.views core.locks (wants_at core.wants i) i mode (number_of core.book) id);
     };
-    reserves = reserved_one (schema_of s.store) s.store.open_of s.log.logged (with_one s.log.logged i (begins mode s.log)) i (Some (machine.begun mode number)) (begins mode s.log) (λ j. refl) core.data_room s.definitions
-        (begun_keeps mode ∙ sym (ap (λ o. room_kept (schema_of s.store) o (s.log.logged i).ghosted) none)) h.reserves;
+    reserves = record {
+      data_room = reserved_one (schema_of s.store) s.store.open_of s.log.logged (with_one s.log.logged i (begins mode s.log)) i (Some (machine.begun mode number)) (begins mode s.log) (λ j. refl) core.data_room s.definitions
+          (begun_keeps mode ∙ sym (ap (λ o. room_kept (schema_of s.store) o (s.log.logged i).ghosted) none)) h.reserves.data_room;
+      log_room = log_room;
+    };
     own = λ sessions e. absurd (cc);
     none = λ _ js. h.own js;
     waiting = h.waiting;
@@ -124,10 +147,10 @@ module _ {M : Type 0} (maps : M → ℕ → Map) (spare : M → ℕ → ℕ) (li
   }
 
   -- the history is full
-  pub full_told : (kept need : ℕ) → kept ≡ total_bytes core.book → need ≡ entry_size → (kept + need ≤ most_of_history → ⊥) → Told maps spare limit s i (act.Begin Serial) (answer.Refused (refusal.HistoryFull kept need)) core
-  full_told kept need kept_is need_is full =
+  pub full_told : (kept need : ℕ) → FitsLog s end_bytes → kept ≡ total_bytes core.book → need ≡ entry_size → (kept + need ≤ most_of_history → ⊥) → Told maps spare limit s i (act.Begin Serial) (answer.Refused (refusal.HistoryFull kept need)) core
+  full_told kept need log kept_is need_is full =
       unchanged_told maps spare limit core s i (act.Begin Serial) (answer.Refused (refusal.HistoryFull kept need)) h
-      (refl, need_is, record { kept_is = kept_is ∙ counted; full = omega (arith, full) }, refl, subst (λ o. Within o.log_limit (s.log.used + reserved s.store s.log + end_bytes)) (sym h.opening.is) tt) refl refl refl refl
+      (refl, need_is, record { kept_is = kept_is ∙ counted; full = omega (arith, full) }, refl, log) refl refl refl refl
 
 -- what the log knows of it
 pub begins_as : (mode : Mode) (l : Log) (id : ℕ) → id ≡ number_in_log mode (begun_after (Opens mode) l.begun) → begins mode l ≡ record { transaction = id; kept = []; wrote = false; ghosted = false }

@@ -11,7 +11,7 @@ use Rattle.iv_meaning.specs.Schema.{Schema}
 use Rattle.iv_meaning.specs.Database.{Database}
 use Rattle.iv_meaning.specs.Escrow.{IsSession}
 use Rattle.lock_manager.specs.Table as table
-use Rattle.lock_manager.specs.Table.{Table, SessionLocks, IsReleased}
+use Rattle.lock_manager.specs.Table.{SessionLocks, IsReleased}
 use Rattle.lock_desk.specs.Asking.{HasLocks}
 use Rattle.txn_machine.specs.Acts.{Act}
 use Rattle.txn_machine.specs.Answers.{Answer}
@@ -22,7 +22,7 @@ use Rattle.txn_machine.specs.Store.{Store, Effect, committed, schema_of, changes
 use Rattle.txn_machine.specs.Counts.{definition_sizes}
 use Rattle.txn_machine.specs.Ghosts.{the_views}
 use Rattle.txn_machine.specs.Fresh.{fresh}
-use Rattle.txn_machine.specs.Log.{Log, Logged, log_all, appended, not_logged, with_logged}
+use Rattle.txn_machine.specs.Log.{Log, Logged, logs, log_all, appended, not_logged, with_logged}
 use Rattle.txn_machine.specs.State.{State, is_fault}
 use Rattle.txn_machine.specs.May.{IsOpen, IsReady}
 use Rattle.txn_machine.specs.Deltas.{RowChange}
@@ -47,8 +47,10 @@ use Rattle.core_state.specs.Seats.{machine_seat, machine_cleaner, seat_at}
 use Rattle.data_room.specs.Reserved.{IsReserved, share_at}
 use Rattle.data_room.specs.declared.room.DataRoom.{DataRoom}
 use Rattle.data_room.proofs.Kept.{reserved_moved, settled_moves}
-use Rattle.core_state.specs.Stands.{IsOpening, Began, Told, Holds, Counts, is_blocked}
-use Rattle.core_state.proofs.Data.{data_holds, data_counts}
+use Rattle.log_room.specs.Rooms.{IsRoomOf}
+use Rattle.log_room.specs.declared.room.LogRoom.{LogRoom}
+use Rattle.core_state.specs.Stands.{IsOpening, Began, Told, Holds, Reserves, Counts, is_blocked}
+use Rattle.core_state.proofs.Data.{data_holds, log_holds}
 use Rattle.core_state.proofs.Unchanged.{not_blocked}
 use Rattle.core_state.specs.declared.state.CoreState.{CoreState}
 use Rattle.core_ends.specs.Ends.{Left}
@@ -80,7 +82,7 @@ module _ {M : Type 0} (maps : M → ℕ → Map) (spare : M → ℕ → ℕ) (li
     (stored : (c : Contents) → IsHeld core.store.catalog (maps core.store.tables) core.store.views c → IsHeld new.store.catalog (maps new.store.tables) new.store.views (keeping c i []))
     (rows : (q : Place) → row_at new.store.views.rows q ≡ settled_at i (row_at core.store.views.rows q)) (rooms : (j : ℕ) → j ≢ i → room_of new.store.views j ≡ room_of core.store.views j)
     (tables : new.store.tables ≡ core.store.tables) (catalog : new.store.catalog ≡ core.store.catalog) (wants : new.wants ≡ core.wants)
-    (row_mark : new.store.row_versions.pruned ≡ core.store.row_versions.pruned) (delta_mark : new.store.delta_versions.pruned ≡ core.store.delta_versions.pruned) (begun : new.begun ≡ core.begun) (steps : new.steps ≡ core.steps) (seats : new.seats ≡ core.seats) (cleaner : new.cleaner ≡ core.cleaner) (stop : new.stop ≡ core.stop) (same_data : new.data_room ≡ core.data_room) where
+    (row_mark : new.store.row_versions.pruned ≡ core.store.row_versions.pruned) (delta_mark : new.store.delta_versions.pruned ≡ core.store.delta_versions.pruned) (begun : new.begun ≡ core.begun) (steps : new.steps ≡ core.steps) (seats : new.seats ≡ core.seats) (cleaner : new.cleaner ≡ core.cleaner) (stop : new.stop ≡ core.stop) (same_data : new.data_room ≡ core.data_room) (same_log : new.log_room ≡ core.log_room) where
   left_locks : (u : Store) → ((j : ℕ) → u.open_of j ≡ with_one s.store.open_of i None j) → (j : ℕ) → IsSession j → HasLocks (table.locks_of new.locks j) (locks_of u j)
   left_locks u opens j js =
       subst (λ o. HasLocks (table.locks_of new.locks j) (unwrap_or o idle).locks) (sym (opens j))
@@ -151,8 +153,9 @@ module _ {M : Type 0} (maps : M → ℕ → Map) (spare : M → ℕ → ℕ) (li
     others = λ j n. ap (λ (y : SessionLocks). y.waiting) (released.others j n);
     counts = left_counts;
     same_data = same_data;
+    same_log = same_log;
     reserves = λ a room same moves. reserved_moved (schema_of s.store) s.store.open_of s.log.logged (log_all s.store i a (Ends ∷ []) s.log).logged i None not_logged (λ j. ap (λ (f : ℕ → Logged). f j) (logs_logged s.store i a Ends s.log))
-        core.data_room room s.definitions is same h.reserves moves;
+        core.data_room room s.definitions is same h.reserves.data_room moves;
     appends_one = λ a. subst (λ n. n ≤ s.log.next + 1) (sym (appended_next (schema_of s.store) (Abort (s.log.logged i).transaction) (with_logged s.log i not_logged) (s.log.logged i).wrote)) (next_few (s.log.logged i).wrote s.log.next);
   }
 
@@ -189,40 +192,48 @@ module _ {M : Type 0} (maps : M → ℕ → Map) (spare : M → ℕ → ℕ) (li
         others = λ j n. ap (λ (y : SessionLocks). y.waiting) (released.others j n);
         counts = left_counts;
         same_data = same_data;
+        same_log = same_log;
         reserves = λ a room same moves.
             subst (λ os. IsReserved room os (with_one s.store.open_of i None) (log_all s.store i a (Commits ∷ []) s.log).logged s.definitions) (sym objects)
             (reserved_moved (schema_of s.store) s.store.open_of s.log.logged (log_all s.store i a (Commits ∷ []) s.log).logged i None not_logged (λ j. ap (λ (f : ℕ → Logged). f j) (logs_logged s.store i a Commits s.log))
-            core.data_room room s.definitions is same h.reserves moves);
+            core.data_room room s.definitions is same h.reserves.data_room moves);
         appends_one = λ a. omega arith;
       }
 
 -- ---- the answer
 
--- of an act whose one effect ends the transaction, for which nothing of the data is kept then
-pub left_told : {M : Type 0} (maps : M → ℕ → Map) (spare : M → ℕ → ℕ) (limit : M → Option ℕ) (core new : CoreState M) (room : DataRoom) (s : State) (i : ℕ) (a : Act) (said : Answer) (e : Effect) → Began maps spare limit core s i → IsSession i → Left maps spare limit s i e core new
-    → room.limit ≡ new.data_room.limit → share_at room.shares i ≡ 0 → ((j : ℕ) → j ≢ i → share_at room.shares j ≡ share_at new.data_room.shares j) → room.total ≡ new.data_room.total - share_at new.data_room.shares i → Says s i a said (e ∷ [])
+-- of an act whose one effect ends the transaction, for which nothing of the data is kept then, nor reserved of the log
+pub left_told : {M : Type 0} (maps : M → ℕ → Map) (spare : M → ℕ → ℕ) (limit : M → Option ℕ) (core new : CoreState M) (room : DataRoom) (log : LogRoom) (s : State) (i : ℕ) (a : Act) (said : Answer) (e : Effect) → Began maps spare limit core s i → IsSession i → Left maps spare limit s i e core new
+    → room.limit ≡ new.data_room.limit → share_at room.shares i ≡ 0 → ((j : ℕ) → j ≢ i → share_at room.shares j ≡ share_at new.data_room.shares j) → room.total ≡ new.data_room.total - share_at new.data_room.shares i
+    → log.limit ≡ new.log_room.limit → (IsRoomOf new.log_room s.store s.log → IsRoomOf log (does the_views s.store i e) (logs s.store i a e s.log)) → Says s i a said (e ∷ [])
     → log_after s i a said (e ∷ []) ≡ log_all s.store i a (e ∷ []) s.log → definitions_after s.definitions a said ≡ s.definitions → is_blocked said ≡ false → is_fault said ≡ false → (log_all s.store i a (e ∷ []) s.log).begun ≤ s.log.begun + 1
-    → Told maps spare limit s i a said (record new { data_room = room })
-left_told maps spare limit core new room s i a said e h is left same none others total says logs_same definitions not fine few = record {
+    → Told maps spare limit s i a said (record new { data_room = room; log_room = log })
+left_told {M} maps spare limit core new room log s i a said e h is left same none others total log_limit moves says logs_same definitions not fine few = record {
   reached = h.reached;
-  opening = subst (λ m. IsOpening m s) (sym (same ∙ ap (λ (d : DataRoom). d.limit) left.same_data)) h.opening;
+  opening = subst (λ most. IsOpening most room.limit s) (sym (log_limit ∙ ap (λ (x : LogRoom). x.limit) left.same_log)) (subst (λ most. IsOpening core.log_room.limit most s) (sym (same ∙ ap (λ (d : DataRoom). d.limit) left.same_data)) h.opening);
   runs = h.runs;
   effects = e ∷ [];
   says = says;
-  holds = subst (λ ds. Holds maps spare limit (record new { data_room = room }) (run the_views s.store i (e ∷ [])) (log_after s i a said (e ∷ [])) ds) (sym definitions)
-      (subst (λ l. Holds maps spare limit (record new { data_room = room }) (run the_views s.store i (e ∷ [])) l s.definitions) (sym logs_same)
-      (data_holds maps spare limit new room (run the_views s.store i (e ∷ [])) (log_all s.store i a (e ∷ []) s.log) s.definitions same (left.holds a)));
-  reserves = subst (λ ds. IsReserved room (schema_of (run the_views s.store i (e ∷ []))) (run the_views s.store i (e ∷ [])).open_of (log_after s i a said (e ∷ [])).logged ds) (sym definitions)
-      (subst (λ (l : Log). IsReserved room (schema_of (run the_views s.store i (e ∷ []))) (run the_views s.store i (e ∷ [])).open_of l.logged s.definitions) (sym logs_same)
-      (left.reserves a room (same ∙ ap (λ (d : DataRoom). d.limit) left.same_data) (settled_moves core.data_room new.data_room room i left.same_data none others total)));
+  holds = subst (λ ds. Holds maps spare limit last (run the_views s.store i (e ∷ [])) (log_after s i a said (e ∷ [])) ds) (sym definitions)
+      (subst (λ l. Holds maps spare limit last (run the_views s.store i (e ∷ [])) l s.definitions) (sym logs_same)
+      (log_holds maps spare limit (record new { data_room = room }) log (run the_views s.store i (e ∷ [])) (log_all s.store i a (e ∷ []) s.log) s.definitions
+      (data_holds maps spare limit new room (run the_views s.store i (e ∷ [])) (log_all s.store i a (e ∷ []) s.log) s.definitions same (left.holds a))));
+  reserves = subst (λ ds. Reserves maps spare limit last (run the_views s.store i (e ∷ [])) (log_after s i a said (e ∷ [])) ds) (sym definitions)
+      (subst (λ l. Reserves maps spare limit last (run the_views s.store i (e ∷ [])) l s.definitions) (sym logs_same) (record {
+        data_room = left.reserves a room (same ∙ ap (λ (d : DataRoom). d.limit) left.same_data) (settled_moves core.data_room new.data_room room i left.same_data none others total);
+        log_room = moves (subst (λ (x : LogRoom). IsRoomOf x s.store s.log) (sym left.same_log) h.reserves.log_room);
+      }));
   own = λ sessions b. absurd (not_blocked said sessions b not);
   none = λ _ _. left.own;
   waiting = λ j js n. left.others j n ∙ h.waiting j js n;
-  counts = data_counts maps spare limit new room s left.counts;
+  counts = record { steps = left.counts.steps; seats = left.counts.seats; few = left.counts.few; cleaner = left.counts.cleaner; removed = left.counts.removed; running = left.counts.running; begun = left.counts.begun; next = left.counts.next; stop = left.counts.stop };
   no_fault = fine;
   begins_one = subst (λ (l : Log). l.begun ≤ s.log.begun + 1) (sym logs_same) few;
   appends_one = subst (λ (l : Log). l.next ≤ s.log.next + 1) (sym logs_same) (left.appends_one a);
 }
+  where
+    last : CoreState M
+    last = record new { data_room = room; log_room = log }
 
 -- a transaction that keeps changes commits them, and another ends
 pub commits_some : (s : Store) (i number : ℕ) (cs : List RowChange) → cs ≢ [] → number ≡ (committed s).number + 1 → CommitsAs s i cs number (Commits ∷ [])

@@ -1,3 +1,4 @@
 pub mod Begins
 pub mod Leaves
 pub mod Past
+pub mod LogEnds

@@ -1,20 +1,25 @@
 //! Begin.
-ghost use Rattle.std.specs.Prelude.{◌≡◌, ◌+◌, ◌<◌, ◌≤◌, ◌^◌, ◌↔◌, IsTrue, IfOk, OnErr};
+ghost use Rattle.std.specs.Prelude.{◌≡◌, ◌+◌, ◌<◌, ◌≤◌, ◌^◌, ◌↔◌, ℕ, None, IsTrue, IfOk, OnErr};
 ghost use Rattle.iv_types.specs.declared.statement.Mode.TheVariants.{Serial};
+ghost use Rattle.iv_meaning.specs.Escrow.{IsSession};
 ghost use Rattle.core_state.specs.declared.limits.TheConstants.{MOST_OF_HISTORY};
 ghost use Rattle.txn_book.specs.declared.book.TheConstants.{ENTRY_BYTES};
 ghost use Rattle.txn_machine.specs.Acts as act;
+ghost use Rattle.txn_machine.specs.Acts.{Act};
 ghost use Rattle.txn_machine.specs.May.{MayAct};
 ghost use Rattle.txn_machine.specs.State.{State};
-ghost use Rattle.txn_machine.specs.Steps.{MayBegin};
-ghost use Rattle.txn_machine.specs.Store.{Opens};
-ghost use Rattle.txn_machine.specs.Log.{begun_after};
-ghost use Rattle.core_ends.specs.Ends.{number_in_log};
+ghost use Rattle.txn_machine.specs.Steps.{FitsLog, MayBegin};
+ghost use Rattle.txn_machine.specs.Store.{Store, Opens, does};
+ghost use Rattle.txn_machine.specs.Ghosts.{the_views};
+ghost use Rattle.txn_machine.specs.Log.{Log, begun_after, end_bytes, logs};
+ghost use Rattle.core_ends.specs.Ends.{number_in_log, FitsEnd};
 ghost use Rattle.txn_book.specs.Acts.{answer_of};
+ghost use Rattle.log_room.specs.Rooms.{IsRoomOf};
 ghost use Rattle.core_state.specs.Stands.{Began, Told};
 
 use core_state::{CoreState, MOST_OF_HISTORY};
 use iv_types::{EngineRefusal, Mode, NoMemory, SortedMaps};
+use log_room::{END_BYTES, LogRoom, same_room_law};
 use txn_book::{Answer, ENTRY_BYTES};
 
 // Whether there is room in the history for what a serial transaction counts.
@@ -45,6 +50,18 @@ fn number_in_log(mode: Mode, begun: u64) -> u64
     }
 }
 
+// Room is reserved in the log for the end of a transaction of this mode, where one needs it.
+fn reserve_end(log: &mut LogRoom, mode: Mode)
+    ensures limit { log.new.limit ≡ log.old.limit }
+    ensures room { (s : Store) (l : Log) (session : ℕ) (a : Act) → IsSession session → s.open_of session ≡ None → IsRoomOf log.old s l → FitsEnd mode log.old.limit s l
+        → IsRoomOf log.new (does the_views s session (Opens mode)) (logs s session a (Opens mode) l) }
+{
+    match mode {
+        Mode::Serial => log.begin(),
+        Mode::Snapshot => same_room_law(),
+    }
+}
+
 // Opens a transaction, for which there is room.
 fn open<M: SortedMaps>(
     core: &mut CoreState<M>,
@@ -64,13 +81,14 @@ fn open<M: SortedMaps>(
     let id = number_in_log(mode, begun);
     core.book.begin(session, mode, id)?;
     core.begun = begun;
+    reserve_end(&mut core.log_room, mode);
     Ok(Answer::Begun { number, defs })
 }
 
-// Opens a serial transaction, where there is room in the history.
-fn begin_serial<M: SortedMaps>(core: &mut CoreState<M>, session: u32) -> Result<Answer, NoMemory>
-    requires { (s : State) × Began M.maps M.spare M.limit core.old s session × MayAct s.store session (act.Begin Serial) }
-    ensures told { IfOk result (λ said. (s : State) → Began M.maps M.spare M.limit core.old s session → MayAct s.store session (act.Begin Serial) → Told M.maps M.spare M.limit s session (act.Begin Serial) (answer_of said) core.new) }
+// Opens a serial transaction, for whose end the log has room, where the history has room too.
+fn begin_logged<M: SortedMaps>(core: &mut CoreState<M>, session: u32) -> Result<Answer, NoMemory>
+    requires { (s : State) × Began M.maps M.spare M.limit core.old s session × MayAct s.store session (act.Begin Serial) × FitsLog s end_bytes }
+    ensures told { IfOk result (λ said. (s : State) → Began M.maps M.spare M.limit core.old s session → MayAct s.store session (act.Begin Serial) → FitsLog s end_bytes → Told M.maps M.spare M.limit s session (act.Begin Serial) (answer_of said) core.new) }
     ensures err { OnErr result ((s : State) → Began M.maps M.spare M.limit core.old s session → Began M.maps M.spare M.limit core.new s session) }
     ensures store { core.new.store ≡ core.old.store }
 {
@@ -85,7 +103,21 @@ fn begin_serial<M: SortedMaps>(core: &mut CoreState<M>, session: u32) -> Result<
     open(core, session, Mode::Serial)
 }
 
-/// Opens a transaction of a session that has none.
+// Opens a serial transaction, where there is room for its end in the log, and for what it counts in the history.
+fn begin_serial<M: SortedMaps>(core: &mut CoreState<M>, session: u32) -> Result<Answer, NoMemory>
+    requires { (s : State) × Began M.maps M.spare M.limit core.old s session × MayAct s.store session (act.Begin Serial) }
+    ensures told { IfOk result (λ said. (s : State) → Began M.maps M.spare M.limit core.old s session → MayAct s.store session (act.Begin Serial) → Told M.maps M.spare M.limit s session (act.Begin Serial) (answer_of said) core.new) }
+    ensures err { OnErr result ((s : State) → Began M.maps M.spare M.limit core.old s session → Began M.maps M.spare M.limit core.new s session) }
+    ensures store { core.new.store ≡ core.old.store }
+{
+    match core.log_room.refusal(END_BYTES) {
+        Some(why) => Ok(Answer::Refused(why)),
+        None => begin_logged(core, session),
+    }
+}
+
+/// Opens a transaction of a session that has none. A serial one is refused where the log has no room for its end, and then where
+/// the history has none for its entry.
 ///
 /// # Errors
 ///

@@ -1,13 +1,17 @@
 //! End and Commit.
 ghost use Rattle.std.specs.Prelude.{◌≡◌, ◌≢◌, ℕ, [], IsSome};
+ghost use Rattle.iv_types.specs.declared.statement.Mode.TheVariants.{Serial};
 ghost use Rattle.table_laws.specs.Place.{Place};
 ghost use Rattle.ghost_rows.specs.Rows.{row_at, settled_at};
 ghost use Rattle.ghost_rows.specs.State.{room_of};
 ghost use Rattle.iv_meaning.specs.Escrow.{IsSession};
 ghost use Rattle.lock_manager.specs.Table.{IsReleased};
 ghost use Rattle.txn_machine.specs.Acts as act;
-ghost use Rattle.txn_machine.specs.May.{IsOpen, MayAct};
-ghost use Rattle.txn_machine.specs.Store.{changes_by, now, Ends};
+ghost use Rattle.txn_machine.specs.Acts.{Act};
+ghost use Rattle.txn_machine.specs.Ghosts.{the_views};
+ghost use Rattle.txn_machine.specs.Log.{Log, logs};
+ghost use Rattle.txn_machine.specs.May.{IsOpen, IsReady, MayAct};
+ghost use Rattle.txn_machine.specs.Store.{Store, changes_by, does, now, Ends};
 ghost use Rattle.txn_machine.specs.Steps.{number_unchanged};
 ghost use Rattle.txn_machine.specs.State.{State};
 ghost use Rattle.txn_book.specs.Acts.{answer_of};
@@ -15,13 +19,15 @@ ghost use Rattle.txn_book.specs.Opens.{open_at};
 ghost use Rattle.data_store.specs.Contents.{Contents};
 ghost use Rattle.data_store.specs.Held.{IsHeld};
 ghost use Rattle.data_changes.specs.Effects.{keeping};
+ghost use Rattle.log_room.specs.Rooms.{IsRoomOf};
 ghost use Rattle.core_state.specs.Stands.{Began, Told};
-ghost use Rattle.core_ends.specs.Ends.{Left};
+ghost use Rattle.core_ends.specs.Ends.{EndsAs, IsEmpty, Left};
 
 use crate::entering::enter_it;
 use core_state::CoreState;
 use data_changes::settle;
 use iv_types::{Mode, SortedMaps};
+use log_room::{LogRoom, same_room_law};
 use txn_book::Answer;
 
 /// What a transaction held goes: its locks, and what was made for its pays.
@@ -52,13 +58,28 @@ fn end_it<M: SortedMaps>(core: &mut CoreState<M>, session: u32)
     }
 }
 
+// A transaction of this mode ends without an entry: nothing is reserved for it in the log any more, and an Abort is used where it
+// has appended a record.
+fn free_end(log: &mut LogRoom, mode: Mode, wrote: bool)
+    ensures limit { log.new.limit ≡ log.old.limit }
+    ensures room { (s : Store) (l : Log) (session : ℕ) (a : Act) → EndsAs s l session mode wrote → IsRoomOf log.old s l → IsRoomOf log.new (does the_views s session Ends) (logs s session a Ends l) }
+{
+    match mode {
+        Mode::Serial => log.end(wrote),
+        Mode::Snapshot => same_room_law(),
+    }
+}
+
 /// Ends a transaction that keeps no change, without an entry. Nothing is kept for it then. Takes no memory.
 pub fn end<M: SortedMaps>(core: &mut CoreState<M>, session: u32) -> Answer
     requires { (s : State) × Began M.maps M.spare M.limit core.old s session × MayAct s.store session act.End }
     ensures { (s : State) → Began M.maps M.spare M.limit core.old s session → MayAct s.store session act.End → Told M.maps M.spare M.limit s session act.End (answer_of result) core.new }
 {
+    let txn = core.open_of(session);
+    let (mode, wrote) = (txn.mode, txn.has_written);
     end_it(core, session);
     core.data_room.settle(session);
+    free_end(&mut core.log_room, mode, wrote);
     Answer::Ended
 }
 
@@ -74,6 +95,32 @@ fn own_number<M: SortedMaps>(core: &CoreState<M>, session: u32) -> u64
     }
 }
 
+// Commits a transaction that keeps changes.
+fn commit_changes<M: SortedMaps>(core: &mut CoreState<M>, session: u32) -> Answer
+    requires { (s : State) × Began M.maps M.spare M.limit core.old s session × IsReady s.store session Serial × (changes_by s.store session ≢ []) }
+    ensures { (s : State) → Began M.maps M.spare M.limit core.old s session → IsReady s.store session Serial → changes_by s.store session ≢ [] → Told M.maps M.spare M.limit s session act.Commit (answer_of result) core.new }
+{
+    let kept = core.open_of(session).kept.len() as u64;
+    let number = enter_it(core, session);
+    core.data_room.settle(session);
+    core.log_room.commit(kept);
+    Answer::Committed(number)
+}
+
+// Commits a transaction that keeps none.
+fn commit_none<M: SortedMaps>(core: &mut CoreState<M>, session: u32) -> Answer
+    requires { (s : State) × Began M.maps M.spare M.limit core.old s session × IsEmpty s.store session }
+    ensures { (s : State) → Began M.maps M.spare M.limit core.old s session → IsEmpty s.store session → Told M.maps M.spare M.limit s session act.Commit (answer_of result) core.new }
+{
+    let number = own_number(core, session);
+    let txn = core.open_of(session);
+    let (mode, wrote) = (txn.mode, txn.has_written);
+    end_it(core, session);
+    core.data_room.settle(session);
+    free_end(&mut core.log_room, mode, wrote);
+    Answer::Committed(number)
+}
+
 /// Commits a transaction that owes nothing: its changes are an entry of the next number, where it keeps some, and leave the versions
 /// that were made ahead. Takes no memory.
 pub fn commit<M: SortedMaps>(core: &mut CoreState<M>, session: u32) -> Answer
@@ -82,12 +129,7 @@ pub fn commit<M: SortedMaps>(core: &mut CoreState<M>, session: u32) -> Answer
 {
     core.book.book_law();
     if core.open_of(session).puts > 0 {
-        let number = enter_it(core, session);
-        core.data_room.settle(session);
-        return Answer::Committed(number);
+        return commit_changes(core, session);
     }
-    let number = own_number(core, session);
-    end_it(core, session);
-    core.data_room.settle(session);
-    Answer::Committed(number)
+    commit_none(core, session)
 }

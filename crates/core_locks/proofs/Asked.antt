@@ -35,10 +35,10 @@ use Rattle.txn_book.specs.Holding as book
 use Rattle.txn_book.proofs.Holding.{changed_holds, lost_is}
 use Rattle.data_store.specs.Contents.{contents_of}
 use Rattle.data_store.specs.Held.{IsHeld}
-use Rattle.data_room.specs.Reserved.{IsReserved}
 use Rattle.data_room.proofs.Kept.{reserved_one}
 use Rattle.data_room.proofs.Transactions.{now_room}
-use Rattle.core_state.specs.Stands.{Began, Told, Holds}
+use Rattle.log_room.specs.Rooms.{SameRoomLaw}
+use Rattle.core_state.specs.Stands.{Began, Told, Holds, Reserves}
 use Rattle.core_state.specs.declared.state.CoreState.{CoreState}
 use Rattle.lock_desk.specs.PayWants.{wants_at}
 use Rattle.data_past.proofs.Aheads.{ahead_loses}
@@ -137,8 +137,8 @@ module _ {M : Type 0} (maps : M → ℕ → Map) (spare : M → ℕ → ℕ) (li
             ahead = h.holds.ahead;
             rooms = rooms;
           }));
-      reserves = subst (λ ds. IsReserved core.data_room (schema_of s.store) s.store.open_of (log_after s i a (answer.Blocked sessions) []).logged ds) (sym (plain_definitions s.definitions a (answer.Blocked sessions) asks.0))
-          (subst (λ (l : Log). IsReserved core.data_room (schema_of s.store) s.store.open_of l.logged s.definitions) (sym same_log) h.reserves);
+      reserves = subst (λ ds. Reserves maps spare limit (record core { locks = after; wants = back }) s.store (log_after s i a (answer.Blocked sessions) []) ds) (sym (plain_definitions s.definitions a (answer.Blocked sessions) asks.0))
+          (subst (λ l. Reserves maps spare limit (record core { locks = after; wants = back }) s.store l s.definitions) (sym same_log) (record { data_room = h.reserves.data_room; log_room = h.reserves.log_room }));
       own = λ all e. ap (λ (x : SessionLocks). x.waiting) recorded.changed ∙ sym asks.1;
       none = λ b. absurd (cc);
       waiting = λ k is n. ap (λ (x : SessionLocks). x.waiting) (recorded.others k n) ∙ h.waiting k is n;
@@ -152,9 +152,9 @@ module _ {M : Type 0} (maps : M → ℕ → Map) (spare : M → ℕ → ℕ) (li
         same_log = plain_log s i a (answer.Blocked sessions) [] asks.0
 
     -- a deadlock met it
-    pub lost_told : (after : Books) (cycle : Cycle) (own : HasTxn (schema_of s.store) (open_at core.book.opens i) o.transaction (s.log.logged i)) → IsBook core.book → Changes core.book after i (lost (txn_of own.txn))
+    pub lost_told : (after : Books) (cycle : Cycle) (own : HasTxn (schema_of s.store) (open_at core.book.opens i) o.transaction (s.log.logged i)) → IsBook core.book → SameRoomLaw → Changes core.book after i (lost (txn_of own.txn))
         → IsDeadlock (locks_of s.store) (others_wait s.waiting i) i wants (sessions_of cycle) → Told maps spare limit s i a (answer.Refused (refusal.Deadlock cycle)) (record core { book = after })
-    lost_told after cycle own good changes deadlock = record {
+    lost_told after cycle own good law changes deadlock = record {
       reached = h.reached;
       opening = h.opening;
       runs = h.runs;
@@ -190,10 +190,12 @@ module _ {M : Type 0} (maps : M → ℕ → Map) (spare : M → ℕ → ℕ) (li
                 (lost (txn_of own.txn)) good o.of_session h.holds.rooms changes (λ index. let same : gone_if index (open_at core.book.opens i) ≡ gone_if index (Some own.txn) = ap (gone_if index) own.there in omega (arith, same)) (elsewhere_same i core.store.views core.locks core.wants)
                 (covered_alike core.store.catalog core.store.views core.locks (wants_at core.wants i) i (txn_of own.txn) (lost (txn_of own.txn)) refl refl refl (h.holds.rooms.each i o.of_session own.txn own.there).small (h.holds.rooms.each i o.of_session own.txn own.there));
           }));
-      reserves = subst (λ ds. IsReserved core.data_room (schema_of s.store) (with_one s.store.open_of i (Some lost_one)) (log_after s i a (answer.Refused (refusal.Deadlock cycle)) (Loses ∷ [])).logged ds) (sym (plain_definitions s.definitions a (answer.Refused (refusal.Deadlock cycle)) asks.0))
-          (subst (λ (l : Log). IsReserved core.data_room (schema_of s.store) (with_one s.store.open_of i (Some lost_one)) l.logged s.definitions) (sym same_log)
-          (reserved_one (schema_of s.store) s.store.open_of s.log.logged (logs s.store i a Loses s.log).logged i (Some lost_one) (s.log.logged i) (λ j. ap (λ (f : ℕ → Logged). f j) (logs_logged s.store i a Loses s.log))
-          core.data_room s.definitions (now_room (schema_of s.store) (s.store.open_of i) (s.log.logged i).ghosted) h.reserves));
+      reserves = subst (λ ds. Reserves maps spare limit (record core { book = after }) (with_txn s.store i (Some lost_one)) (log_after s i a (answer.Refused (refusal.Deadlock cycle)) (Loses ∷ [])) ds) (sym (plain_definitions s.definitions a (answer.Refused (refusal.Deadlock cycle)) asks.0))
+          (subst (λ l. Reserves maps spare limit (record core { book = after }) (with_txn s.store i (Some lost_one)) l s.definitions) (sym same_log) (record {
+            data_room = reserved_one (schema_of s.store) s.store.open_of s.log.logged (logs s.store i a Loses s.log).logged i (Some lost_one) (s.log.logged i) (λ j. ap (λ (f : ℕ → Logged). f j) (logs_logged s.store i a Loses s.log))
+                core.data_room s.definitions (now_room (schema_of s.store) (s.store.open_of i) (s.log.logged i).ghosted) h.reserves.data_room;
+            log_room = law.deadlocks core.log_room s.store s.log i a o.of_session (o.is_open ∙ ap Some (sym (now_is maps spare limit core s i h o))) h.reserves.log_room;
+          }));
       own = λ sessions e. absurd (cc);
       none = λ _ is. h.own is;
       waiting = h.waiting;

@@ -17,6 +17,7 @@ ghost use Rattle.core_locks.specs.Asks.{Asks, others_wait};
 use core_state::CoreState;
 use iv_types::{Cycle, EngineRefusal, Sessions, SortedMaps, WantList};
 use lock_desk::{Asked, ask};
+use log_room::same_room_law;
 use txn_book::Answer;
 
 // The session waits for these, who are in the way.
@@ -41,6 +42,7 @@ pub fn lose<M: SortedMaps>(core: &mut CoreState<M>, session: u32, cycle: Cycle) 
         → Told M.maps M.spare M.limit s session a (answer_of result) core.new }
 {
     core.book.book_law();
+    same_room_law();
     core.book.lose(session);
     Answer::Refused(EngineRefusal::Deadlock(cycle))
 }

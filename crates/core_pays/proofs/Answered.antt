@@ -38,6 +38,8 @@ use Rattle.data_room.specs.Reserved.{share_at, first_bytes, IsReserved}
 use Rattle.data_room.specs.declared.room.DataRoom.{DataRoom}
 use Rattle.data_room.proofs.Kept.{reserved_one, reserved_back}
 use Rattle.data_room.proofs.Transactions.{now_room, paid_room}
+use Rattle.log_room.specs.Rooms as log
+use Rattle.log_room.specs.Rooms.{IsRoomOf, SameRoomLaw}
 use Rattle.core_state.specs.Stands.{Told, Holds, Reserves}
 use Rattle.core_state.specs.declared.state.CoreState.{CoreState}
 use Rattle.core_state.proofs.Sessions.{kept_same}
@@ -138,7 +140,26 @@ module _ {M : Type 0} (maps : M → ℕ → Map) (spare : M → ℕ → ℕ) (li
   pub between_reserves : IsReserved core.data_room (schema_of s.store) between.open_of log_between.logged s.definitions
   between_reserves =
       reserved_one (schema_of s.store) s.store.open_of s.log.logged log_between.logged i (Some with_lock) (s.log.logged i) (λ j. ap (λ (f : ℕ → Logged). f j) (logs_logged s.store i act.Pay (Takes (asked s.store i act.Pay)) s.log))
-      core.data_room s.definitions (now_room (schema_of s.store) (s.store.open_of i) (s.log.logged i).ghosted) h.reserves
+      core.data_room s.definitions (now_room (schema_of s.store) (s.store.open_of i) (s.log.logged i).ghosted) h.reserves.data_room
+
+  -- nor does it in the log
+  pub between_logged : SameRoomLaw → IsRoomOf core.log_room between log_between
+  between_logged law =
+      law.locks core.log_room s.store s.log i act.Pay (asked s.store i act.Pay) session (h.owes.goes_on.is_open ∙ ap Some (sym (ap (λ x. unwrap_or x idle) h.owes.goes_on.is_open))) h.reserves.log_room
+
+  -- the delta in the words of the log
+  pub owes_logged : log.OwesFirst between log_between i h.owes.first (log_between.logged i).ghosted
+  owes_logged = record {
+    serial = record {
+      of_session = session;
+      is_open = one_same s.store.open_of i (Some with_lock) i refl ∙ ap Some (sym same_now);
+      mode_is = ap (λ (x : Open). x.mode) same_now ∙ (ap (λ x. (unwrap_or x idle).mode) h.owes.goes_on.is_open ∙ h.owes.goes_on.mode_is);
+    };
+    others = h.owes.others;
+    owed_is = the_first.owed_is;
+    none_back = the_first.none_back;
+    ghosted_is = refl;
+  }
 
   -- the row of the delta can be stored
   pub can_store_first : CanStore (maps core.store.tables) (limit core.store.tables) (place_of h.owes.first) (width h.owes.first)

@@ -1,5 +1,5 @@
 -- The first delta that a session owes, and its wants.
-use Rattle.std.specs.Prelude.{◌≡◌, ◌≢◌, ℕ, zero, suc, ◌+◌, ◌≤◌, List, [], ◌∷◌, map, length, slice_get, Option, None, Some, refl}
+use Rattle.std.specs.Prelude.{◌≡◌, ◌≢◌, ℕ, Bool, zero, suc, ◌+◌, ◌≤◌, List, [], ◌∷◌, map, length, slice_get, Option, None, Some, refl}
 use Rattle.std.specs.Option.{unwrap_or}
 use Rattle.std.specs.List.{Contains, All}
 use mathlib.Core.Path.{sym, ap, subst, ◌∙◌}
@@ -21,6 +21,7 @@ use Rattle.txn_machine.proofs.Shapes.{delta_law}
 use Rattle.core_state.specs.Rooms.{IsWanted, AreWanted}
 use Rattle.core_state.specs.Stands.{Began}
 use Rattle.core_state.specs.declared.state.CoreState.{CoreState}
+use Rattle.log_room.specs.Rooms as log
 use Rattle.core_effects.specs.Owing.{OwesFirst}
 use Rattle.core_effects.proofs.Deltas.{covered, still_there}
 use Rattle.core_pays.specs.Holding.{IsNextWant}
@@ -56,6 +57,20 @@ module _ {M : Type 0} (maps : M → ℕ → Map) (spare : M → ℕ → ℕ) (li
 
   abbrev pub owes_first : OwesFirst s.store i
   owes_first = record { is_open = the_open; first = o.first; others = o.others; owed_is = owed_now; none_back = ap (λ x. (unwrap_or x idle).back) o.goes_on.is_open ∙ o.none_back; delta = a_delta }
+
+  -- the same of the log
+  pub logged_first : (ghosted : Bool) → (s.log.logged i).ghosted ≡ ghosted → log.OwesFirst s.store s.log i o.first ghosted
+  logged_first ghosted is = record {
+    serial = record {
+      of_session = o.goes_on.of_session;
+      is_open = o.goes_on.is_open ∙ ap Some (sym (ap (λ x. unwrap_or x idle) o.goes_on.is_open));
+      mode_is = ap (λ x. (unwrap_or x idle).mode) o.goes_on.is_open ∙ o.goes_on.mode_is;
+    };
+    others = o.others;
+    owed_is = owed_now;
+    none_back = ap (λ x. (unwrap_or x idle).back) o.goes_on.is_open ∙ o.none_back;
+    ghosted_is = is;
+  }
 
   pub asked_is : asked s.store i act.Pay ≡ group_want o.first ∷ []
   asked_is = ap first_want owed_now

@@ -28,7 +28,7 @@ use Rattle.core_effects.specs.Underway.{IsUnderway}
 use Rattle.lock_manager.specs.Table as table
 use Rattle.core_effects.proofs.Done.{told_by, begun_underway, still_underway}
 use Rattle.core_pays.proofs.Firsts.{owed_now, a_delta}
-use Rattle.core_pays.proofs.Reserving.{can_store_it, first_fits}
+use Rattle.core_pays.proofs.Reserving.{can_store_it, first_fits, never_ghosted}
 
 pub none_of : {X : Type 0} (o : Option X) → is_some o ≡ false → o ≡ None
 none_of None e = refl
@@ -41,6 +41,10 @@ module _ {M : Type 0} (maps : M → ℕ → Map) (spare : M → ℕ → ℕ) (li
       can_store_it maps spare limit core s i (begun_underway maps spare limit core s i h) h.reserves s.store s.log h.holds refl refl refl o.first (a_delta maps spare limit core s i h o)
       (first_fits maps spare limit core s i (begun_underway maps spare limit core s i h) h.reserves o.goes_on.of_session o.goes_on.transaction o.goes_on.is_open o.first o.others o.owed_is o.none_back)
 
+  -- which had no Ghost then
+  pub no_ghost : get s.store.view (place_of o.first) ≡ None → (s.log.logged i).ghosted ≡ false
+  no_ghost = never_ghosted maps spare limit core s i (begun_underway maps spare limit core s i h) h.reserves o.goes_on.of_session o.goes_on.transaction o.goes_on.is_open o.first o.others o.owed_is o.none_back
+
   -- with what was kept for it given back
   pub ghosted_reserved : (l : Log) → l.logged ≡ with_one s.log.logged i (s.log.logged i) → (room was : DataRoom) (bytes : ℕ) → was ≡ core.data_room → room.limit ≡ was.limit → bytes ≡ min (first_bytes (s.log.logged i).ghosted o.first) (2 ^ 64 - 1)
       → share_at was.shares i < 2 ^ 64 → share_at room.shares i ≡ share_at was.shares i - bytes → ((j : ℕ) → j ≢ i → share_at room.shares j ≡ share_at was.shares j) → room.total ≡ was.total - (share_at was.shares i - share_at room.shares i)
@@ -49,7 +53,7 @@ module _ {M : Type 0} (maps : M → ℕ → Map) (spare : M → ℕ → ℕ) (li
       let logged_is : l.logged ≡ s.log.logged = same_logged ∙ same_again s.log.logged i in
       subst (λ (f : ℕ → Option Open). IsReserved room (schema_of s.store) f (with_ghost l i).logged s.definitions) (same_again s.store.open_of i)
       (reserved_back (schema_of s.store) s.store.open_of s.log.logged (with_ghost l i).logged i (s.store.open_of i) (record (s.log.logged i) { ghosted = true }) (λ j. ap (λ (f : ℕ → Logged). with_one f i (record (f i) { ghosted = true }) j) logged_is)
-      core.data_room was room s.definitions o.goes_on.of_session h.reserves same same_limit bytes (first_bytes (s.log.logged i).ghosted o.first) bytes_are
+      core.data_room was room s.definitions o.goes_on.of_session h.reserves.data_room same same_limit bytes (first_bytes (s.log.logged i).ghosted o.first) bytes_are
       (subst (λ (x : Option Open). room_kept (schema_of s.store) x true + first_bytes (s.log.logged i).ghosted o.first ≡ room_kept (schema_of s.store) x (s.log.logged i).ghosted) (sym o.goes_on.is_open)
       (ghosted_room (schema_of s.store) o.goes_on.transaction (s.log.logged i).ghosted o.first o.others o.owed_is o.none_back))
       small mine others total)
@@ -70,7 +74,7 @@ pub ghosted_underway : {M : Type 0} (maps : M → ℕ → Map) (spare : M → �
     → middle ≡ record core { store = middle.store; next = middle.next } → new ≡ record middle { book = new.book } → IsUnderway maps spare limit s i new
 ghosted_underway maps spare limit core middle new s i h one two =
     still_underway maps spare limit core new s i (begun_underway maps spare limit core s i h)
-    (record { steps = ap (λ x. x.steps) two ∙ ap (λ x. x.steps) one; seats = ap (λ x. x.seats) two ∙ ap (λ x. x.seats) one; cleaner = ap (λ x. x.cleaner) two ∙ ap (λ x. x.cleaner) one; stop = ap (λ x. x.stop) two ∙ ap (λ x. x.stop) one; limit = ap (λ x. x.data_room.limit) two ∙ ap (λ x. x.data_room.limit) one })
+    (record { steps = ap (λ x. x.steps) two ∙ ap (λ x. x.steps) one; seats = ap (λ x. x.seats) two ∙ ap (λ x. x.seats) one; cleaner = ap (λ x. x.cleaner) two ∙ ap (λ x. x.cleaner) one; stop = ap (λ x. x.stop) two ∙ ap (λ x. x.stop) one; limit = ap (λ x. x.data_room.limit) two ∙ ap (λ x. x.data_room.limit) one; log_limit = ap (λ x. x.log_room.limit) two ∙ ap (λ x. x.log_room.limit) one })
     (λ js. (ap (λ x. table.waiting_of x.locks i) two ∙ ap (λ x. table.waiting_of x.locks i) one) ∙ h.own js) (λ j n. ap (λ x. table.waiting_of x.locks j) two ∙ ap (λ x. table.waiting_of x.locks j) one)
 
 -- a step that is under way, of a core that holds what it held, has begun

@@ -102,7 +102,7 @@ module _ {M : Type 0} (maps : M → ℕ → Map) (spare : M → ℕ → ℕ) (li
         let room = granted_it.room in
         let had = first_there.2 in
         record {
-          underway = still_underway maps spare limit core (record core { locks = after; wants = back }) s i (begun_underway maps spare limit core s i h) (record { steps = refl; seats = refl; cleaner = refl; stop = refl; limit = refl })
+          underway = still_underway maps spare limit core (record core { locks = after; wants = back }) s i (begun_underway maps spare limit core s i h) (record { steps = refl; seats = refl; cleaner = refl; stop = refl; limit = refl; log_limit = refl })
               (λ _. granted_it.waiting) (λ j n. ap (λ (x : SessionLocks). x.waiting) (granted_it.others j n));
           owes = o;
           free = subst (IsFree s.store i) (sym (asked_is maps spare limit core s i h o)) free;
@@ -111,7 +111,7 @@ module _ {M : Type 0} (maps : M → ℕ → Map) (spare : M → ℕ → ℕ) (li
               (rooms_after after back granted_it.others others
               (subst (λ b. AreWanted (table.room_of after i) (table.locks_of after i) (table.waiting_of after i) b (o.first ∷ o.others)) (sym left_is)
               (inr (inl (refl, granted_it.waiting, (granted_it.locks want).1 (inr (0, omega arith, refl)), omega (arith, room, had))), first_there.3))));
-          reserves = h.reserves;
+          reserves = record { data_room = h.reserves.data_room; log_room = h.reserves.log_room };
         }
 
   -- ---- it has the lock already

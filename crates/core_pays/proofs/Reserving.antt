@@ -1,7 +1,7 @@
 -- What a session keeps of the data for what it pays and takes back, and that there is room for it.
-use Rattle.std.specs.Prelude.{◌≡◌, ◌≢◌, ℕ, ◌+◌, ◌-◌, ◌≤◌, ◌<◌, ◌^◌, min, ℤ, Bool, true, false, List, [], ◌∷◌, drop, map, reverse, Option, None, Some, IsSome, IfSome, refl}
+use Rattle.std.specs.Prelude.{◌≡◌, ℕ, ◌+◌, ◌-◌, ◌≤◌, ◌^◌, min, ℤ, Bool, true, false, List, [], ◌∷◌, drop, map, reverse, Option, None, Some, IsSome, IfSome, refl}
 use Rattle.std.specs.List.{sum}
-use Rattle.std.specs.Option.{option_map, option_copied}
+use Rattle.std.specs.Option.{option_map}
 use Rattle.std.specs.FinMap.{get}
 use mathlib.Core.Path.{sym, ap, subst, ◌∙◌}
 use mathlib.Core.Logic.{inl, inr}
@@ -44,20 +44,21 @@ use Rattle.txn_machine.proofs.LogRoom.{IsThere}
 use Rattle.txn_machine.proofs.LogSteps.{roomy_reached}
 use Rattle.txn_machine.proofs.Shapes.{stored_row_law}
 use Rattle.txn_book.specs.Opens.{open_at}
-use Rattle.txn_book.specs.Txns.{txn_of}
 use Rattle.txn_book.specs.declared.open_table.Open.{Open as BookOpen}
 use Rattle.data_store.specs.Contents.{contents_of}
-use Rattle.data_room.specs.Reserved.{Where, share_at, kept_for, first_bytes, AreReserved}
+use Rattle.data_room.specs.Reserved.{Where, share_at, kept_for, first_bytes, AreReserved, IsReserved}
 use Rattle.data_room.specs.declared.room.DataRoom.{DataRoom}
 use Rattle.data_room.proofs.Kept.{share_least}
 use Rattle.data_room.proofs.Transactions.{now_room, first_least, unput_room}
 use Rattle.data_room.proofs.Wheres.{where_map, within_fewer}
+use Rattle.log_room.specs.Rooms.{IsRoomOf}
+use Rattle.log_room.specs.declared.room.LogRoom.{LogRoom}
 use Rattle.core_state.specs.Stands.{Began, Holds, Reserves}
 use Rattle.core_state.specs.declared.state.CoreState.{CoreState}
-use Rattle.core_state.proofs.Data.{data_within}
+use Rattle.core_state.proofs.Data.{data_holds, log_holds, data_within}
 use Rattle.core_effects.specs.Owing.{OwesFirst}
 use Rattle.core_effects.specs.Underway.{IsUnderway}
-use Rattle.core_effects.specs.Undoing.{KeepsPay, KeepsPut, KeepsOne, FitsBack, CanGoBack}
+use Rattle.core_effects.specs.Undoing.{KeepsPay, KeepsPut, KeepsOne, CanGoBack}
 use Rattle.core_effects.proofs.Deltas.{can_store, mine, owed_there}
 use Rattle.core_effects.proofs.Done.{still_underway}
 use Rattle.core_effects.proofs.Opened.{Has}
@@ -65,9 +66,22 @@ use Rattle.core_effects.proofs.Unpaid as pay
 use Rattle.core_effects.proofs.Unput as put
 use Rattle.core_pays.specs.Keeping.{change_in, latest_bytes}
 
--- what is kept alone becomes another
-pub data_underway : {M : Type 0} (maps : M → ℕ → Map) (spare : M → ℕ → ℕ) (limit : M → Option ℕ) (core : CoreState M) (room : DataRoom) (s : State) (i : ℕ) → IsUnderway maps spare limit s i core → room.limit ≡ core.data_room.limit → IsUnderway maps spare limit s i (record core { data_room = room })
-data_underway maps spare limit core room s i u same = still_underway maps spare limit core (record core { data_room = room }) s i u (record { steps = refl; seats = refl; cleaner = refl; stop = refl; limit = same }) u.own (λ j n. refl)
+-- what is kept of the data and reserved in the log alone becomes another
+module _ {M : Type 0} (maps : M → ℕ → Map) (spare : M → ℕ → ℕ) (limit : M → Option ℕ) (core : CoreState M) (room : DataRoom) (log : LogRoom) (same : room.limit ≡ core.data_room.limit) where
+  pub rooms_hold : (b : Store) (l : Log) (texts : List (List ℕ)) → Holds maps spare limit core b l texts → Holds maps spare limit (record core { data_room = room; log_room = log }) b l texts
+  rooms_hold b l texts h = log_holds maps spare limit (record core { data_room = room }) log b l texts (data_holds maps spare limit core room b l texts same h)
+
+  pub rooms_underway : (s : State) (i : ℕ) → log.limit ≡ core.log_room.limit → IsUnderway maps spare limit s i core → IsUnderway maps spare limit s i (record core { data_room = room; log_room = log })
+  rooms_underway s i same_log u =
+      still_underway maps spare limit core (record core { data_room = room; log_room = log }) s i u (record { steps = refl; seats = refl; cleaner = refl; stop = refl; limit = same; log_limit = same_log }) u.own (λ j n. refl)
+
+-- where neither does, as much is kept and reserved
+pub reserves_as : {M : Type 0} (maps : M → ℕ → Map) (spare : M → ℕ → ℕ) (limit : M → Option ℕ) (core new : CoreState M) (b : Store) (l : Log) (texts : List (List ℕ)) → new.data_room ≡ core.data_room → new.log_room ≡ core.log_room
+    → Reserves maps spare limit core b l texts → Reserves maps spare limit new b l texts
+reserves_as maps spare limit core new b l texts same same_log r = record {
+  data_room = subst (λ (d : DataRoom). IsReserved d (schema_of b) b.open_of l.logged texts) (sym same) r.data_room;
+  log_room = subst (λ (x : LogRoom). IsRoomOf x b l) (sym same_log) r.log_room;
+}
 
 -- ---- the first delta
 
@@ -75,13 +89,14 @@ module _ {M : Type 0} (maps : M → ℕ → Map) (spare : M → ℕ → ℕ) (li
   pub is_open : IsSome (open_at core.book.opens i)
   is_open = subst IsSome (sym (mine maps spare limit core s l texts i h o).there) refl
 
-  pub first_told : (t : BookOpen) → open_at core.book.opens i ≡ Some t → (bytes : ℕ) → ((d : GroupDelta) (ds : List GroupDelta) → reverse t.owed.items ≡ d ∷ ds → bytes ≡ min (first_bytes t.is_ghosted d) (2 ^ 64 - 1)) → bytes ≡ min (first_bytes (l.logged i).ghosted o.first) (2 ^ 64 - 1)
-  first_told t there bytes f =
+  pub first_told : (t : BookOpen) → open_at core.book.opens i ≡ Some t → (size : Bool → GroupDelta → ℕ) (bytes : ℕ) → ((d : GroupDelta) (ds : List GroupDelta) → reverse t.owed.items ≡ d ∷ ds → bytes ≡ min (size t.is_ghosted d) (2 ^ 64 - 1))
+      → bytes ≡ min (size (l.logged i).ghosted o.first) (2 ^ 64 - 1)
+  first_told t there size bytes f =
       let own : Has (schema_of s) (open_at core.book.opens i) (now s i) (l.logged i) = mine maps spare limit core s l texts i h o in
       let one : Some t ≡ Some own.txn = sym there ∙ own.there in
       let same : t ≡ own.txn = cc in
       let ghosted : t.is_ghosted ≡ (l.logged i).ghosted = ap (λ (y : BookOpen). y.is_ghosted) same ∙ own.is.ghosted in
-      f o.first o.others (ap (λ (y : BookOpen). reverse y.owed.items) same ∙ owed_there maps spare limit core s l texts i h o) ∙ ap (λ b. min (first_bytes b o.first) (2 ^ 64 - 1)) ghosted
+      f o.first o.others (ap (λ (y : BookOpen). reverse y.owed.items) same ∙ owed_there maps spare limit core s l texts i h o) ∙ ap (λ b. min (size b o.first) (2 ^ 64 - 1)) ghosted
 
 -- ---- room
 
@@ -108,25 +123,29 @@ module _ {M : Type 0} (maps : M → ℕ → Map) (spare : M → ℕ → ℕ) (li
         let least : share_at core.data_room.shares i ≤ core.data_room.total = share_least core.data_room (schema_of s.store) s.store.open_of s.log.logged s.definitions i session r in
         omega (arith, own, least)
 
-    -- the first delta that is owed has room for its row where it is absent
-    pub first_fits : (t : Open) → s.store.open_of i ≡ Some t → (d : GroupDelta) (ds : List GroupDelta) → t.owed ≡ d ∷ ds → t.back ≡ 0 → get s.store.view (place_of d) ≡ None → Where core.data_room.limit (delta_entry d ≤ core.data_room.total)
-    first_fits t has d ds owed back none = where_map core.data_room.limit (λ (r : AreReserved core.data_room (schema_of s.store) s.store.open_of s.log.logged s.definitions).
-        let all = of_session r in
-        let same : room_kept (schema_of s.store) (s.store.open_of i) (s.log.logged i).ghosted ≡ room_kept (schema_of s.store) (Some t) (s.log.logged i).ghosted = ap (λ (o : Option Open). room_kept (schema_of s.store) o (s.log.logged i).ghosted) has in
-        let least : first_bytes (s.log.logged i).ghosted d ≤ room_kept (schema_of s.store) (Some t) (s.log.logged i).ghosted = first_least (schema_of s.store) t (s.log.logged i).ghosted d ds owed back in
-        let entry : first_bytes (s.log.logged i).ghosted d ≡ delta_entry d = ap (λ b. first_bytes b d) (no_ghost (s.log.logged i).ghosted refl) in
-        let le : delta_entry d ≤ core.data_room.total = omega (arith, all, same, least, entry) in
-        le) reserves
+    -- a delta whose row is absent had no Ghost
+    pub never_ghosted : (t : Open) → s.store.open_of i ≡ Some t → (d : GroupDelta) (ds : List GroupDelta) → t.owed ≡ d ∷ ds → t.back ≡ 0 → get s.store.view (place_of d) ≡ None → (s.log.logged i).ghosted ≡ false
+    never_ghosted t has d ds owed back none = no_ghost (s.log.logged i).ghosted refl
       where
         there : IsThere s.store.view (Some t) (s.log.logged i)
         there = subst (λ (o : Option Open). IsThere s.store.view o (s.log.logged i)) has
-            ((roomy_reached s u.reached (subst (λ (o : Opening). Within o.log_limit (block_bytes + 1)) (sym u.opening.is) tt) u.runs).there i session)
+            ((roomy_reached s u.reached (subst (λ (o : Opening). Within o.log_limit (block_bytes + 1)) (sym u.opening.is) u.opening.least) u.runs).there i session)
 
         no_ghost : (ghosted : Bool) → (s.log.logged i).ghosted ≡ ghosted → (s.log.logged i).ghosted ≡ false
         no_ghost false e = e
         no_ghost true e =
             let some : IsSome (get s.store.view (place_of d)) = (there e d ds (λ x. drop (back x) (owed x))).1 in
             absurd (let bad : IsSome {T = List ℤ} None = subst IsSome none some in cc)
+
+    -- the first delta that is owed has room for its row where it is absent
+    pub first_fits : (t : Open) → s.store.open_of i ≡ Some t → (d : GroupDelta) (ds : List GroupDelta) → t.owed ≡ d ∷ ds → t.back ≡ 0 → get s.store.view (place_of d) ≡ None → Where core.data_room.limit (delta_entry d ≤ core.data_room.total)
+    first_fits t has d ds owed back none = where_map core.data_room.limit (λ (r : AreReserved core.data_room (schema_of s.store) s.store.open_of s.log.logged s.definitions).
+        let all = of_session r in
+        let same : room_kept (schema_of s.store) (s.store.open_of i) (s.log.logged i).ghosted ≡ room_kept (schema_of s.store) (Some t) (s.log.logged i).ghosted = ap (λ (o : Option Open). room_kept (schema_of s.store) o (s.log.logged i).ghosted) has in
+        let least : first_bytes (s.log.logged i).ghosted d ≤ room_kept (schema_of s.store) (Some t) (s.log.logged i).ghosted = first_least (schema_of s.store) t (s.log.logged i).ghosted d ds owed back in
+        let entry : first_bytes (s.log.logged i).ghosted d ≡ delta_entry d = ap (λ b. first_bytes b d) (never_ghosted t has d ds owed back none) in
+        let le : delta_entry d ≤ core.data_room.total = omega (arith, all, same, least, entry) in
+        le) reserves.data_room
 
 -- ---- the latest step
 
@@ -146,7 +165,7 @@ module _ {M : Type 0} (maps : M → ℕ → Map) (spare : M → ℕ → ℕ) (li
       let kept = unput_room (schema_of s.store) (now s.store i) (s.log.logged i).ghosted o.change o.owed o.earlier [] o.kept_is in
       let back : growth_back (schema_of s.store) o.change ≡ perhaps_entries (schema_of s.store) o.change.key o.change.before - perhaps_entries (schema_of s.store) o.change.key o.change.after = refl in
       let le : used (maps core.store.tables) + perhaps_entries (schema_of s.store) o.change.key o.change.before - perhaps_entries (schema_of s.store) o.change.key o.change.after ≤ used (maps core.store.tables) + core.data_room.total = omega (arith, all, held, kept, back) in
-      le) reserves))
+      le) reserves.data_room))
       (within_now maps spare limit core s i u reserves s.store s.log h refl refl refl)
 
 -- a row that is there fits the table of its place
@@ -197,28 +216,33 @@ module _ {M : Type 0} (maps : M → ℕ → Map) (spare : M → ℕ → ℕ) (li
           let same : k ≡ it.kept = cc in
           (o, ap (λ (x : Kept). row_change x.change) same ∙ it.change)
 
-      pub no_change : found ≡ None → KeepsOne s.store i → latest_bytes (schema_of s.store) (now s.store i) (s.log.logged i).ghosted (now s.store i).kept ≡ 0
-      no_change is (inl o) = ap (latest_bytes (schema_of s.store) (now s.store i) (s.log.logged i).ghosted) o.kept_is
-      no_change is (inr o) =
+      pub latest_pay : found ≡ None → KeepsOne s.store i → KeepsPay s.store i
+      latest_pay is (inl o) = o
+      latest_pay is (inr o) =
           let it = put.last maps spare limit core s.store s.log s.definitions i h.holds o in
           let some : found ≡ Some it.kept = f (step.Put it.kept it.txn_bytes it.history_bytes it.number) it.steps (put.there_latest maps spare limit core s.store s.log s.definitions i h.holds o t there) in
           absurd (let bad : Some it.kept ≡ None = sym some ∙ is in cc)
 
-    pub latest_told : (o : KeepsPut s.store i) (k : Kept) → row_change k.change ≡ o.change → (one two : ℕ) → one ≡ min (growth_back (defined.schema_of core.store.catalog) (row_change k.change)) (2 ^ 64 - 1)
-        → two ≡ min (sum (map delta_entry (unghosted t.is_ghosted (drop t.back (reverse t.owed.items))))) (2 ^ 64 - 1)
-        → min (one + two) (2 ^ 64 - 1) ≡ min (latest_bytes (schema_of s.store) (now s.store i) (s.log.logged i).ghosted (now s.store i).kept) (2 ^ 64 - 1)
-    latest_told o k same one two one_is two_is =
-        let own = pay_own o in
+      pub no_change : found ≡ None → KeepsOne s.store i → latest_bytes (schema_of s.store) (now s.store i) (s.log.logged i).ghosted (now s.store i).kept ≡ 0
+      no_change is keeps = ap (latest_bytes (schema_of s.store) (now s.store i) (s.log.logged i).ghosted) (latest_pay is keeps).kept_is
+
+    -- what the book has still to be paid
+    pub still_as : KeepsPut s.store i → (size : Bool → List GroupDelta → ℕ) → size t.is_ghosted (drop t.back (reverse t.owed.items)) ≡ size (s.log.logged i).ghosted (still_owed (now s.store i))
+    still_as o size =
+        let own : Has (schema_of s.store) (open_at core.book.opens i) (now s.store i) (s.log.logged i) = put.mine maps spare limit core s.store s.log s.definitions i h.holds o in
         let txn : Some t ≡ Some own.txn = sym there ∙ own.there in
         let here : t ≡ own.txn = cc in
         let ghosted : t.is_ghosted ≡ (s.log.logged i).ghosted = ap (λ (y : BookOpen). y.is_ghosted) here ∙ own.is.ghosted in
         let back : t.back ≡ (now s.store i).back = ap (λ (y : BookOpen). y.back) here ∙ own.is.back in
         let owed : reverse t.owed.items ≡ (now s.store i).owed = ap (λ (y : BookOpen). reverse y.owed.items) here ∙ own.is.owed in
-        let sums : sum (map delta_entry (unghosted t.is_ghosted (drop t.back (reverse t.owed.items)))) ≡ sum (map delta_entry (unghosted (s.log.logged i).ghosted (still_owed (now s.store i)))) = λ x. sum (map delta_entry (unghosted (ghosted x) (drop (back x) (owed x)))) in
+        λ x. size (ghosted x) (drop (back x) (owed x))
+
+    pub latest_told : (o : KeepsPut s.store i) (k : Kept) → row_change k.change ≡ o.change → (one two : ℕ) → one ≡ min (growth_back (defined.schema_of core.store.catalog) (row_change k.change)) (2 ^ 64 - 1)
+        → two ≡ min (sum (map delta_entry (unghosted t.is_ghosted (drop t.back (reverse t.owed.items))))) (2 ^ 64 - 1)
+        → min (one + two) (2 ^ 64 - 1) ≡ min (latest_bytes (schema_of s.store) (now s.store i) (s.log.logged i).ghosted (now s.store i).kept) (2 ^ 64 - 1)
+    latest_told o k same one two one_is two_is =
+        let sums : sum (map delta_entry (unghosted t.is_ghosted (drop t.back (reverse t.owed.items)))) ≡ sum (map delta_entry (unghosted (s.log.logged i).ghosted (still_owed (now s.store i)))) = still_as o (λ ghosted owed. sum (map delta_entry (unghosted ghosted owed))) in
         let grows : growth_back (defined.schema_of core.store.catalog) (row_change k.change) ≡ growth_back (schema_of s.store) o.change = λ x. growth_back (h.holds.stored.objects x) (same x) in
         let all : latest_bytes (schema_of s.store) (now s.store i) (s.log.logged i).ghosted (now s.store i).kept ≡ growth_back (schema_of s.store) o.change + sum (map delta_entry (unghosted (s.log.logged i).ghosted (still_owed (now s.store i)))) =
         ap (latest_bytes (schema_of s.store) (now s.store i) (s.log.logged i).ghosted) o.kept_is in
         omega (arith, one_is, two_is, sums, grows, all)
-      where
-        pay_own : KeepsPut s.store i → Has (schema_of s.store) (open_at core.book.opens i) (now s.store i) (s.log.logged i)
-        pay_own o = put.mine maps spare limit core s.store s.log s.definitions i h.holds o

@@ -8,11 +8,8 @@ use mathlib.Core.Logic.{inl, inr}
 use Rattle.std.proofs.Common.{arith}
 use Rattle.std.proofs.lemmas.List.{length-reverse}
 use Rattle.iv_types.specs.Maps.{Map}
-use Rattle.iv_types.specs.declared.catalog.TableDef.{TableDef}
 use Rattle.table_laws.specs.Kept.{AreTrue, redo}
-use Rattle.iv_meaning.specs.Database.{Row, Rows}
-use Rattle.iv_meaning.specs.Schema.{Schema, table, numbered}
-use Rattle.iv_meaning.specs.Sound.{IsRow}
+use Rattle.iv_meaning.specs.Schema.{table}
 use Rattle.lock_manager.specs.Table as table
 use Rattle.txn_machine.specs.Acts as act
 use Rattle.txn_machine.specs.Answers as answer
@@ -22,10 +19,9 @@ use Rattle.txn_machine.specs.Keeping.{KeptStep, Put, Pay, Open, changes_of, idle
 use Rattle.txn_machine.specs.Locks.{with_one}
 use Rattle.txn_machine.specs.Log.{Log, Logged, logs, undoes, growth_back, delta_entry, unghosted, still_owed, room_kept}
 use Rattle.txn_machine.specs.Laws.{IsReached}
-use Rattle.txn_machine.specs.May.{IsOpen, MayAct, FitsUnder}
+use Rattle.txn_machine.specs.May.{IsOpen, MayAct}
 use Rattle.txn_machine.specs.State.{State}
 use Rattle.txn_machine.specs.Store.{Store, Undoes, does, undone, now, schema_of, committed, changes_by, notes_before}
-use Rattle.txn_machine.specs.ViewLaws.{AreSound}
 use Rattle.txn_machine.proofs.Agreeing.{written_at}
 use Rattle.txn_machine.proofs.Basics.{one_same}
 use Rattle.txn_machine.proofs.LogRoom.{logs_logged}
@@ -39,8 +35,9 @@ use Rattle.data_room.specs.Reserved.{share_at, kept_for, IsReserved}
 use Rattle.data_room.specs.declared.room.DataRoom.{DataRoom}
 use Rattle.data_room.proofs.Kept.{reserved_back}
 use Rattle.data_room.proofs.Transactions.{now_room, unput_room, unpaid_room}
+use Rattle.log_room.specs.Rooms.{IsRoomOf}
+use Rattle.log_room.specs.declared.room.LogRoom.{LogRoom}
 use Rattle.core_state.specs.Stands.{Began, Told, Holds}
-use Rattle.core_state.proofs.Data.{data_holds}
 use Rattle.core_state.specs.declared.state.CoreState.{CoreState}
 use Rattle.core_effects.specs.Undoing.{KeepsOne}
 use Rattle.core_state.proofs.Few.{kept_few}
@@ -49,7 +46,7 @@ use Rattle.core_effects.proofs.Done.{told_by, begun_underway, still_underway}
 use Rattle.core_effects.proofs.Opened.{Has, own}
 use Rattle.core_pays.specs.Keeping.{latest_bytes}
 use Rattle.core_pays.proofs.Answered.{next_few}
-use Rattle.core_pays.proofs.Reserving.{data_underway, fits_there}
+use Rattle.core_pays.proofs.Reserving.{rooms_hold, rooms_underway, fits_there}
 
 -- ---- what is kept last
 
@@ -150,7 +147,7 @@ module _ {M : Type 0} (maps : M → ℕ → Map) (spare : M → ℕ → ℕ) (li
         subst (λ (u : Store). IsReserved room (schema_of u) u.open_of logged_after s.definitions) (sym (ap (undone s.store i (now s.store i)) o.kept_is))
         (reserved_back (schema_of s.store) s.store.open_of s.log.logged logged_after i (Some (record (now s.store i) { kept = o.earlier; owed = o.latest ∷ (now s.store i).owed; back = (now s.store i).back + 1 })) (undoes (s.log.logged i) (Pay o.latest ∷ o.earlier))
         (λ j. ap (λ (f : ℕ → Logged). f j) (logs_logged s.store i act.UndoOne Undoes s.log) ∙ ap (λ ks. with_one s.log.logged i (undoes (s.log.logged i) ks) j) o.kept_is)
-        core.data_room was room s.definitions the_open.of_session h.reserves same same_limit bytes 0 (bytes_are ∙ ap (λ ks. min (latest_bytes (schema_of s.store) (now s.store i) (s.log.logged i).ghosted ks) (2 ^ 64 - 1)) o.kept_is)
+        core.data_room was room s.definitions the_open.of_session h.reserves.data_room same same_limit bytes 0 (bytes_are ∙ ap (λ ks. min (latest_bytes (schema_of s.store) (now s.store i) (s.log.logged i).ghosted ks) (2 ^ 64 - 1)) o.kept_is)
         (let same_room = unpaid_room (schema_of s.store) (now s.store i) (s.log.logged i).ghosted o.latest o.earlier o.kept_is in
         let held = now_room (schema_of s.store) (s.store.open_of i) (s.log.logged i).ghosted in
         let all : room_kept (schema_of s.store) (Some (record (now s.store i) { kept = o.earlier; owed = o.latest ∷ (now s.store i).owed; back = (now s.store i).back + 1 })) (s.log.logged i).ghosted + 0 ≡ kept_for (schema_of s.store) s.store.open_of s.log.logged i = omega (arith, same_room, held) in
@@ -160,7 +157,7 @@ module _ {M : Type 0} (maps : M → ℕ → Map) (spare : M → ℕ → ℕ) (li
         subst (λ (u : Store). IsReserved room (schema_of u) u.open_of logged_after s.definitions) (sym (ap (undone s.store i (now s.store i)) o.kept_is))
         (reserved_back (schema_of s.store) s.store.open_of s.log.logged logged_after i (Some (record (now s.store i) { kept = o.earlier; owed = []; back = 0; notes = notes_before (length o.earlier) (now s.store i).notes })) (undoes (s.log.logged i) (Put o.change o.owed ∷ o.earlier))
         (λ j. ap (λ (f : ℕ → Logged). f j) (logs_logged s.store i act.UndoOne Undoes s.log) ∙ ap (λ ks. with_one s.log.logged i (undoes (s.log.logged i) ks) j) o.kept_is)
-        core.data_room was room s.definitions the_open.of_session h.reserves same same_limit bytes (growth_back (schema_of s.store) o.change + sum (map delta_entry (unghosted (s.log.logged i).ghosted (still_owed (now s.store i)))))
+        core.data_room was room s.definitions the_open.of_session h.reserves.data_room same same_limit bytes (growth_back (schema_of s.store) o.change + sum (map delta_entry (unghosted (s.log.logged i).ghosted (still_owed (now s.store i)))))
         (bytes_are ∙ ap (λ ks. min (latest_bytes (schema_of s.store) (now s.store i) (s.log.logged i).ghosted ks) (2 ^ 64 - 1)) o.kept_is)
         (unput_room (schema_of s.store) (now s.store i) (s.log.logged i).ghosted o.change o.owed o.earlier (notes_before (length o.earlier) (now s.store i).notes) o.kept_is ∙ now_room (schema_of s.store) (s.store.open_of i) (s.log.logged i).ghosted)
         small own_share others total)
@@ -169,11 +166,11 @@ module _ {M : Type 0} (maps : M → ℕ → Map) (spare : M → ℕ → ℕ) (li
     pub undone_reserved : IsReserved room (schema_of after) after.open_of logged_after s.definitions
     undone_reserved = without keeps_here
 
-  pub undone_told : new ≡ record core { store = new.store; book = new.book; ahead = new.ahead; next = new.next } → (room : DataRoom) → room.limit ≡ new.data_room.limit → (left : ℕ) → left ≡ length earlier → Holds maps spare limit new after (logs s.store i act.UndoOne Undoes s.log) s.definitions
-      → IsReserved room (schema_of after) after.open_of logged_after s.definitions → Told maps spare limit s i act.UndoOne (answer.Undone left) (record new { data_room = room })
-  undone_told rest room same_limit left left_is holds reserves =
-      told_by maps spare limit (record new { data_room = room }) s i
-      (data_underway maps spare limit new room s i (still_underway maps spare limit core new s i (begun_underway maps spare limit core s i h)
-      (record { steps = ap (λ (x : CoreState M). x.steps) rest; seats = ap (λ (x : CoreState M). x.seats) rest; cleaner = ap (λ (x : CoreState M). x.cleaner) rest; stop = ap (λ (x : CoreState M). x.stop) rest; limit = ap (λ (x : CoreState M). x.data_room.limit) rest })
-      (λ js. ap (λ (x : CoreState M). table.waiting_of x.locks i) rest ∙ h.own js) (λ j n. ap (λ (x : CoreState M). table.waiting_of x.locks j) rest)) same_limit)
-      act.UndoOne (answer.Undone left) (Undoes ∷ []) (record { latest = latest; earlier = earlier; kept_is = kept_is; left_is = left_is; effects = refl }) (data_holds maps spare limit new room after (logs s.store i act.UndoOne Undoes s.log) s.definitions same_limit holds) reserves refl refl (omega arith) (next_few (schema_of s.store) _ _)
+  pub undone_told : new ≡ record core { store = new.store; book = new.book; ahead = new.ahead; next = new.next } → (room : DataRoom) (log : LogRoom) → room.limit ≡ new.data_room.limit → log.limit ≡ new.log_room.limit → (left : ℕ) → left ≡ length earlier → Holds maps spare limit new after (logs s.store i act.UndoOne Undoes s.log) s.definitions
+      → IsReserved room (schema_of after) after.open_of logged_after s.definitions → IsRoomOf log after (logs s.store i act.UndoOne Undoes s.log) → Told maps spare limit s i act.UndoOne (answer.Undone left) (record new { data_room = room; log_room = log })
+  undone_told rest room log same_limit same_log left left_is holds reserves logged =
+      told_by maps spare limit (record new { data_room = room; log_room = log }) s i
+      (rooms_underway maps spare limit new room log same_limit s i same_log (still_underway maps spare limit core new s i (begun_underway maps spare limit core s i h)
+      (record { steps = ap (λ (x : CoreState M). x.steps) rest; seats = ap (λ (x : CoreState M). x.seats) rest; cleaner = ap (λ (x : CoreState M). x.cleaner) rest; stop = ap (λ (x : CoreState M). x.stop) rest; limit = ap (λ (x : CoreState M). x.data_room.limit) rest; log_limit = ap (λ (x : CoreState M). x.log_room.limit) rest })
+      (λ js. ap (λ (x : CoreState M). table.waiting_of x.locks i) rest ∙ h.own js) (λ j n. ap (λ (x : CoreState M). table.waiting_of x.locks j) rest)))
+      act.UndoOne (answer.Undone left) (Undoes ∷ []) (record { latest = latest; earlier = earlier; kept_is = kept_is; left_is = left_is; effects = refl }) (rooms_hold maps spare limit new room log same_limit after (logs s.store i act.UndoOne Undoes s.log) s.definitions holds) (record { data_room = reserves; log_room = logged }) refl refl (omega arith) (next_few (schema_of s.store) _ _)

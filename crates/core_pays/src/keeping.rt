@@ -25,8 +25,8 @@ pub(crate) fn room_of_first<M: SortedMaps>(core: &CoreState<M>, session: u32) ->
     first_room(core.open_of(session))
 }
 
-// The change that a transaction keeps last, unless its latest step is a pay.
-fn latest_change(txn: &Open) -> Option<&Kept>
+/// The change that a transaction keeps last, unless its latest step is a pay.
+pub(crate) fn latest_change(txn: &Open) -> Option<&Kept>
     ensures { (k : Step) (ks : List Step) → reverse txn.now.kept.items ≡ k ∷ ks → option_copied result ≡ change_in k }
 {
     match txn.kept.last() {

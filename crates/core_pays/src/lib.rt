@@ -5,6 +5,7 @@ mod ghosting;
 mod holding;
 mod keeping;
 mod paying;
+mod recording;
 mod undoing;
 
 pub use ghosting::make_ghost;

@@ -1,7 +1,6 @@
 -- What is told of a Fetch.
 use Rattle.std.specs.Prelude.{◌≡◌, ◌≢◌, ℕ, ◌+◌, ◌≤◌, List, [], ◌∷◌, ◌++◌, length, Option, None, Some, IsSome, refl}
 use Rattle.std.specs.Option.{unwrap_or}
-use Rattle.std.specs.List.{Contains}
 use mathlib.Core.Path.{sym, ap, subst, ◌∙◌}
 use Rattle.std.proofs.Common.{arith}
 use Rattle.iv_types.specs.Maps.{Map}
@@ -16,7 +15,6 @@ use Rattle.iv_meaning.specs.Database.{Row}
 use Rattle.iv_meaning.specs.Sound.{IsTable}
 use Rattle.iv_meaning.specs.Escrow.{IsSession}
 use Rattle.lock_manager.specs.Table as lock
-use Rattle.lock_manager.specs.Table.{Table, AddAtMost}
 use Rattle.txn_machine.specs.Acts as act
 use Rattle.txn_machine.specs.Acts.{Act}
 use Rattle.txn_machine.specs.Answers as answer
@@ -40,6 +38,8 @@ use Rattle.data_store.specs.Reading.{CanBeRead, CanFind, HasRows}
 use Rattle.data_room.specs.Reserved.{IsReserved}
 use Rattle.data_room.proofs.Kept.{reserved_one}
 use Rattle.data_room.proofs.Transactions.{now_room}
+use Rattle.log_room.specs.Rooms.{IsRoomOf, SameRoomLaw}
+use Rattle.log_room.specs.declared.room.LogRoom.{LogRoom}
 use Rattle.core_state.specs.Stands.{Began, Told, Holds, Reserves}
 use Rattle.core_state.specs.declared.state.CoreState.{CoreState}
 use Rattle.core_state.proofs.Sessions.{own_txn, now_is, of_ready}
@@ -123,16 +123,23 @@ module _ {M : Type 0} (maps : M → ℕ → Map) (spare : M → ℕ → ℕ) (li
   abbrev open_between : IsOpen between i
   open_between = record { of_session = r.goes_on.of_session; transaction = record (now s.store i) { locks = wants ++ (now s.store i).locks }; is_open = one_same s.store.open_of i _ i refl }
 
-  -- neither effect moves what is kept of the data
-  kept_on : (rows : List Row) → new.data_room ≡ core.data_room
+  -- neither effect moves what is kept of the data or reserved of the log
+  kept_on : (rows : List Row) → SameRoomLaw → new.data_room ≡ core.data_room → new.log_room ≡ core.log_room
       → Reserves maps spare limit new (does the_views between i (Notes (note_of s.store i n interval rows))) (logs between i (act.Fetch n interval mode) (Notes (note_of s.store i n interval rows)) (logs s.store i (act.Fetch n interval mode) (Takes wants) s.log)) s.definitions
-  kept_on rows same_data =
-      subst (λ d. IsReserved d (schema_of s.store) (does the_views between i (Notes note)).open_of (logs between i a (Notes note) first).logged s.definitions) (sym same_data)
-      (reserved_one (schema_of s.store) between.open_of first.logged (logs between i a (Notes note) first).logged i (Some (record (now between i) { notes = note ∷ (now between i).notes })) (first.logged i) (λ j. ap (λ (f : ℕ → Logged). f j) (logs_logged between i a (Notes note) first))
-      core.data_room s.definitions (now_room (schema_of s.store) (between.open_of i) (first.logged i).ghosted)
-      (reserved_one (schema_of s.store) s.store.open_of s.log.logged first.logged i (Some (record (now s.store i) { locks = wants ++ (now s.store i).locks })) (s.log.logged i) (λ j. ap (λ (f : ℕ → Logged). f j) (logs_logged s.store i a (Takes wants) s.log))
-      core.data_room s.definitions (now_room (schema_of s.store) (s.store.open_of i) (s.log.logged i).ghosted) can.fetches.began.reserves))
+  kept_on rows law same_data same_log = record {
+    data_room = subst (λ d. IsReserved d (schema_of s.store) (does the_views between i (Notes note)).open_of (logs between i a (Notes note) first).logged s.definitions) (sym same_data)
+        (reserved_one (schema_of s.store) between.open_of first.logged (logs between i a (Notes note) first).logged i (Some (record (now between i) { notes = note ∷ (now between i).notes })) (first.logged i) (λ j. ap (λ (f : ℕ → Logged). f j) (logs_logged between i a (Notes note) first))
+        core.data_room s.definitions (now_room (schema_of s.store) (between.open_of i) (first.logged i).ghosted)
+        (reserved_one (schema_of s.store) s.store.open_of s.log.logged first.logged i (Some (record (now s.store i) { locks = wants ++ (now s.store i).locks })) (s.log.logged i) (λ j. ap (λ (f : ℕ → Logged). f j) (logs_logged s.store i a (Takes wants) s.log))
+        core.data_room s.definitions (now_room (schema_of s.store) (s.store.open_of i) (s.log.logged i).ghosted) can.fetches.began.reserves.data_room));
+    log_room = subst (λ (x : LogRoom). IsRoomOf x (does the_views between i (Notes note)) (logs between i a (Notes note) first)) (sym same_log)
+        (law.notes core.log_room between first i a note r.goes_on.of_session (is_now between open_between)
+        (law.locks core.log_room s.store s.log i a wants r.goes_on.of_session (is_now s.store open_here) can.fetches.began.reserves.log_room));
+  }
     where
+      is_now : (u : Store) → (o : IsOpen u i) → u.open_of i ≡ Some (now u i)
+      is_now u o = o.is_open ∙ ap Some (sym (ap (λ x. unwrap_or x idle) o.is_open))
+
       a : Act
       a = act.Fetch n interval mode
 
@@ -147,9 +154,9 @@ module _ {M : Type 0} (maps : M → ℕ → Map) (spare : M → ℕ → ℕ) (li
       → (Holds maps spare limit taken between (logs s.store i (act.Fetch n interval mode) (Takes wants) s.log) s.definitions → IsOpen between i → note_size (schema_of between) (note_of s.store i n interval rows) ≡ need
       → (note_of s.store i n interval rows).kept ≡ length (now between i).kept
       → Holds maps spare limit new (does the_views between i (Notes (note_of s.store i n interval rows))) (logs between i (act.Fetch n interval mode) (Notes (note_of s.store i n interval rows)) (logs s.store i (act.Fetch n interval mode) (Takes wants) s.log)) s.definitions)
-      → new.data_room ≡ core.data_room → AreUncounted core new → lock.waiting_of new.locks i ≡ [] → ((j : ℕ) → j ≢ i → lock.waiting_of new.locks j ≡ lock.waiting_of middle.locks j)
+      → SameRoomLaw → new.data_room ≡ core.data_room → new.log_room ≡ core.log_room → AreUncounted core new → lock.waiting_of new.locks i ≡ [] → ((j : ℕ) → j ≢ i → lock.waiting_of new.locks j ≡ lock.waiting_of middle.locks j)
       → Told maps spare limit s i (act.Fetch n interval mode) (answer.Rows rows) new
-  read_told rows found takes notes same_data same own others =
+  read_told rows found takes notes law same_data same_log same own others =
       let exact : fetch_size (schema_of s.store) n interval rows ≡ need = let is : need ≡ told_need (fetch_size (schema_of s.store) n interval rows) = can.need_is rows found in let room = can.room in omega (arith, is, room) in
       let asked : record { index = n; interval = interval; mode = mode } ∷ [] ≡ wants = sym can.fetches.wants_are in
       done_told maps spare limit core new s i can.fetches.began (act.Fetch n interval mode) (answer.Rows rows) (Takes wants ∷ Notes (note_of s.store i n interval rows) ∷ [])
@@ -160,7 +167,7 @@ module _ {M : Type 0} (maps : M → ℕ → Map) (spare : M → ℕ → ℕ) (li
         effects = ap (λ ws. Takes ws ∷ Notes (note_of s.store i n interval rows) ∷ []) can.fetches.wants_are;
       })
       (notes (takes h.holds open_here) open_between exact (sym (ap (λ x. length (unwrap_or x idle).kept) (one_same s.store.open_of i _ i refl))))
-      (kept_on rows same_data) same (λ _. own) (λ j js differ. others j differ ∙ h.waiting j js differ) refl refl (omega arith) (omega arith)
+      (kept_on rows law same_data same_log) same (λ _. own) (λ j js differ. others j differ ∙ h.waiting j js differ) refl refl (omega arith) (omega arith)
 
 -- an interval that fits
 pub can_read : {M : Type 0} (maps : M → ℕ → Map) (spare : M → ℕ → ℕ) (limit : M → Option ℕ) (core : CoreState M) (s : State) (i n : ℕ) (interval : Interval) (mode : LockMode) (wants : List Want) (need : ℕ) → MayFetch maps spare limit s core i n interval mode wants

@@ -13,6 +13,7 @@ use core_effects::{note, reserve_locks, take};
 use core_locks::ask_for;
 use core_state::{CoreState, MOST_OF_TRANSACTION};
 use iv_types::{EngineRefusal, Interval, LockMode, NoMemory, SortedMaps, Want, WantList};
+use log_room::same_room_law;
 use std::alloc::Global;
 use txn_book::Answer;
 
@@ -55,6 +56,7 @@ fn read<M: SortedMaps>(
     ensures told { IfOk result (λ said. (s : State) (mode : AnyMode) → CanRead M.maps M.spare M.limit s core.old session index interval.now mode wants need → Told M.maps M.spare M.limit s session (act.Fetch index interval.now mode) (answer_of said) core.new) }
     ensures err { OnErr result ((s : State) → Began M.maps M.spare M.limit core.old s session → Began M.maps M.spare M.limit core.new s session) }
 {
+    same_room_law();
     reserve_locks(core, session, 1)?;
     let rows = core.store.found(index, interval)?;
     take(core, session, wants);

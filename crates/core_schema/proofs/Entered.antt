@@ -57,12 +57,13 @@ use Rattle.data_past.proofs.Laws.{leaves_law}
 use Rattle.data_store.specs.Machine.{IsPast}
 use Rattle.data_store.specs.declared.store.DataStore.{DataStore}
 use Rattle.core_state.specs.declared.state.CoreState.{CoreState}
+use Rattle.log_room.specs.Rooms.{IsRoomOf}
 use Rattle.core_schema.specs.Making.{MayEnter, IsTextOf}
 use Rattle.iv_types.specs.Definitions.{CanAdd}
 use Rattle.data_defining.proofs.Adding.{can_add}
 use Rattle.data_defining.proofs.Defined.{number_is}
 use Rattle.core_schema.proofs.Names.{name_is_free}
-use Rattle.core_schema.proofs.Made.{accepted, can_define, fits_log}
+use Rattle.core_schema.proofs.Made.{accepted, can_define}
 use Rattle.core_schema.proofs.Needs.{defined_reserved}
 
 none_there : (objects : Schema) (a : Option BookOpen) (o : Option Open) (l : Logged) → book.IsSame objects a o l → o ≡ None → a ≡ None
@@ -85,6 +86,7 @@ module _ {M : Type 0} (maps : M → ℕ → Map) (spare : M → ℕ → ℕ) (li
     first_are = subst (λ ds. AreFirst ds (maps new.store.tables) (contents_of s.store) d first) (sym catalog)
         (let P : (ℕ → Map) → Type 0 = λ ms. AreFirst core.store.catalog ms (contents_of s.store) d first in subst P (λ x k. sym (same k) x) m.first_are);
     text_is = m.text_is;
+    log_room = m.log_room;
     data_room = m.data_room;
     data_small = m.data_small;
     need_is = m.need_is;
@@ -151,8 +153,9 @@ module _ {M : Type 0} (maps : M → ℕ → Map) (spare : M → ℕ → ℕ) (li
 
     module _ (new : CoreState M) (change : Change) (is_text : IsTextOf text change) (did : Defined core.book new.book i (change ∷ []) need)
         (stored : IsHeld new.store.catalog (maps new.store.tables) new.store.views (with_object (contents_of s.store) o)) (limits : limit new.store.tables ≡ limit core.store.tables)
-        (rest : new ≡ record core { store = record core.store { catalog = new.store.catalog; tables = new.store.tables; views = new.store.views }; book = new.book; data_room = new.data_room; next = core.next + 1 })
-        (bytes : ℕ) (bytes_are : bytes ≡ min (definition_entries text) (2 ^ 64 - 1)) (room_is : new.data_room ≡ record core.data_room { total = new.data_room.total }) (more : core.data_room.total + bytes < 2 ^ 64 → new.data_room.total ≡ core.data_room.total + bytes) where
+        (rest : new ≡ record core { store = record core.store { catalog = new.store.catalog; tables = new.store.tables; views = new.store.views }; book = new.book; data_room = new.data_room; log_room = new.log_room; next = core.next + 1 })
+        (bytes : ℕ) (bytes_are : bytes ≡ min (definition_entries text) (2 ^ 64 - 1)) (room_is : new.data_room ≡ record core.data_room { total = new.data_room.total }) (more : core.data_room.total + bytes < 2 ^ 64 → new.data_room.total ≡ core.data_room.total + bytes)
+        (log_limit : new.log_room.limit ≡ core.log_room.limit) (log_then : IsRoomOf new.log_room u (logs s.store i a (Defines o) s.log)) where
       book_then : book.Holds new.book (schema_of u) u.open_of (logs s.store i a (Defines o) s.log).logged u.history (committed u).number (definition_sizes (s.definitions ++ statement_text statement ∷ []))
       book_then =
           let size : need ≡ entry_size + definition_size statement = m.need_is in
@@ -177,7 +180,7 @@ module _ {M : Type 0} (maps : M → ℕ → Map) (spare : M → ℕ → ℕ) (li
       pub entered_told : (number : ℕ) → number ≡ number_of core.book + 1 → Told maps spare limit s i a (answer.Committed number) new
       entered_told number number_is = record {
         reached = h.reached;
-        opening = subst (λ x. IsOpening x s) (sym (ap (λ (x : DataRoom). x.limit) room_is)) h.opening;
+        opening = subst (λ x. IsOpening new.log_room.limit x s) (sym (ap (λ (x : DataRoom). x.limit) room_is)) (subst (λ x. IsOpening x core.data_room.limit s) (sym log_limit) h.opening);
         runs = h.runs;
         effects = Defines o ∷ [];
         says = record {
@@ -185,7 +188,7 @@ module _ {M : Type 0} (maps : M → ℕ → Map) (spare : M → ℕ → ℕ) (li
           makes = m.may.makes;
           none_open = m.may.none;
           accepted = (0, defines o ∷ [], accepted maps spare limit core s i statement d m.may first m.first_are);
-          log_room = fits_log maps spare limit core s i statement d m.may first m.first_are;
+          log_room = m.log_room;
           data_room = m.data_room;
           room = subst (λ n. history_bytes s + n ≤ most_of_history) m.need_is m.room;
           number_is = number_is ∙ ap (λ n. n + 1) h.holds.book.number;
@@ -207,7 +210,10 @@ module _ {M : Type 0} (maps : M → ℕ → Map) (spare : M → ℕ → ℕ) (li
               (λ j. elim (session_or j) [ inl js ↦ m.may.none j js | inr n ↦ nobody_open s h.reached j n ]));
           rooms = no_rooms (spare new.store.tables) new.store.catalog new.store.views new.book.opens new.locks new.wants (subst IsLimited (sym stored.objects) can.evaluated.limited) (λ j. ap (λ os. open_at os j) did.opens ∙ nobody j);
         };
-        reserves = defined_reserved maps spare limit core s i statement d m.may first m.first_are (schema_of u) (logs s.store i a (Defines o) s.log).logged text m.text_is new.data_room bytes bytes_are m.data_small room_is more;
+        reserves = record {
+          data_room = defined_reserved maps spare limit core s i statement d m.may first m.first_are (schema_of u) (logs s.store i a (Defines o) s.log).logged text m.text_is new.data_room bytes bytes_are m.data_small room_is more;
+          log_room = log_then;
+        };
         own = λ sessions e. absurd (cc);
         none = λ _ js. subst (λ ls. table.waiting_of ls i ≡ []) (sym (ap (λ (x : CoreState M). x.locks) rest)) (h.own js);
         waiting = λ j js n. subst (λ ls. table.waiting_of ls j ≡ s.waiting j) (sym (ap (λ (x : CoreState M). x.locks) rest)) (h.waiting j js n);

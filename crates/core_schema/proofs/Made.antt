@@ -1,7 +1,5 @@
 -- What a CREATE statement makes of a core, and why it is refused.
-use Rattle.std.specs.Prelude.{◌≡◌, ◌≢◌, ◌⊎◌, ℕ, suc, ◌+◌, ◌-◌, ◌^◌, ◌≤◌, ◌<◌, min, List, [], ◌∷◌, ◌++◌, map, length, is_some, Option, None, Some, IsSome, IfOk, Result, Ok, Err, false, true}
-use Rattle.std.specs.List.{sum}
-use Rattle.std.specs.FinMap.{get}
+use Rattle.std.specs.Prelude.{◌≡◌, ◌≢◌, ℕ, ◌+◌, ◌-◌, ◌^◌, ◌≤◌, min, List, [], ◌∷◌, ◌++◌, is_some, Option, None, Some, IsSome, IfOk, Result, Ok, Err}
 use mathlib.Core.Path.{refl, sym, ap, subst, ◌∙◌}
 use mathlib.Core.Logic.{inl, inr}
 use Rattle.std.proofs.Common.{arith}
@@ -12,7 +10,7 @@ use Rattle.iv_types.specs.declared.catalog.Definition.TheVariants.{Table, Index,
 use Rattle.iv_types.specs.declared.lock.IndexEntry.{IndexEntry}
 use Rattle.iv_types.specs.declared.refusal.Refusal.{Refusal}
 use Rattle.iv_types.specs.declared.refusal.Refusal.TheVariants as refused
-use Rattle.iv_types.specs.declared.refusal.EngineRefusal.TheVariants.{SchemaBusy, DataFull, HistoryFull}
+use Rattle.iv_types.specs.declared.refusal.EngineRefusal.TheVariants.{SchemaBusy, LogFull, DataFull, HistoryFull}
 use Rattle.table_laws.proofs.Place.{place_cmp_total, place_cmp-IsAntisymmetric}
 use Rattle.table_laws.proofs.Tables.{same_table}
 use Rattle.iv_meaning.specs.Schema as schema
@@ -31,9 +29,9 @@ use Rattle.txn_machine.specs.Counts.{entry_size, definition_size, most_of_histor
 use Rattle.txn_machine.specs.Fresh.{fresh}
 use Rattle.txn_machine.specs.Ghosts.{the_views}
 use Rattle.txn_machine.specs.Keeping.{KeptStep, Open}
-use Rattle.txn_machine.specs.Log.{Within}
+use Rattle.txn_machine.specs.Log.{definition_need}
 use Rattle.txn_machine.specs.State.{State}
-use Rattle.txn_machine.specs.Steps.{Makes, NoneIsOpen, IsBusy, IsDenied, unbound, refused as refused_then, FitsLog, FitsData, IsDataFull, history_bytes, texts_of, made_need}
+use Rattle.txn_machine.specs.Steps.{Makes, NoneIsOpen, IsBusy, IsDenied, unbound, refused as refused_then, FitsLog, IsLogFull, FitsData, IsDataFull, history_bytes, made_need}
 use Rattle.txn_machine.specs.Store.{committed, schema_of, now}
 use Rattle.txn_machine.specs.ViewLaws.{AreSound}
 use Rattle.txn_machine.proofs.Creating.{creates_sound}
@@ -151,19 +149,23 @@ module _ {M : Type 0} (maps : M → ℕ → Map) (spare : M → ℕ → ℕ) (li
       first = first_are;
     }
 
-    pub fits_log : FitsLog s (Rattle.txn_machine.specs.Log.definition_need statement)
-    fits_log = subst (λ x. Within x.log_limit (s.log.used + Rattle.txn_machine.specs.Log.reserved s.store s.log + Rattle.txn_machine.specs.Log.definition_need statement)) (sym h.opening.is) tt
+    pub log_full_told : (used kept need : ℕ) → need ≡ told_need (definition_need statement) → IsLogFull s (definition_need statement) used kept → Told maps spare limit s i (act.Schema statement) (answer.Refused (LogFull used kept need)) core
+    log_full_told used kept need need_is full =
+        unchanged_told maps spare limit core s i (act.Schema statement) (answer.Refused (LogFull used kept need)) h (
+          record { object = o; makes = m.makes; none_open = m.none; accepted = (0, defines o ∷ [], accepted); need_is = need_is; full = full },
+          refl,
+        ) refl refl refl refl
 
-    pub data_full_told : (used need : ℕ) → need ≡ told_need (made_need s.store statement o) → IsDataFull s (made_need s.store statement o) used → Told maps spare limit s i (act.Schema statement) (answer.Refused (DataFull used need)) core
-    data_full_told used need need_is full =
+    pub data_full_told : FitsLog s (definition_need statement) → (used need : ℕ) → need ≡ told_need (made_need s.store statement o) → IsDataFull s (made_need s.store statement o) used → Told maps spare limit s i (act.Schema statement) (answer.Refused (DataFull used need)) core
+    data_full_told fits_log used need need_is full =
         unchanged_told maps spare limit core s i (act.Schema statement) (answer.Refused (DataFull used need)) h (
           record { object = o; makes = m.makes; none_open = m.none; accepted = (0, defines o ∷ [], accepted); log_room = fits_log; need_is = need_is; full = full },
           refl,
         ) refl refl refl refl
 
-    pub full_told : FitsData s (made_need s.store statement o) → IsBook core.book → (kept need : ℕ) → kept ≡ total_bytes core.book → need ≡ min (entry_size + definition_size statement) (2 ^ 64 - 1) → (kept + need ≤ most_of_history → ⊥)
+    pub full_told : FitsLog s (definition_need statement) → FitsData s (made_need s.store statement o) → IsBook core.book → (kept need : ℕ) → kept ≡ total_bytes core.book → need ≡ min (entry_size + definition_size statement) (2 ^ 64 - 1) → (kept + need ≤ most_of_history → ⊥)
         → Told maps spare limit s i (act.Schema statement) (answer.Refused (HistoryFull kept need)) core
-    full_told fits_data good kept need kept_is need_is full =
+    full_told fits_log fits_data good kept need kept_is need_is full =
         let counts : total_bytes core.book ≡ history_bytes s = counted maps spare limit core s i h good in
         unchanged_told maps spare limit core s i (act.Schema statement) (answer.Refused (HistoryFull kept need)) h (
           record {

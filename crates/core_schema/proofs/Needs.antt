@@ -1,12 +1,12 @@
 -- What a definition makes of the data.
-use Rattle.std.specs.Prelude.{◌≡◌, ◌≢◌, ℕ, suc, ◌+◌, ◌-◌, ◌<◌, ◌≤◌, ◌^◌, min, List, [], ◌∷◌, ◌++◌, map, length, Option, None, Some, refl}
+use Rattle.std.specs.Prelude.{◌≡◌, ◌≢◌, ℕ, suc, ◌+◌, ◌*◌, ◌-◌, ◌<◌, ◌≤◌, ◌^◌, min, List, [], ◌∷◌, ◌++◌, map, length, Option, None, Some, IsSome, refl}
 use Rattle.std.specs.List.{AllByRecursion, sum}
-use Rattle.std.specs.FinMap.{get, insert, empty, get-empty}
+use Rattle.std.specs.FinMap.{get, empty, get-empty}
 use Rattle.std.specs.Cmp.Lexicographic.{nat_list_cmp_total}
 use mathlib.Core.Path.{sym, ap, subst, ◌∙◌}
 use Rattle.std.proofs.Common.{arith}
 use Rattle.std.proofs.lemmas.List.{length-map}
-use Rattle.iv_types.specs.Encoding.{key_bytes, key_value_bytes, value_bytes}
+use Rattle.iv_types.specs.Encoding.{key_bytes}
 use Rattle.iv_types.specs.Maps.{Map, IsWithin, map_size, used, with_map, last_index}
 use Rattle.iv_types.specs.Printing.{statement_text}
 use Rattle.iv_types.specs.Syntax.{StatementTree}
@@ -18,7 +18,6 @@ use Rattle.iv_meaning.specs.Database.{Rows}
 use Rattle.iv_meaning.specs.Escrow.{IsSession}
 use Rattle.iv_meaning.specs.Objects.{object_of}
 use Rattle.iv_meaning.specs.Schema.{Schema, Object, view, group_kinds}
-use Rattle.query_laws.specs.Limited.{IsLimited}
 use Rattle.query_laws.proofs.LimitedLemmas.{numbers_law}
 use Rattle.row_codec.proofs.Formats.{one_spelling}
 use Rattle.row_codec.proofs.RowFormat.{row_format}
@@ -43,9 +42,7 @@ use Rattle.txn_machine.proofs.Shapes.{add_all_stored, made_are, last_numbered}
 use Rattle.txn_log.specs.Room.{rows_bytes}
 use Rattle.txn_log.proofs.Defining.{made_is, sum_append}
 use Rattle.ghost_rows.specs.Rows.{no_rows}
-use Rattle.ghost_rows.specs.State.{State as ViewState}
 use Rattle.data_store.specs.Contents.{Contents, contents_of}
-use Rattle.data_store.specs.Held.{IsHeld}
 use Rattle.data_defining.specs.Defining.{AreFirst, CanDefine, with_object}
 use Rattle.data_defining.proofs.Defined.{bare, can_put, defined_held}
 use Rattle.data_room.specs.Reserved.{Where, share_at, kept_for, AreReserved, IsReserved}
@@ -70,6 +67,15 @@ filled_size (e ∷ es) h =
     let one = size_insert (filled empty es) e.key e.value (none_under es e.key h.0) in
     let all = sizes_cons e es in
     omega (arith, rest, one, all)
+
+-- each entry counts eight bytes at least
+entries_few : (es : List IndexEntry) → 8 * length es ≤ sizes es
+entries_few [] = omega arith
+entries_few (e ∷ es) = let rest = entries_few es in let all = sizes_cons e es in omega (arith, rest, all)
+
+where_some : {P : Type 0} (limit : Option ℕ) → IsSome limit → Where limit P → P
+where_some None some p = absurd (cc)
+where_some (Some most) some p = p
 
 -- the stored rows are such with one definition more
 more_stored : (objects : Schema) (rows : Rows) (o : Object) (stored : ViewRows) → AreSound objects rows → AreStored objects stored → AreStored (objects ++ o ∷ []) stored
@@ -160,6 +166,15 @@ module _ {M : Type 0} (maps : M → ℕ → Map) (spare : M → ℕ → ℕ) (li
       let le : used old + sizes first ≤ used_data s + made_need s.store statement o = omega (arith, e, same, need) in le) (began_used maps spare limit core s i m.began))
       (within_is core.data_room.limit (used_data s + made_need s.store statement o) (subst (λ x. Within x (used_data s + made_need s.store statement o)) (limit_of maps spare limit core s i m.began) fits)))
 
+  -- and is few
+  pub first_few : Where s.opening.data_limit (used_data s + made_need s.store statement o < 2 ^ 32) → length first < 2 ^ 32
+  first_few small =
+      let same = first_sizes in
+      let many = entries_few first in
+      let need : made_need s.store statement o ≡ definition_entries (statement_text statement) + made_entries (schema_of s.store) (committed s.store).rows o = refl in
+      let lt : used_data s + made_need s.store statement o < 2 ^ 32 = where_some s.opening.data_limit (subst IsSome (sym (limit_of maps spare limit core s i m.began)) m.began.opening.bounded) small in
+      omega (arith, same, many, need, lt)
+
   -- its text is kept
   pub defined_reserved : (objects : Schema) (then : ℕ → Logged) (text : List ℕ) → text ≡ statement_text statement → (room : DataRoom) (bytes : ℕ) → bytes ≡ min (definition_entries text) (2 ^ 64 - 1) → Where s.opening.data_limit (used_data s + made_need s.store statement o < 2 ^ 32)
       → room ≡ record core.data_room { total = room.total } → (core.data_room.total + bytes < 2 ^ 64 → room.total ≡ core.data_room.total + bytes) → IsReserved room objects s.store.open_of then (s.definitions ++ statement_text statement ∷ [])
@@ -177,7 +192,7 @@ module _ {M : Type 0} (maps : M → ℕ → Map) (spare : M → ℕ → ℕ) (li
             let need : made_need s.store statement o ≡ definition_entries (statement_text statement) + made_entries (schema_of s.store) (committed s.store).rows o = refl in
             let now : room.total ≡ core.data_room.total + bytes = more (omega (arith, e, lt, bytes_are, same, need)) in
             omega (arith, before, none, none_then, texts, one, same, need, now, bytes_are, lt);
-      }) m.began.reserves (began_used maps spare limit core s i m.began) (subst (λ x. Where x (used_data s + made_need s.store statement o < 2 ^ 32)) (limit_of maps spare limit core s i m.began) small))
+      }) m.began.reserves.data_room (began_used maps spare limit core s i m.began) (subst (λ x. Where x (used_data s + made_need s.store statement o < 2 ^ 32)) (limit_of maps spare limit core s i m.began) small))
     where
       nothing : (os : Schema) (logged : ℕ → Logged) (j : ℕ) → IsSession j → kept_for os s.store.open_of logged j ≡ 0
       nothing os logged j js = ap (λ (x : Option Open). room_kept os x (logged j).ghosted) (m.none j js)

@@ -14,7 +14,8 @@ use Rattle.txn_machine.specs.Acts as act
 use Rattle.txn_machine.specs.Counts.{entry_size, definition_size, most_of_history}
 use Rattle.txn_machine.specs.May.{MayAct}
 use Rattle.txn_machine.specs.State.{State}
-use Rattle.txn_machine.specs.Steps.{Makes, NoneIsOpen, FitsData, made_need, used_data, history_bytes}
+use Rattle.txn_machine.specs.Log.{definition_need}
+use Rattle.txn_machine.specs.Steps.{Makes, NoneIsOpen, FitsLog, FitsData, made_need, used_data, history_bytes}
 use Rattle.data_store.specs.Contents.{contents_of}
 use Rattle.data_defining.specs.Defining.{AreFirst}
 use Rattle.data_room.specs.Reserved.{Where}
@@ -46,19 +47,26 @@ module _ {M : Type 0} (maps : M → ℕ → Map) (spare : M → ℕ → ℕ) (li
     pub first_are : AreFirst core.store.catalog (maps core.store.tables) (contents_of s.store) definition first
     pub text_is : text ≡ statement_text statement
 
-  -- it begins with these entries, this is its text, and the data have room for them
+  -- it begins with these entries, this is its text, and the log has room for that
+  pub record MayLog (s : State) (core : CoreState M) (session : ℕ) (statement : StatementTree) (definition : Definition) (first : List IndexEntry) (text : List ℕ) : Type 0 where
+    pub fits : MayFit s core session statement definition first text
+    pub log_room : FitsLog s (definition_need statement)
+
+  -- it begins with these entries, this is its text, and the log and the data have room for them
   pub record MayKeep (s : State) (core : CoreState M) (session : ℕ) (statement : StatementTree) (definition : Definition) (first : List IndexEntry) (text : List ℕ) : Type 0 where
     pub may : MayMake s core session statement definition
     pub first_are : AreFirst core.store.catalog (maps core.store.tables) (contents_of s.store) definition first
     pub text_is : text ≡ statement_text statement
+    pub log_room : FitsLog s (definition_need statement)
     pub data_room : FitsData s (made_need s.store statement (object_of definition))
     pub data_small : Where s.opening.data_limit (used_data s + made_need s.store statement (object_of definition) < 2 ^ 32)
 
-  -- it begins with these entries, and the data and the history have room for them and for its text
+  -- it begins with these entries, and the log, the data and the history have room for them and for its text
   pub record MayEnter (s : State) (core : CoreState M) (session : ℕ) (statement : StatementTree) (definition : Definition) (first : List IndexEntry) (text : List ℕ) (need : ℕ) : Type 0 where
     pub may : MayMake s core session statement definition
     pub first_are : AreFirst core.store.catalog (maps core.store.tables) (contents_of s.store) definition first
     pub text_is : text ≡ statement_text statement
+    pub log_room : FitsLog s (definition_need statement)
     pub data_room : FitsData s (made_need s.store statement (object_of definition))
     pub data_small : Where s.opening.data_limit (used_data s + made_need s.store statement (object_of definition) < 2 ^ 32)
     pub need_is : need ≡ entry_size + definition_size statement

@@ -13,11 +13,12 @@ ghost use Rattle.txn_machine.specs.State.{State};
 ghost use Rattle.txn_book.specs.Acts.{answer_of};
 ghost use Rattle.txn_book.specs.declared.step.Answer.TheVariants as answer;
 ghost use Rattle.core_state.specs.Stands.{Began, Told};
-ghost use Rattle.core_schema.specs.Making.{IsMade, MayMake, MayBegin, MayFit, MayKeep};
+ghost use Rattle.core_schema.specs.Making.{IsMade, MayMake, MayBegin, MayFit, MayLog, MayKeep};
 
 use crate::entering::{data_need, enter, entry_need};
 use core_state::{CoreState, MOST_OF_HISTORY, fits};
 use data_defining::first_entries;
+use data_store::definition_need;
 use iv_types::{
     Bound, Bytes, Definition, EngineRefusal, IndexEntryList, NoMemory, Refusal, SortedMaps,
     Statement,
@@ -73,6 +74,29 @@ fn enter_kept<M: SortedMaps>(
 }
 
 // Enters a definition of this text, where the data and the history have room for it.
+fn enter_logged<M: SortedMaps>(
+    core: &mut CoreState<M>,
+    session: u32,
+    definition: Definition,
+    first: IndexEntryList,
+    text: Bytes,
+) -> Result<Answer, NoMemory>
+    requires { (s : State) × (statement : StatementTree) × MayLog M.maps M.spare M.limit s core.old session statement definition first text }
+    ensures told { IfOk result (λ said. (s : State) (statement : StatementTree) → MayLog M.maps M.spare M.limit s core.old session statement definition first text
+        → Told M.maps M.spare M.limit s session (act.Schema statement) (answer_of said) core.new) }
+    ensures err { OnErr result ((s : State) → Began M.maps M.spare M.limit core.old s session → Began M.maps M.spare M.limit core.new s session) }
+{
+    let need = data_need(text.as_slice(), first.as_slice());
+    match core.full_of_data(need) {
+        Some(used) => {
+            definition.let_go();
+            Ok(Answer::Refused(EngineRefusal::DataFull { used, need }))
+        }
+        None => enter_kept(core, session, definition, first, text),
+    }
+}
+
+// Enters a definition of this text, where the log, the data and the history have room for it.
 fn enter_fitting<M: SortedMaps>(
     core: &mut CoreState<M>,
     session: u32,
@@ -85,13 +109,12 @@ fn enter_fitting<M: SortedMaps>(
         → Told M.maps M.spare M.limit s session (act.Schema statement) (answer_of said) core.new) }
     ensures err { OnErr result ((s : State) → Began M.maps M.spare M.limit core.old s session → Began M.maps M.spare M.limit core.new s session) }
 {
-    let need = data_need(text.as_slice(), first.as_slice());
-    match core.full_of_data(need) {
-        Some(used) => {
+    match core.log_room.refusal(definition_need(text.as_slice())) {
+        Some(why) => {
             definition.let_go();
-            Ok(Answer::Refused(EngineRefusal::DataFull { used, need }))
+            Ok(Answer::Refused(why))
         }
-        None => enter_kept(core, session, definition, first, text),
+        None => enter_logged(core, session, definition, first, text),
     }
 }
 
@@ -155,8 +178,8 @@ fn make<M: SortedMaps>(
 }
 
 /// Runs a CREATE statement: it is refused for what it means where that can be told without rows, then where a transaction is
-/// open, then where a view's rows can't be evaluated, and where the data or the history have no room for it. Else the object is defined, as an
-/// entry of the next number, with the entries of its index or the rows of its view.
+/// open, then where a view's rows can't be evaluated, and where the log, the data or the history have no room for it. Else the
+/// object is defined, as an entry of the next number, with the entries of its index or the rows of its view.
 ///
 /// # Errors
 ///

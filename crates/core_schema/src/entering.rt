@@ -1,5 +1,5 @@
 //! A definition is entered.
-ghost use Rattle.std.specs.Prelude.{◌≡◌, ◌+◌, ◌-◌, ◌^◌, ◌≤◌, ◌∷◌, [], ℕ, List, length, min, IfOk, OnOk, OnErr};
+ghost use Rattle.std.specs.Prelude.{◌≡◌, ◌+◌, ◌-◌, ◌^◌, ◌≤◌, ◌<◌, ◌∷◌, [], ℕ, List, length, min, IfOk, OnOk, OnErr};
 ghost use Rattle.iv_types.specs.declared.lock.Change.{Change as AnyChange};
 ghost use Rattle.iv_types.specs.Syntax.{StatementTree};
 ghost use Rattle.txn_machine.specs.Acts as act;
@@ -14,7 +14,7 @@ ghost use Rattle.core_schema.specs.Making.{MayEnter, IsTextOf};
 
 use core_state::CoreState;
 use data_defining::{define, reserve_first};
-use data_store::{definition_entries as text_entries, definition_size};
+use data_store::{definition_entries as text_entries, definition_need, definition_size};
 use iv_types::{
     Bytes, Change, ChangeList, Definition, IndexEntry, IndexEntryList, NoMemory, Row, SortedMaps,
     Value,
@@ -81,6 +81,7 @@ fn reserve<M: SortedMaps>(
     number: u32,
     first: &[IndexEntry],
 ) -> Result<(), NoMemory>
+    requires { length first.now < 2 ^ 32 }
     ensures entry { OnOk result (how_many_open core.new.book.opens + 1 ≤ core.new.book.room) }
     ensures first { OnOk result (length first.now ≤ M.spare core.new.store.tables number) }
     ensures maps { (i : ℕ) → M.maps core.new.store.tables i ≡ M.maps core.old.store.tables i }
@@ -92,7 +93,7 @@ fn reserve<M: SortedMaps>(
     reserve_first(&mut core.store, number, first)
 }
 
-/// Enters a definition, for which the data and the history have room, with the entries that it begins with. No transaction is open.
+/// Enters a definition, for which the log, the data and the history have room, with the entries that it begins with. No transaction is open.
 ///
 /// # Errors
 ///
@@ -112,6 +113,7 @@ pub(crate) fn enter<M: SortedMaps>(
 {
     let number = definition.number();
     let text_bytes = text_entries(text.as_slice());
+    let log_bytes = definition_need(text.as_slice());
     let changes = text_changes(core.alloc, number, text)?;
     reserve(core, number, first.as_slice())?;
     core.book.book_law();
@@ -119,5 +121,6 @@ pub(crate) fn enter<M: SortedMaps>(
     let number = core.book.define(session, changes, need);
     core.next += 1;
     core.data_room.define(text_bytes);
+    core.log_room.define(log_bytes);
     Ok(Answer::Committed(number))
 }

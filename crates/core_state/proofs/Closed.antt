@@ -18,7 +18,9 @@ use Rattle.txn_machine.specs.Acts as act
 use Rattle.txn_machine.specs.Acts.{Act}
 use Rattle.txn_machine.specs.Answers as answer
 use Rattle.txn_machine.specs.Answers.{Answer}
+use Rattle.txn_machine.specs.Laws.{IsReached}
 use Rattle.txn_machine.specs.Locks.{with_one}
+use Rattle.txn_machine.specs.Log.{Log}
 use Rattle.txn_machine.specs.Store.{Store, Effect, run}
 use Rattle.txn_machine.specs.Ghosts.{the_views}
 use Rattle.txn_machine.specs.State as machine
@@ -31,7 +33,7 @@ use Rattle.txn_book.specs.Acts.{answer_of}
 use Rattle.txn_book.specs.declared.step.Answer.{Answer as Said}
 use Rattle.txn_book.specs.declared.step.Answer.TheVariants as said
 use Rattle.core_state.specs.Seats.{machine_seat, machine_cleaner, seat_at, refusal_in, tells, told, cleaned}
-use Rattle.core_state.specs.Stands.{Stands, Told, Moved, is_blocked, Holds}
+use Rattle.core_state.specs.Stands.{Stands, Began, Told, Failed, Moved, is_blocked, Holds, Reserves, Counts, IsOpening}
 use Rattle.core_state.proofs.Data.{steps_on}
 use Rattle.core_state.specs.declared.seat.Seat.{Seat}
 use Rattle.core_state.specs.declared.seat.Cleaner.{Cleaner}
@@ -182,6 +184,16 @@ stop_is former number a m fine none =
     ap (λ b. cond b (Some (record { step = number; act = a })) (cond (number == most_steps) (Some (record { step = number; act = a })) former)) fine
     ∙ ap (λ o. cond (number == most_steps) (Some (record { step = number; act = a })) o) none
 
+-- one that goes on was not the last
+goes_on : (former : Option Stop) (number : ℕ) (a : Act) (m : Answer) → stop_after former number a m ≡ None → (number == most_steps) ≡ false
+goes_on former number a m none =
+    by_bool (is_fault m)
+    (λ e. absurd (let bad : Some (record { step = number; act = a }) ≡ None = sym (ap (λ b. cond b (Some (record { step = number; act = a })) (cond (number == most_steps) (Some (record { step = number; act = a })) former)) e) ∙ none in cc))
+    (λ e. by_bool (number == most_steps)
+    (λ last. absurd (let bad : Some (record { step = number; act = a }) ≡ None = sym (ap (λ b. cond b (Some (record { step = number; act = a })) (cond (number == most_steps) (Some (record { step = number; act = a })) former)) e
+    ∙ ap (λ b. cond b (Some (record { step = number; act = a })) former) last) ∙ none in cc))
+    (λ differs. differs))
+
 zip_length : {A B : Type 0} (R : A → B → Type 0) (xs : List A) (ys : List B) → AllZip R xs ys → length xs ≡ length ys
 zip_length R [] [] h = refl
 zip_length R [] (y ∷ ys) h = absurd h
@@ -190,7 +202,22 @@ zip_length R (x ∷ xs) (y ∷ ys) h = ap suc (zip_length R xs ys h.1)
 
 -- ---- the step
 
-module _ {M : Type 0} (maps : M → ℕ → Map) (spare : M → ℕ → ℕ) (limit : M → Option ℕ) (core : CoreState M) (s : State) (i : ℕ) (a : Act) (x : Said) (may : May s i a) (within : i ≤ 64) (t : Told maps spare limit s i a (answer_of x) core) where
+-- an act was answered so, whatever the answer is, and the core holds what its effects leave
+record Acted {M : Type 0} (maps : M → ℕ → Map) (spare : M → ℕ → ℕ) (limit : M → Option ℕ) (s : State) (i : ℕ) (a : Act) (m : Answer) (core : CoreState M) : Type 0 where
+  pub reached : IsReached s
+  pub opening : IsOpening core.log_room.limit core.data_room.limit s
+  pub runs : s.stop ≡ None
+  pub effects : List Effect
+  pub says : Says s i a m effects
+  pub holds : Holds maps spare limit core (run the_views s.store i effects) (log_after s i a m effects) (definitions_after s.definitions a m)
+  pub own : (sessions : Sessions) → m ≡ answer.Blocked sessions → table.waiting_of core.locks i ≡ asked s.store i a
+  pub none : is_blocked m ≡ false → IsSession i → table.waiting_of core.locks i ≡ []
+  pub waiting : (other : ℕ) → IsSession other → other ≢ i → table.waiting_of core.locks other ≡ s.waiting other
+  pub counts : Counts maps spare limit core s
+  pub begins_one : (log_after s i a m effects).begun ≤ s.log.begun + 1
+  pub appends_one : (log_after s i a m effects).next ≤ s.log.next + 1
+
+module _ {M : Type 0} (maps : M → ℕ → Map) (spare : M → ℕ → ℕ) (limit : M → Option ℕ) (core : CoreState M) (s : State) (i : ℕ) (a : Act) (x : Said) (may : May s i a) (within : i ≤ 64) (t : Acted maps spare limit s i a (answer_of x) core) where
   abbrev after_store : Store
   after_store = run the_views s.store i t.effects
 
@@ -200,21 +227,21 @@ module _ {M : Type 0} (maps : M → ℕ → Map) (spare : M → ℕ → ℕ) (li
   abbrev the_after : State
   the_after = counted s i a (answer_of x) after_store the_waits (definitions_after s.definitions a (answer_of x)) (log_after s i a (answer_of x) t.effects)
 
-  pub closed : (steps : ℕ) (seats : List Seat) (cleaner : Cleaner) (stop : Option ℕ) → steps ≡ core.steps + 1 → seat_at seats i ≡ told (seat_at core.seats i) steps (refusal_in x) → ((j : ℕ) → j ≢ i → seat_at seats j ≡ seat_at core.seats j)
-      → cleaner ≡ cleaned core.cleaner steps (length core.book.history) x → stop ≡ option_map (λ (y : Stop). y.step) (stop_if (steps == most_steps) (record { step = steps; act = a })) → s.steps < most_steps
+  closed : (the_after.stop ≡ None → Reserves maps spare limit core after_store (log_after s i a (answer_of x) t.effects) (definitions_after s.definitions a (answer_of x)))
+      → (steps : ℕ) (seats : List Seat) (cleaner : Cleaner) (stop : Option ℕ) → steps ≡ core.steps + 1 → seat_at seats i ≡ told (seat_at core.seats i) steps (refusal_in x) → ((j : ℕ) → j ≢ i → seat_at seats j ≡ seat_at core.seats j)
+      → cleaner ≡ cleaned core.cleaner steps (length core.book.history) x → stop ≡ option_map (λ (y : Stop). y.step) (stop_after s.stop steps a (answer_of x)) → s.steps < most_steps
       → Moved maps spare limit s i a (answer_of x) (record core { steps = steps; seats = seats; cleaner = cleaner; stop = stop })
-  closed steps seats cleaner stop more own others clean stops lt =
+  closed reserves steps seats cleaner stop more own others clean stops lt =
       let number : steps ≡ s.steps + 1 = more ∙ ap (λ n. n + 1) t.counts.steps in
       let does : Step s i a (answer_of x) the_after = record { may = may; does = inl (record { runs = t.runs; effects = t.effects; says = t.says; left = refl }) } in
-      let stopped : the_after.stop ≡ stop_if (s.steps + 1 == most_steps) (record { step = s.steps + 1; act = a }) = stop_is s.stop (s.steps + 1) a (answer_of x) t.no_fault t.runs in
       let h : Holds maps spare limit core after_store (log_after s i a (answer_of x) t.effects) (definitions_after s.definitions a (answer_of x)) = t.holds in
       record {
         after = the_after;
         does = does;
         stands = record {
           reached = leads_on s i a (answer_of x) the_after t.reached does;
-          opening = steps_on core.data_room.limit s i a (answer_of x) the_after t.opening does refl;
-          reserves = t.reserves;
+          opening = steps_on core.log_room.limit core.data_room.limit s i a (answer_of x) the_after t.opening does refl;
+          reserves = reserves;
           holds = record { stored = h.stored; book = h.book; locks = h.locks; begun = h.begun; next = h.next; row_mark = h.row_mark; delta_mark = h.delta_mark; past = h.past; ahead = h.ahead; rooms = h.rooms; most = h.most };
           waiting = λ j js. by_session j i
               (λ e. subst (λ k. table.waiting_of core.locks k ≡ with_one s.waiting i the_waits k) (sym e)
@@ -237,12 +264,10 @@ module _ {M : Type 0} (maps : M → ℕ → Map) (spare : M → ℕ → ℕ) (li
             cleaner = ap machine_cleaner clean ∙ (cleaned_as core.cleaner steps (length core.book.history) (length s.store.history) x (λ n e. entries n e)
                 ∙ (ap (λ k. cleaner_after (machine_cleaner core.cleaner) k (length s.store.history) (answer_of x)) number ∙ ap (λ p. cleaner_after p (s.steps + 1) (length s.store.history) (answer_of x)) t.counts.cleaner));
             removed = removed_few s.cleaner (s.steps + 1) (length s.store.history) s.steps (answer_of x) (λ n e. cleaned_few s i a n t.effects (subst (λ m. Says s i a m t.effects) e t.says)) t.counts.removed;
-            running = λ none. by_bool (s.steps + 1 == most_steps)
-                (λ e. absurd (let bad : Some (record { step = s.steps + 1; act = a }) ≡ None = sym (stopped ∙ ap (λ b. stop_if b (record { step = s.steps + 1; act = a })) e) ∙ none in cc))
-                (λ e. not_last e);
+            running = λ none. not_last (goes_on s.stop (s.steps + 1) a (answer_of x) none);
             begun = let one = t.begins_one in let few = t.counts.begun in omega (arith, one, few);
             next = let one = t.appends_one in let few = t.counts.next in omega (arith, one, few);
-            stop = stops ∙ (ap (λ n. option_map (λ (y : Stop). y.step) (stop_if (n == most_steps) (record { step = n; act = a }))) number ∙ ap (option_map (λ (y : Stop). y.step)) (sym stopped));
+            stop = stops ∙ ap (λ n. option_map (λ (y : Stop). y.step) (stop_after s.stop n a (answer_of x))) number;
           };
         };
       }
@@ -254,6 +279,87 @@ module _ {M : Type 0} (maps : M → ℕ → Map) (spare : M → ℕ → ℕ) (li
 
       not_last : (s.steps + 1 == most_steps) ≡ false → s.steps + 1 < most_steps
       not_last e = let differ : s.steps + 1 ≢ most_steps = λ same. absurd (let bad : true ≡ false = sym (eq-eqb (s.steps + 1) most_steps same) ∙ e in cc) in omega (arith, lt, differ)
+
+-- one that the disk did not fail
+module _ {M : Type 0} (maps : M → ℕ → Map) (spare : M → ℕ → ℕ) (limit : M → Option ℕ) (core : CoreState M) (s : State) (i : ℕ) (a : Act) (x : Said) (may : May s i a) (within : i ≤ 64) (t : Told maps spare limit s i a (answer_of x) core) where
+  pub told_closed : (steps : ℕ) (seats : List Seat) (cleaner : Cleaner) (stop : Option ℕ) → steps ≡ core.steps + 1 → seat_at seats i ≡ told (seat_at core.seats i) steps (refusal_in x) → ((j : ℕ) → j ≢ i → seat_at seats j ≡ seat_at core.seats j)
+      → cleaner ≡ cleaned core.cleaner steps (length core.book.history) x → stop ≡ option_map (λ (y : Stop). y.step) (stop_if (steps == most_steps) (record { step = steps; act = a })) → s.steps < most_steps
+      → Moved maps spare limit s i a (answer_of x) (record core { steps = steps; seats = seats; cleaner = cleaner; stop = stop })
+  told_closed steps seats cleaner stop more own others clean stops lt =
+      closed maps spare limit core s i a x may within
+      (record {
+        reached = t.reached;
+        opening = t.opening;
+        runs = t.runs;
+        effects = t.effects;
+        says = t.says;
+        holds = t.holds;
+        own = t.own;
+        none = t.none;
+        waiting = t.waiting;
+        counts = t.counts;
+        begins_one = t.begins_one;
+        appends_one = t.appends_one;
+      })
+      (λ _. t.reserves) steps seats cleaner stop more own others clean
+      (stops ∙ ap (option_map (λ (y : Stop). y.step)) (sym (stop_is s.stop steps a (answer_of x) t.no_fault t.runs))) lt
+
+-- ---- a step that the disk failed
+
+-- its record waits
+failed_log : (s : State) (i : ℕ) (a : Act) → Says s i a (answer.Refused refused.DiskFault) [] → (log_after s i a (answer.Refused refused.DiskFault) []).next ≡ s.log.next + 1
+    → (used : ℕ) × (log_after s i a (answer.Refused refused.DiskFault) [] ≡ record s.log { next = s.log.next + 1; used = used }) × (definitions_after s.definitions a (answer.Refused refused.DiskFault) ≡ s.definitions)
+failed_log s i act.Commit h n = (_, refl, refl)
+failed_log s i (act.Schema statement) h n = (_, refl, refl)
+failed_log s i act.Checkpoint h n = absurd (let bad : s.log.next ≡ s.log.next + 1 = n in omega (arith, bad))
+failed_log s i (act.Begin mode) h n = absurd h
+failed_log s i act.Defs h n = absurd h
+failed_log s i (act.Fetch number interval mode) h n = absurd h
+failed_log s i (act.Peek number interval) h n = absurd h
+failed_log s i (act.Put number key new) h n = absurd h
+failed_log s i act.Pay h n = absurd h
+failed_log s i act.Ghost h n = absurd h
+failed_log s i act.UndoOne h n = absurd h
+failed_log s i act.End h n = absurd h
+failed_log s i act.Clean h n = absurd h
+failed_log s i act.Prune h n = absurd h
+failed_log s i act.Cancel h n = absurd h
+
+pub fault_closed : {M : Type 0} (maps : M → ℕ → Map) (spare : M → ℕ → ℕ) (limit : M → Option ℕ) (core : CoreState M) (s : State) (i : ℕ) (a : Act) → May s i a → i ≤ 64 → Failed maps spare limit s i a core
+    → (steps next : ℕ) (seats : List Seat) (stop : Option ℕ) → steps ≡ core.steps + 1 → next ≡ core.next + 1 → seat_at seats i ≡ told (seat_at core.seats i) steps (Some refused.DiskFault) → ((j : ℕ) → j ≢ i → seat_at seats j ≡ seat_at core.seats j)
+    → stop ≡ Some steps → Moved maps spare limit s i a (answer.Refused refused.DiskFault) (record core { steps = steps; next = next; seats = seats; stop = stop })
+fault_closed maps spare limit core s i a may within f steps next seats stop more appends own others stops =
+    let h : Began maps spare limit core s i = f.began in
+    let log = failed_log s i a f.says f.appends in
+    closed maps spare limit (record core { next = next }) s i a (said.Refused refused.DiskFault) may within
+    (record {
+      reached = h.reached;
+      opening = h.opening;
+      runs = h.runs;
+      effects = [];
+      says = f.says;
+      holds = subst (λ ds. Holds maps spare limit (record core { next = next }) s.store (log_after s i a (answer.Refused refused.DiskFault) []) ds) (sym log.2)
+          (subst (λ l. Holds maps spare limit (record core { next = next }) s.store l s.definitions) (sym log.1) (record {
+            stored = h.holds.stored;
+            book = h.holds.book;
+            locks = h.holds.locks;
+            begun = h.holds.begun;
+            next = appends ∙ ap (λ n. n + 1) h.holds.next;
+            row_mark = h.holds.row_mark;
+            delta_mark = h.holds.delta_mark;
+            past = h.holds.past;
+            ahead = h.holds.ahead;
+            rooms = h.holds.rooms;
+            most = h.holds.most;
+          }));
+      own = λ sessions b. absurd (cc);
+      none = λ _ is. h.own is;
+      waiting = h.waiting;
+      counts = record { steps = h.counts.steps; seats = h.counts.seats; few = h.counts.few; cleaner = h.counts.cleaner; removed = h.counts.removed; running = h.counts.running; begun = h.counts.begun; next = h.counts.next; stop = h.counts.stop };
+      begins_one = subst (λ (l : Log). l.begun ≤ s.log.begun + 1) (sym log.1) (omega arith);
+      appends_one = subst (λ (l : Log). l.next ≤ s.log.next + 1) (sym log.1) (omega arith);
+    })
+    (λ none. absurd (let bad : Some (record { step = s.steps + 1; act = a }) ≡ None = none in cc)) steps seats core.cleaner stop more own others refl stops (h.counts.running h.runs)
 
 -- ---- a stopped core
 
@@ -268,8 +374,8 @@ stop_told maps spare limit core s i a stop seats may within h stopped own others
       does = does;
       stands = record {
         reached = leads_on s i a (answer.Refused (refused.Stopped stop.step)) (machine.told_of_stop s i) h.reached does;
-        opening = steps_on core.data_room.limit s i a (answer.Refused (refused.Stopped stop.step)) (machine.told_of_stop s i) h.opening does refl;
-        reserves = h.reserves;
+        opening = steps_on core.log_room.limit core.data_room.limit s i a (answer.Refused (refused.Stopped stop.step)) (machine.told_of_stop s i) h.opening does refl;
+        reserves = λ none. absurd (let bad : Some stop ≡ None = sym stopped ∙ none in cc);
         holds = record { stored = h.holds.stored; book = h.holds.book; locks = h.holds.locks; begun = h.holds.begun; next = h.holds.next; row_mark = h.holds.row_mark; delta_mark = h.holds.delta_mark; past = h.holds.past; ahead = h.holds.ahead; rooms = h.holds.rooms; most = h.holds.most };
         waiting = h.waiting;
         counts = record {

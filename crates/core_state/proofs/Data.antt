@@ -12,7 +12,6 @@ use Rattle.txn_machine.specs.Answers.{Answer}
 use Rattle.txn_machine.specs.Counts.{sum_over, told_need}
 use Rattle.txn_machine.specs.Fresh.{fresh}
 use Rattle.txn_machine.specs.Ghosts.{the_views}
-use Rattle.txn_machine.specs.Laws.{IsReached}
 use Rattle.txn_machine.specs.Log.{Log, Opening, Within, Above, view_entries, definition_entries}
 use Rattle.txn_machine.specs.State.{State}
 use Rattle.txn_machine.specs.Steps.{Did, Step, Run, FitsData, IsDataFull, texts_of, used_data}
@@ -31,6 +30,7 @@ use Rattle.data_room.specs.Reserved.{Where, kept_for, AreReserved}
 use Rattle.data_room.specs.declared.room.DataRoom.{DataRoom}
 use Rattle.data_room.proofs.Used.{used_is}
 use Rattle.data_room.proofs.Wheres.{where_always, where_map, where_two, where_above, within_is, is_within, within_fewer, above_more}
+use Rattle.log_room.specs.declared.room.LogRoom.{LogRoom}
 use Rattle.core_state.specs.Stands.{IsOpening, Began, Reserves, Holds, Counts}
 use Rattle.core_state.specs.declared.state.CoreState.{CoreState}
 
@@ -55,14 +55,30 @@ module _ {M : Type 0} (maps : M → ℕ → Map) (spare : M → ℕ → ℕ) (li
   pub data_counts : (s : State) → Counts maps spare limit core s → Counts maps spare limit (record core { data_room = room }) s
   data_counts s h = record { steps = h.steps; seats = h.seats; few = h.few; cleaner = h.cleaner; removed = h.removed; running = h.running; begun = h.begun; next = h.next; stop = h.stop }
 
+-- what is used and reserved of the log alone becomes another
+pub log_holds : {M : Type 0} (maps : M → ℕ → Map) (spare : M → ℕ → ℕ) (limit : M → Option ℕ) (core : CoreState M) (room : LogRoom) (store : Store) (l : Log) (texts : List (List ℕ)) → Holds maps spare limit core store l texts → Holds maps spare limit (record core { log_room = room }) store l texts
+log_holds maps spare limit core room store l texts h = record {
+  stored = h.stored;
+  book = h.book;
+  locks = h.locks;
+  begun = h.begun;
+  next = h.next;
+  row_mark = h.row_mark;
+  delta_mark = h.delta_mark;
+  past = h.past;
+  ahead = h.ahead;
+  rooms = h.rooms;
+  most = h.most;
+}
+
 -- ---- steps lead on within the limit
 
 run_more : (s : State) (ds : List Did) (middle : State) (d : Did) (after : State) → Run s ds middle → Step middle d.session d.act d.said after → Run s (ds ++ d ∷ []) after
 run_more s [] middle d after r step = (after, subst (λ x. Step x d.session d.act d.said after) r step, refl)
 run_more s (x ∷ ds) middle d after r step = (r.0, r.1, run_more r.0 ds middle d after r.2 step)
 
-pub steps_on : (most : Option ℕ) (s : State) (i : ℕ) (a : Act) (said : Answer) (after : State) → IsOpening most s → Step s i a said after → after.opening ≡ s.opening → IsOpening most after
-steps_on most s i a said after h step same = record {
+pub steps_on : (log most : Option ℕ) (s : State) (i : ℕ) (a : Act) (said : Answer) (after : State) → IsOpening log most s → Step s i a said after → after.opening ≡ s.opening → IsOpening log most after
+steps_on log most s i a said after h step same = record {
   is = same ∙ h.is;
   reached = record {
     db = h.reached.db;
@@ -73,12 +89,14 @@ steps_on most s i a said after h step same = record {
     run = run_more _ h.reached.steps s (record { session = i; act = a; said = said }) after h.reached.run step;
   };
   was = h.was;
+  least = h.least;
+  bounded = h.bounded;
   within = h.within;
 }
 
 -- ---- what the data use
 
-module _ {M : Type 0} (maps : M → ℕ → Map) (spare : M → ℕ → ℕ) (limit : M → Option ℕ) (core : CoreState M) (s : State) (opening : IsOpening core.data_room.limit s) (reserves : Reserves maps spare limit core s.store s.log s.definitions)
+module _ {M : Type 0} (maps : M → ℕ → Map) (spare : M → ℕ → ℕ) (limit : M → Option ℕ) (core : CoreState M) (s : State) (opening : IsOpening core.log_room.limit core.data_room.limit s) (reserves : Reserves maps spare limit core s.store s.log s.definitions)
     (c : Contents) (held : IsHeld core.store.catalog (maps core.store.tables) core.store.views c) (objects : c.objects ≡ schema_of s.store) (rows : c.rows ≡ s.store.rows) (view : c.view ≡ s.store.view) (limited : IsLimited (schema_of s.store)) where
   sound : AreSound (schema_of s.store) s.store.rows
   sound = stored_sound the_views fresh view_laws (committed s.store) s.store (reached s opening.reached)
@@ -97,7 +115,7 @@ module _ {M : Type 0} (maps : M → ℕ → Map) (spare : M → ℕ → ℕ) (li
       let total : core.data_room.total ≡ sum_over 64 (kept_for (schema_of s.store) s.store.open_of s.log.logged) + sum (map definition_entries s.definitions) = r.total in
       let texts : sum (map definition_entries (texts_of s)) ≡ sum (map definition_entries s.definitions) = ap (λ (o : Opening). sum (map definition_entries (o.definitions ++ s.definitions))) opening.is in
       let same : used (maps core.store.tables) + core.data_room.total ≡ used_data s = omega (arith, stored, total, texts) in
-      same) reserves
+      same) reserves.data_room
 
   pub data_fits : Within core.data_room.limit (used_data s)
   data_fits = subst (λ (o : Opening). Within o.data_limit (used_data s)) opening.was

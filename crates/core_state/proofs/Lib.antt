@@ -6,3 +6,4 @@ pub mod Closed
 pub mod Counted
 pub mod Few
 pub mod Data
+pub mod Logged

@@ -1,5 +1,5 @@
 -- A core as it is made, and as a step begins.
-use Rattle.std.specs.Prelude.{◌≡◌, ◌≢◌, ℕ, ◌+◌, ℤ, List, [], ◌∷◌, map, length, Option, None, Some, refl}
+use Rattle.std.specs.Prelude.{◌≡◌, ◌≢◌, ℕ, ◌+◌, ℤ, List, [], ◌∷◌, map, length, Option, None, Some, IsSome, refl}
 use Rattle.std.specs.List.{AllZip, sum}
 use Rattle.std.specs.FinMap.{empty, entries, len-entries, len-empty}
 use mathlib.Core.Path.{sym, ap, subst, ◌∙◌}
@@ -19,7 +19,7 @@ use Rattle.core_state.proofs.Rooms.{rooms_back, no_rooms}
 use Rattle.iv_meaning.specs.Database.{Row, Database}
 use Rattle.txn_machine.specs.Laws.{EmptyLaw, IsReached}
 use Rattle.txn_machine.specs.Counts.{sum_over}
-use Rattle.txn_machine.specs.Log.{Within, not_logged, row_entries, view_entry, view_entries}
+use Rattle.txn_machine.specs.Log.{Within, block_bytes, opened_log, not_logged, row_entries, view_entry, view_entries}
 use Rattle.txn_machine.specs.Store.{locks_of, opened}
 use Rattle.txn_machine.specs.State.{State, opened_state}
 use Rattle.txn_machine.specs.Steps.{used_data}
@@ -38,6 +38,7 @@ use Rattle.data_past.proofs.Aheads.{ahead_opened}
 use Rattle.data_past.proofs.Effects.{past_opened}
 use Rattle.data_room.specs.Reserved.{share_at, kept_for}
 use Rattle.data_room.proofs.Kept.{reserved_none}
+use Rattle.log_room.specs.Rooms.{IsRoomOf}
 use Rattle.core_state.specs.Seats.{new_seat, seat_at, machine_seat, machine_cleaner}
 use Rattle.core_state.specs.Stands.{Stands, Began, limited}
 use Rattle.core_state.specs.declared.state.CoreState.{CoreState}
@@ -56,7 +57,7 @@ module _ {M : Type 0} (maps : M → ℕ → Map) (spare : M → ℕ → ℕ) (li
     reached = h.reached;
     opening = h.opening;
     runs = runs;
-    reserves = h.reserves;
+    reserves = h.reserves runs;
     holds = record {
       stored = h.holds.stored;
       book = h.holds.book;
@@ -92,22 +93,22 @@ module _ {M : Type 0} (maps : M → ℕ → Map) (spare : M → ℕ → ℕ) (li
   the_db = record { number = number; schema = []; rows = empty }
 
   abbrev the_state : State
-  the_state = opened_state (limited core.data_room.limit) (opened the_db empty)
+  the_state = opened_state (limited core.log_room.limit core.data_room.limit) (opened the_db empty)
 
   abbrev reached_here : EmptyLaw → IsReached the_state
-  reached_here law = record { db = the_db; view = empty; opening = limited core.data_room.limit; was_opened = law number; steps = []; run = refl }
+  reached_here law = record { db = the_db; view = empty; opening = limited core.log_room.limit core.data_room.limit; was_opened = law number; steps = []; run = refl }
 
   no_entries : {X : Type 0} → entries (empty {X = X} {R = place_cmp}) ≡ []
   no_entries {X} = nil_from_length _ (sym (len-entries (empty {X = X} {R = place_cmp})) ∙ len-empty place_cmp X)
 
   -- nothing is used
-  within_here : (most : Option ℕ) → OpensWithin (limited most) (record { db = the_db; view = empty })
+  within_here : (most : Option ℕ) → OpensWithin (limited core.log_room.limit most) (record { db = the_db; view = empty })
   within_here None = tt
   within_here (Some most) =
       let rows : rows_bytes [] empty ≡ 0 = ap (λ (es : List (Place × Row)). sum (map (λ e. row_entries [] e.0 e.1) es)) no_entries in
       let views : view_entries empty ≡ 0 = ap (λ (es : List (Place × List ℤ)). sum (map (λ e. view_entry e.0 (length e.1)) es)) no_entries in
       let kept : sum_over 64 (kept_for [] (λ session. None) (λ session. not_logged)) ≡ 0 = sum_none 64 (kept_for [] (λ session. None) (λ session. not_logged)) (λ j lo hi. refl) in
-      let all : used_data (opened_state (limited (Some most)) (opened the_db empty)) ≡ rows_bytes [] empty + view_entries empty + 0 + sum_over 64 (kept_for [] (λ session. None) (λ session. not_logged)) = refl in
+      let all : used_data (opened_state (limited core.log_room.limit (Some most)) (opened the_db empty)) ≡ rows_bytes [] empty + view_entries empty + 0 + sum_over 64 (kept_for [] (λ session. None) (λ session. not_logged)) = refl in
       omega (arith, rows, views, kept, all)
 
   nobody : (o : Option Open) → o ≡ None → book.IsSame [] o None not_logged
@@ -123,11 +124,12 @@ module _ {M : Type 0} (maps : M → ℕ → Map) (spare : M → ℕ → ℕ) (li
   -- it stands where the machine begins
   pub made : EmptyLaw → IsHeld core.store.catalog (maps core.store.tables) core.store.views no_contents → (core.store.row_versions.pruned ≡ number) × (core.store.delta_versions.pruned ≡ number)
       → (core.store.row_versions.versions ≡ []) × (core.store.delta_versions.versions ≡ []) × (core.store.pending.entries ≡ empty) → core.book.opened ≡ number → core.book.history ≡ [] → core.book.entry_bytes ≡ 0 → ((session : ℕ) → open_at core.book.opens session ≡ None)
+      → IsRoomOf core.log_room (opened the_db empty) (opened_log 1) → Within core.log_room.limit (block_bytes + 1) → IsSome core.data_room.limit
       → IsNew core.locks → ((session : ℕ) → rows_at core.ahead session ≡ []) → ((session : ℕ) → deltas_at core.ahead session ≡ []) → limit core.store.tables ≡ core.data_room.limit → core.data_room.total ≡ 0 → ((session : ℕ) → share_at core.data_room.shares session ≡ 0) → core.begun ≡ 0 → core.next ≡ 1 → core.steps ≡ 0 → ((session : ℕ) → seat_at core.seats session ≡ new_seat) → machine_cleaner core.cleaner ≡ the_state.cleaner → core.stop ≡ None → Stands maps spare limit core the_state
-  made law stored marks past opened_at history bytes none new no_rows no_deltas most total shares begun next steps seats cleaner stop = record {
+  made law stored marks past opened_at history bytes none log_room least bounded new no_rows no_deltas most total shares begun next steps seats cleaner stop = record {
     reached = reached_here law;
-    opening = record { is = refl; reached = reached_here law; was = refl; within = within_here core.data_room.limit };
-    reserves = reserved_none core.data_room [] (λ session. None) (λ session. not_logged) total shares (λ session. refl);
+    opening = record { is = refl; reached = reached_here law; was = refl; least = least; bounded = bounded; within = within_here core.data_room.limit };
+    reserves = λ _. record { data_room = reserved_none core.data_room [] (λ session. None) (λ session. not_logged) total shares (λ session. refl); log_room = log_room };
     holds = record {
       stored = stored;
       book = record {

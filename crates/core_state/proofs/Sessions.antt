@@ -111,7 +111,7 @@ module _ {M : Type 0} (maps : M → ℕ → Map) (spare : M → ℕ → ℕ) (li
 
   -- a snapshot keeps nothing
   pub bare : (j : ℕ) → IsSession j → IsBare (s.store.open_of j) (s.log.logged j)
-  bare j js = (roomy_reached s h.reached (subst (λ o. Within o.log_limit (block_bytes + 1)) (sym h.opening.is) tt) h.runs).bare j js
+  bare j js = (roomy_reached s h.reached (subst (λ o. Within o.log_limit (block_bytes + 1)) (sym h.opening.is) h.opening.least) h.runs).bare j js
 
   pub snapshots_bare : (j : ℕ) (t : Open) → IsSession j → s.store.open_of j ≡ Some t → t.mode ≡ Snapshot → t.kept ≡ []
   snapshots_bare j t js e mode = (subst (λ o. IsBare o (s.log.logged j)) e (bare j js) mode).0

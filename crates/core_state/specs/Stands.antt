@@ -1,19 +1,20 @@
 -- No clause of `run` rests on this module: it serves contracts between crates.
 --
--- In which state of the machine a core is. It may have a limit of data, and has none of the log and no disk.
-use Rattle.std.specs.Prelude.{◌≡◌, ◌≢◌, ℕ, ◌+◌, ◌<◌, ◌≤◌, List, [], None, false, true, Bool, Option}
+-- In which state of the machine a core is. Its data have a limit, its log may have one, and it has no disk.
+use Rattle.std.specs.Prelude.{◌≡◌, ◌≢◌, ℕ, ◌+◌, ◌<◌, ◌≤◌, List, [], None, IsSome, false, true, Bool, Option}
 use Rattle.std.specs.Option.{option_map}
 use Rattle.iv_types.specs.Maps.{Map}
+use Rattle.iv_types.specs.declared.refusal.EngineRefusal.TheVariants.{DiskFault}
 use Rattle.iv_types.specs.declared.session.Sessions.{Sessions}
 use Rattle.iv_meaning.specs.Escrow.{IsSession}
 use Rattle.lock_manager.specs.Table as table
 use Rattle.lock_desk.specs.Asking.{HasLocks}
 use Rattle.txn_machine.specs.Acts.{Act}
-use Rattle.txn_machine.specs.Answers.{Answer, Blocked}
+use Rattle.txn_machine.specs.Answers.{Answer, Blocked, Refused}
 use Rattle.txn_machine.specs.Counts.{definition_sizes}
 use Rattle.txn_machine.specs.Store.{Store, Effect, committed, schema_of, locks_of, run}
 use Rattle.txn_machine.specs.Ghosts.{the_views}
-use Rattle.txn_machine.specs.Log.{Opening, Log, unlimited}
+use Rattle.txn_machine.specs.Log.{Opening, Log, Within, unlimited, block_bytes}
 use Rattle.txn_machine.specs.State.{State, is_fault, most_steps}
 use Rattle.txn_machine.specs.Steps.{Says, Step, asked, definitions_after, log_after}
 use Rattle.txn_machine.specs.Laws.{IsReached}
@@ -24,20 +25,32 @@ use Rattle.data_store.specs.Held.{IsHeld}
 use Rattle.data_store.specs.Machine.{IsPast}
 use Rattle.data_past.specs.Ahead.{IsAhead}
 use Rattle.data_room.specs.Reserved.{IsReserved}
+use Rattle.data_room.specs.declared.room.DataRoom.{DataRoom}
+use Rattle.log_room.specs.Rooms.{IsRoomOf}
+use Rattle.log_room.specs.declared.room.LogRoom.{LogRoom}
 use Rattle.core_state.specs.Rooms.{HasRooms}
 use Rattle.core_state.specs.Seats.{machine_seat, machine_cleaner, seat_at}
 use Rattle.core_state.specs.declared.state.CoreState.{CoreState}
 
--- with this limit of data, if there is one, and no other, on a database that defines nothing
-abbrev pub limited : Option ℕ → Opening
-limited most = record unlimited { data_limit = most }
+-- with these limits of the log and of the data, where there are such, on a database that defines nothing
+abbrev pub limited : Option ℕ → Option ℕ → Opening
+limited log most = record unlimited { log_limit = log; data_limit = most }
 
--- the opening is so, and steps lead to the state from a database that was within the limit as it was opened
-pub record IsOpening (most : Option ℕ) (s : State) : Type 0 where
-  pub is : s.opening ≡ limited most
+-- the opening is so, and steps lead to the state from a database that was within the limits as it was opened
+pub record IsOpening (log most : Option ℕ) (s : State) : Type 0 where
+  pub is : s.opening ≡ limited log most
   pub reached : IsReached s
-  pub was : reached.opening ≡ limited most
-  pub within : OpensWithin (limited most) (record { db = reached.db; view = reached.view })
+  pub was : reached.opening ≡ limited log most
+  -- an area of the log holds an empty block
+  pub least : Within log (block_bytes + 1)
+  -- the data have a limit
+  pub bounded : IsSome most
+  pub within : OpensWithin (limited log most) (record { db = reached.db; view = reached.view })
+
+-- what open transactions and these definitions keep of the data, and what is used and reserved of the log
+pub record AreKept (of_data : DataRoom) (of_log : LogRoom) (store : Store) (log : Log) (definitions : List (List ℕ)) : Type 0 where
+  pub data_room : IsReserved of_data (schema_of store) store.open_of log.logged definitions
+  pub log_room : IsRoomOf of_log store log
 
 -- the session waits
 abbrev pub is_blocked : Answer → Bool
@@ -64,9 +77,9 @@ module _ {M : Type 0} (maps : M → ℕ → Map) (spare : M → ℕ → ℕ) (li
     -- the maps have the limit of the core
     pub most : limit core.store.tables ≡ core.data_room.limit
 
-  -- the core knows what open transactions keep of the data, and these definitions
+  -- the core knows that
   abbrev pub Reserves : CoreState M → Store → Log → List (List ℕ) → Type 0
-  Reserves core store log definitions = IsReserved core.data_room (schema_of store) store.open_of log.logged definitions
+  Reserves core store log definitions = AreKept core.data_room core.log_room store log definitions
 
   -- the counts of steps, and what sessions were told
   pub record Counts (core : CoreState M) (s : State) : Type 0 where
@@ -83,16 +96,16 @@ module _ {M : Type 0} (maps : M → ℕ → Map) (spare : M → ℕ → ℕ) (li
   -- a core is in a state that steps lead to
   pub record Stands (core : CoreState M) (s : State) : Type 0 where
     pub reached : IsReached s
-    pub opening : IsOpening core.data_room.limit s
+    pub opening : IsOpening core.log_room.limit core.data_room.limit s
     pub holds : Holds core s.store s.log s.definitions
-    pub reserves : Reserves core s.store s.log s.definitions
+    pub reserves : s.stop ≡ None → Reserves core s.store s.log s.definitions
     pub waiting : (session : ℕ) → IsSession session → table.waiting_of core.locks session ≡ s.waiting session
     pub counts : Counts core s
 
   -- a session's step has begun: it waits for nothing, and nothing else has changed
   pub record Began (core : CoreState M) (s : State) (session : ℕ) : Type 0 where
     pub reached : IsReached s
-    pub opening : IsOpening core.data_room.limit s
+    pub opening : IsOpening core.log_room.limit core.data_room.limit s
     pub runs : s.stop ≡ None
     pub holds : Holds core s.store s.log s.definitions
     pub reserves : Reserves core s.store s.log s.definitions
@@ -103,7 +116,7 @@ module _ {M : Type 0} (maps : M → ℕ → Map) (spare : M → ℕ → ℕ) (li
   -- an act was answered so, and the core holds what its effects leave
   pub record Told (s : State) (session : ℕ) (a : Act) (said : Answer) (core : CoreState M) : Type 0 where
     pub reached : IsReached s
-    pub opening : IsOpening core.data_room.limit s
+    pub opening : IsOpening core.log_room.limit core.data_room.limit s
     pub runs : s.stop ≡ None
     pub effects : List Effect
     pub says : Says s session a said effects
@@ -117,6 +130,12 @@ module _ {M : Type 0} (maps : M → ℕ → Map) (spare : M → ℕ → ℕ) (li
     -- a step begins one transaction at most, and appends one record
     pub begins_one : (log_after s session a said effects).begun ≤ s.log.begun + 1
     pub appends_one : (log_after s session a said effects).next ≤ s.log.next + 1
+
+  -- the disk failed an act, which has changed nothing: its record waits
+  pub record Failed (s : State) (session : ℕ) (a : Act) (core : CoreState M) : Type 0 where
+    pub began : Began core s session
+    pub says : Says s session a (Refused DiskFault) []
+    pub appends : (log_after s session a (Refused DiskFault) []).next ≡ s.log.next + 1
 
   -- a step was answered so, and led to the state in which the core is
   pub record Moved (s : State) (session : ℕ) (a : Act) (said : Answer) (core : CoreState M) : Type 0 where

@@ -1,5 +1,6 @@
 //! What sessions were told so far.
-ghost use Rattle.std.specs.Prelude.{◌≡◌, ◌≢◌, ◌<◌, ◌^◌, ◌-◌, ℕ, true, IfOk};
+ghost use Rattle.std.specs.Prelude.{◌≡◌, ◌≢◌, ◌<◌, ◌^◌, ◌-◌, ℕ, true, Some, IfOk};
+ghost use Rattle.iv_types.specs.declared.refusal.EngineRefusal.TheVariants.{DiskFault};
 ghost use Rattle.iv_types.specs.declared.limit.TheConstants.{SEATS};
 ghost use Rattle.core_state.specs.Seats.{new_seat, seat_at, refusal_in, told};
 
@@ -119,6 +120,17 @@ impl Seats {
     {
         let at = session as usize;
         self.seats[at] = seat_after(self.seats[at], number, refusal_in(said));
+    }
+
+    /// Counts a step of a session, with its number, at which the disk failed.
+    pub fn fail(&mut self, session: u32, number: u64)
+        requires session { session < SEATS }
+        requires few { (seat_at self.old session).steps < 2 ^ 64 - 1 }
+        ensures own { seat_at self.new session ≡ told (seat_at self.old session) number (Some DiskFault) }
+        ensures others { (other : ℕ) → other ≢ session → seat_at self.new other ≡ seat_at self.old other }
+    {
+        let at = session as usize;
+        self.seats[at] = seat_after(self.seats[at], number, Some(EngineRefusal::DiskFault));
     }
 
     /// Keeps that a session was told of the stop.

@@ -2,7 +2,7 @@
 ghost use Rattle.std.specs.Prelude.{◌≡◌, ◌+◌, ◌<◌, ◌^◌, [], Some, IsSome, IfOk, IfSome, IfNone};
 ghost use Rattle.std.specs.FinMap.{empty};
 ghost use Rattle.iv_types.specs.Maps.{IsWithin, used};
-ghost use Rattle.txn_machine.specs.Log.{Above};
+ghost use Rattle.txn_machine.specs.Log.{Above, Within, block_bytes};
 ghost use Rattle.txn_machine.specs.State.{opened_state};
 ghost use Rattle.txn_machine.specs.Store.{opened};
 ghost use Rattle.data_store.specs.Contents.{no_contents};
@@ -18,6 +18,7 @@ use data_store::DataStore;
 use iv_types::{NoMemory, SortedMaps};
 use lock_desk::PayWants;
 use lock_manager::LockTable;
+use log_room::LogRoom;
 use std::alloc::Global;
 use txn_book::{Book, Open};
 use txn_machine::steps::empty_law;
@@ -38,6 +39,8 @@ pub struct CoreState<M: SortedMaps> {
     pub ahead: VersionsAhead,
     /// What open transactions keep of the data, and the texts of definitions, with the limit of the data.
     pub data_room: DataRoom,
+    /// What is used and reserved of the log, with its limit.
+    pub log_room: LogRoom,
     /// How many serial transactions began, which numbers them in the log.
     pub begun: u64,
     /// The number of the log's next record.
@@ -67,16 +70,23 @@ fn new_store<M: SortedMaps>(alloc: Global, maps: M, number: u64) -> Result<DataS
 
 impl<M: SortedMaps> CoreState<M> {
     /// A core on a database that defines nothing, whose greatest commit number is this one, over maps without an entry
-    /// and with this limit.
+    /// and with this limit, in bytes. An area of its log takes so many bytes, where there is such a limit.
     ///
     /// # Errors
     ///
     /// Where there is no memory for it.
-    pub fn new(alloc: Global, maps: M, limit: Option<u32>, number: u64) -> Result<Self, NoMemory>
+    pub fn new(
+        alloc: Global,
+        maps: M,
+        log: Option<u32>,
+        most: u32,
+        number: u64,
+    ) -> Result<Self, NoMemory>
         requires empty { AreEmpty (M.maps maps) }
-        requires limit { M.limit maps ≡ limit }
+        requires log { Within log (block_bytes + 1) }
+        requires data { M.limit maps ≡ Some most }
         requires number { number < 2 ^ 63 }
-        ensures { IfOk result (λ core. Stands M.maps M.spare M.limit core (opened_state (limited limit) (opened (record { number = number; schema = []; rows = empty }) empty))) }
+        ensures { IfOk result (λ core. Stands M.maps M.spare M.limit core (opened_state (limited log (Some most)) (opened (record { number = number; schema = []; rows = empty }) empty))) }
     {
         empty_law();
         // The store comes last: its drop is the longest, and is not proved where another part fails.
@@ -85,7 +95,8 @@ impl<M: SortedMaps> CoreState<M> {
             seats: Seats::new(alloc)?,
             wants: PayWants::new(alloc)?,
             ahead: VersionsAhead::new(alloc)?,
-            data_room: DataRoom::new(alloc, limit)?,
+            data_room: DataRoom::new(alloc, Some(most))?,
+            log_room: LogRoom::new(log),
             locks: LockTable::new(alloc)?,
             book: Book::new(alloc, number)?,
             store: new_store(alloc, maps, number)?,

@@ -8,7 +8,7 @@ ghost use Rattle.txn_machine.specs.Acts.{Act};
 ghost use Rattle.txn_machine.specs.May.{May};
 ghost use Rattle.txn_book.specs.Acts.{answer_of};
 ghost use Rattle.core_state.specs.Seats.{seat_at, cleaned};
-ghost use Rattle.core_state.specs.Stands.{Stands, Began, Told, Moved};
+ghost use Rattle.core_state.specs.Stands.{Stands, Began, Told, Failed, Moved};
 
 use crate::seat::Cleaner;
 use crate::state::CoreState;
@@ -62,6 +62,21 @@ impl<M: SortedMaps> CoreState<M> {
         if number == LAST_STEP {
             self.stop = Some(number);
         }
+    }
+
+    /// Counts a step of a session of a core that is not stopped, at which the disk failed: its record waits, and the core is stopped.
+    pub fn fail_step(&mut self, session: u32)
+        requires session { session ≤ MOST_SESSIONS }
+        requires steps { self.old.steps < 2 ^ 62 }
+        requires next { self.old.next < 2 ^ 63 }
+        requires few { (seat_at self.old.seats session).steps < 2 ^ 62 }
+        ensures { (s : State) (a : Act) → May s session a → Failed M.maps M.spare M.limit s session a self.old → Moved M.maps M.spare M.limit s session a (answer.Refused refusal.DiskFault) self.new }
+    {
+        let number = self.steps + 1;
+        self.steps = number;
+        self.next += 1;
+        self.seats.fail(session, number);
+        self.stop = Some(number);
     }
 
     /// Answers a step of a core that is stopped: the session is told of it.

@@ -1,5 +1,5 @@
 -- What is told of a Prune and of a Checkpoint.
-use Rattle.std.specs.Prelude.{◌≡◌, ℕ, ◌≤◌, max, List, [], ◌∷◌, Option, refl}
+use Rattle.std.specs.Prelude.{◌≡◌, ℕ, ◌+◌, ◌≤◌, max, List, [], ◌∷◌, Option, refl}
 use mathlib.Core.Path.{sym, ap, subst, ◌∙◌}
 use Rattle.std.proofs.Common.{arith}
 use Rattle.iv_types.specs.Maps.{Map}
@@ -9,6 +9,7 @@ use Rattle.txn_machine.specs.Ghosts.{the_views}
 use Rattle.txn_machine.specs.Store.{Prunes, does, schema_of, committed, least_snapshot}
 use Rattle.txn_machine.specs.Counts.{definition_sizes}
 use Rattle.txn_machine.specs.Locks.{with_one}
+use Rattle.txn_machine.specs.Log.{Log, block_bytes, carried}
 use Rattle.table_laws.proofs.Stored.{by_session}
 use Rattle.txn_machine.specs.State.{State}
 use Rattle.txn_machine.proofs.Basics.{one_same, one_other}
@@ -25,8 +26,11 @@ use Rattle.data_past.proofs.Aheads.{ahead_prunes}
 use Rattle.data_past.proofs.Effects.{past_prunes}
 use Rattle.version_chain.specs.declared.deltas.Delta.{Delta}
 use Rattle.data_room.specs.Reserved.{IsReserved}
+use Rattle.log_room.specs.Rooms.{IsRoomOf, SameRoomLaw}
+use Rattle.log_room.specs.declared.room.LogRoom.{LogRoom}
 use Rattle.core_state.specs.Stands.{Began, Told}
 use Rattle.core_state.specs.declared.state.CoreState.{CoreState}
+use Rattle.core_effects.proofs.Done.{done_told}
 
 max_above : (a b : ℕ) → a ≤ b → max a b ≡ b
 max_above a b le = omega (arith, le)
@@ -44,10 +48,10 @@ module _ {M : Type 0} (maps : M → ℕ → Map) (spare : M → ℕ → ℕ) (li
   above_mark = least_above s.store.open_of s.store.mark 64 (committed s.store).number (mark_reached s h.reached).marked
       (λ j low high o e snap. mark_law s h.reached j (record { of_session = (low, high); transaction = o; is_open = e }) snap)
 
-  pub pruned_told : (rows : Chains (Option (List ℕ))) (deltas : Chains Delta) (least : ℕ) → least ≡ books.least_snapshot core.book.opens 64 (number_of core.book)
+  pub pruned_told : SameRoomLaw → (rows : Chains (Option (List ℕ))) (deltas : Chains Delta) (least : ℕ) → least ≡ books.least_snapshot core.book.opens 64 (number_of core.book)
       → rows.versions ≡ above least core.store.row_versions.versions → deltas.versions ≡ above least core.store.delta_versions.versions → core.store.row_versions.room ≤ rows.room → core.store.delta_versions.room ≤ deltas.room → rows.pruned ≡ max core.store.row_versions.pruned least → deltas.pruned ≡ max core.store.delta_versions.pruned least
       → Told maps spare limit s 0 act.Prune answer.Pruned (record core { store = record core.store { row_versions = rows; delta_versions = deltas } })
-  pruned_told rows deltas least least_is rows_left deltas_left row_room delta_room rows_are deltas_are = record {
+  pruned_told law rows deltas least least_is rows_left deltas_left row_room delta_room rows_are deltas_are = record {
     reached = h.reached;
     opening = h.opening;
     runs = h.runs;
@@ -66,7 +70,10 @@ module _ {M : Type 0} (maps : M → ℕ → Map) (spare : M → ℕ → ℕ) (li
       ahead = ahead_prunes core.ahead core.store.row_versions.room core.store.delta_versions.room s.store h.holds.ahead 0 rows.room deltas.room row_room delta_room;
       rooms = h.holds.rooms;
     };
-    reserves = subst (λ l. IsReserved core.data_room (schema_of s.store) s.store.open_of l s.definitions) (sym (logs_logged s.store 0 act.Prune Prunes s.log ∙ same_logged)) h.reserves;
+    reserves = record {
+      data_room = subst (λ l. IsReserved core.data_room (schema_of s.store) s.store.open_of l s.definitions) (sym (logs_logged s.store 0 act.Prune Prunes s.log ∙ same_logged)) h.reserves.data_room;
+      log_room = law.prunes core.log_room s.store s.log 0 act.Prune h.reserves.log_room;
+    };
     own = λ sessions e. absurd (cc);
     none = λ _ is. h.own is;
     waiting = h.waiting;
@@ -92,32 +99,26 @@ module _ {M : Type 0} (maps : M → ℕ → Map) (spare : M → ℕ → ℕ) (li
       same_logged : with_one s.log.logged 0 (s.log.logged 0) ≡ s.log.logged
       same_logged = λ k j. as_logged j k
 
-  pub saved_told : (number : ℕ) → number ≡ number_of core.book → Told maps spare limit s 0 act.Checkpoint (answer.Saved number) core
-  saved_told number is = record {
-    reached = h.reached;
-    opening = h.opening;
-    runs = h.runs;
-    effects = [];
-    says = (refl, is ∙ h.holds.book.number);
-    holds = record {
-      stored = h.holds.stored;
-      book = h.holds.book;
-      locks = h.holds.locks;
-      begun = h.holds.begun;
-      next = h.holds.next;
-      row_mark = h.holds.row_mark;
-      delta_mark = h.holds.delta_mark;
-      most = h.holds.most;
-      past = h.holds.past;
-      ahead = h.holds.ahead;
-      rooms = h.holds.rooms;
-    };
-    reserves = h.reserves;
-    own = λ sessions e. absurd (cc);
-    none = λ _ is. h.own is;
-    waiting = h.waiting;
-    counts = h.counts;
-    no_fault = refl;
-    begins_one = omega arith;
-    appends_one = omega arith;
-  }
+  -- the log has what is carried alone
+  abbrev pub saved_log : Log
+  saved_log = record s.log { used = block_bytes + 1 + carried s.store }
+
+  pub saved_told : (number : ℕ) → number ≡ number_of core.book → (room : LogRoom) → room.limit ≡ core.log_room.limit → IsRoomOf room s.store saved_log → Told maps spare limit s 0 act.Checkpoint (answer.Saved number) (record core { log_room = room })
+  saved_told number is room same_limit logged =
+      done_told maps spare limit core (record core { log_room = room }) s 0 h act.Checkpoint (answer.Saved number) [] (refl, is ∙ h.holds.book.number)
+      (record {
+        stored = h.holds.stored;
+        book = h.holds.book;
+        locks = h.holds.locks;
+        begun = h.holds.begun;
+        next = h.holds.next;
+        row_mark = h.holds.row_mark;
+        delta_mark = h.holds.delta_mark;
+        most = h.holds.most;
+        past = h.holds.past;
+        ahead = h.holds.ahead;
+        rooms = h.holds.rooms;
+      })
+      (record { data_room = h.reserves.data_room; log_room = logged })
+      (record { steps = refl; seats = refl; cleaner = refl; stop = refl; limit = refl; log_limit = same_limit })
+      h.own (λ j js n. h.waiting j js n) refl refl (omega arith) (omega arith)

@@ -2,3 +2,4 @@ pub mod Kept
 pub mod Cleanable
 pub mod Removed
 pub mod Candidates
+pub mod Carried

@@ -6,6 +6,8 @@ use mathlib.Core.Logic.{inl, inr}
 use Rattle.std.proofs.Common.{arith}
 use Rattle.std.proofs.lemmas.Int.{ints}
 use Rattle.iv_types.specs.Maps.{Map}
+use Rattle.iv_types.specs.declared.refusal.EngineRefusal.{EngineRefusal}
+use Rattle.iv_types.specs.declared.refusal.EngineRefusal.TheVariants.{LogFull}
 use Rattle.table_laws.specs.Place.{Place}
 use Rattle.table_laws.proofs.Stored.{by_session}
 use Rattle.iv_meaning.specs.Escrow.{over_sessions, paid, value}
@@ -16,13 +18,13 @@ use Rattle.lock_manager.specs.Table as table
 use Rattle.ghost_rows.specs.State.{State as ViewState, HasSeat, room_of}
 use Rattle.txn_machine.specs.Acts as act
 use Rattle.txn_machine.specs.Answers as answer
-use Rattle.txn_machine.specs.Counts.{definition_sizes}
+use Rattle.txn_machine.specs.Counts.{definition_sizes, told_need}
 use Rattle.txn_machine.specs.Deltas.{worth}
 use Rattle.txn_machine.specs.Fresh.{fresh}
 use Rattle.txn_machine.specs.Ghosts.{the_views, account_of, IsCleanable, IsFirstCleanable}
 use Rattle.txn_machine.specs.Keeping.{increments, idle}
 use Rattle.txn_machine.specs.Locks.{with_one}
-use Rattle.txn_machine.specs.Log.{Within, logs, reserved}
+use Rattle.txn_machine.specs.Log.{Within, Above, logs, reserved}
 use Rattle.txn_machine.specs.Records.{group_bytes}
 use Rattle.txn_machine.specs.State.{State}
 use Rattle.txn_machine.specs.Stored.{IsStoredRow, stored_number, zeros}
@@ -45,9 +47,13 @@ use Rattle.data_past.proofs.Aheads.{ahead_cleans}
 use Rattle.data_past.proofs.Effects.{past_cleans}
 use Rattle.data_room.specs.Reserved.{IsReserved}
 use Rattle.data_room.specs.declared.room.DataRoom.{DataRoom}
+use Rattle.log_room.specs.Rooms.{IsRoomOf}
+use Rattle.log_room.specs.declared.room.LogRoom.{LogRoom}
 use Rattle.core_state.specs.Rooms.{HasRooms}
 use Rattle.core_state.specs.Stands.{Began, Told, Holds}
 use Rattle.core_state.specs.declared.state.CoreState.{CoreState}
+use Rattle.core_state.proofs.Logged.{log_fits, log_full}
+use Rattle.core_state.proofs.Data.{log_holds}
 use Rattle.core_state.proofs.Unchanged.{unchanged_told}
 use Rattle.core_effects.proofs.Done.{AreUncounted, done_told}
 use Rattle.core_upkeep.proofs.Cleanable.{some_of, map_nil}
@@ -102,6 +108,10 @@ module _ {M : Type 0} (maps : M → ℕ → Map) (spare : M → ℕ → ℕ) (li
       let same : length place.1 ≡ length (Rattle.iv_types.specs.Encoding.key_bytes _ row_is.group) = ap length row_is.key in
       omega (arith, most, bytes, same)
 
+  -- so the bytes of its record are told as they are
+  pub need_is : (need : ℕ) → need ≡ told_need (group_bytes place) → need ≡ group_bytes place
+  need_is need is = let short = key_fits in omega (arith, is, short)
+
   as_logged : (j : ℕ) → with_one s.log.logged 0 (s.log.logged 0) j ≡ s.log.logged j
   as_logged j = by_session j 0 (λ e. one_same s.log.logged 0 (s.log.logged 0) j e ∙ ap s.log.logged (sym e)) (λ n. one_other s.log.logged 0 (s.log.logged 0) j n)
 
@@ -109,7 +119,7 @@ module _ {M : Type 0} (maps : M → ℕ → Map) (spare : M → ℕ → ℕ) (li
   pub removed_reserves : (room : DataRoom) → room ≡ core.data_room → IsReserved room (schema_of s.store) s.store.open_of (logs s.store 0 act.Clean (Cleans place) s.log).logged s.definitions
   removed_reserves room same =
       subst (λ f. IsReserved room (schema_of s.store) s.store.open_of f s.definitions) (sym (logs_logged s.store 0 act.Clean (Cleans place) s.log ∙ (λ x j. as_logged j x)))
-      (subst (λ d. IsReserved d (schema_of s.store) s.store.open_of s.log.logged s.definitions) (sym same) h.reserves)
+      (subst (λ d. IsReserved d (schema_of s.store) s.store.open_of s.log.logged s.definitions) (sym same) h.reserves.data_room)
 
   module _ (tables : M) (views : ViewState) (same_limit : limit tables ≡ limit core.store.tables) (rows : views.rows ≡ core.store.views.rows) (rooms : views.rooms ≡ core.store.views.rooms) (spares : (n : ℕ) → spare core.store.tables n ≤ spare tables n) where
     rooms_left : HasRooms (spare tables) core.store.catalog views core.book.opens core.locks core.wants
@@ -141,15 +151,35 @@ module _ {M : Type 0} (maps : M → ℕ → Map) (spare : M → ℕ → ℕ) (li
       rooms = rooms_left;
     }
 
+-- ---- what is used of the log alone becomes another
+
 -- ---- what is told
 
 module _ {M : Type 0} (maps : M → ℕ → Map) (spare : M → ℕ → ℕ) (limit : M → Option ℕ) (core : CoreState M) (s : State) (h : Began maps spare limit core s 0) where
   pub none_told : ((place : Place) → IsCleanable s.store place → ⊥) → Told maps spare limit s 0 act.Clean (answer.Cleaned 0) core
   none_told none = unchanged_told maps spare limit core s 0 act.Clean (answer.Cleaned 0) h (none, refl) refl refl refl refl
 
-  pub removed_told : (new : CoreState M) (place : Place) → IsFirstCleanable s.store place → Holds maps spare limit new (does the_views s.store 0 (Cleans place)) (logs s.store 0 act.Clean (Cleans place) s.log) s.definitions
-      → new.data_room ≡ core.data_room → AreUncounted core new → ((j : ℕ) → table.waiting_of new.locks j ≡ table.waiting_of core.locks j) → Told maps spare limit s 0 act.Clean (answer.Cleaned 1) new
-  removed_told new place first holds same_data same others =
-      done_told maps spare limit core new s 0 h act.Clean (answer.Cleaned 1) (Cleans place ∷ [])
-      (place, first, refl, subst (λ o. Within o.log_limit (s.log.used + reserved s.store s.log + group_bytes place)) (sym h.opening.is) tt)
-      holds (removed_reserves maps spare limit core s h place first.is new.data_room same_data) same (λ js. others 0 ∙ h.own js) (λ j js n. others j ∙ h.waiting j js n) refl refl (omega arith) (omega arith)
+  module _ (place : Place) (first : IsFirstCleanable s.store place) (need : ℕ) (is : need ≡ told_need (group_bytes place)) where
+    -- the log has no room for its record
+    pub full_told : (why : EngineRefusal) → why ≡ LogFull s.log.used (reserved s.store s.log) need → Above core.log_room.limit (s.log.used + reserved s.store s.log + need) → Told maps spare limit s 0 act.Clean (answer.Refused why) core
+    full_told why why_is above =
+        let exact = need_is maps spare limit core s h place first.is need is in
+        let told : need ≡ told_need need = is ∙ ap told_need (sym exact) in
+        subst (λ w. Told maps spare limit s 0 act.Clean (answer.Refused w) core) (sym why_is)
+        (unchanged_told maps spare limit core s 0 act.Clean (answer.Refused (LogFull s.log.used (reserved s.store s.log) need)) h
+        (refl, place, first, exact, log_full maps spare limit core s 0 h need need told above) refl refl refl refl)
+
+    pub removed_told : (new : CoreState M) (room : LogRoom) → Within core.log_room.limit (s.log.used + reserved s.store s.log + need) → Holds maps spare limit new (does the_views s.store 0 (Cleans place)) (logs s.store 0 act.Clean (Cleans place) s.log) s.definitions
+        → new.data_room ≡ core.data_room → IsRoomOf room (does the_views s.store 0 (Cleans place)) (logs s.store 0 act.Clean (Cleans place) s.log) → AreUncounted core (record new { log_room = room }) → ((j : ℕ) → table.waiting_of new.locks j ≡ table.waiting_of core.locks j)
+        → Told maps spare limit s 0 act.Clean (answer.Cleaned 1) (record new { log_room = room })
+    removed_told new room fits holds same_data logged same others =
+        done_told maps spare limit core (record new { log_room = room }) s 0 h act.Clean (answer.Cleaned 1) (Cleans place ∷ [])
+        (place, first, refl, log_fits maps spare limit core s 0 h need (group_bytes place) is fits)
+        (log_holds maps spare limit new room (does the_views s.store 0 (Cleans place)) (logs s.store 0 act.Clean (Cleans place) s.log) s.definitions holds)
+        (record { data_room = removed_reserves maps spare limit core s h place first.is new.data_room same_data; log_room = logged }) same (λ js. others 0 ∙ h.own js) (λ j js n. others j ∙ h.waiting j js n) refl refl (omega arith) (omega arith)
+
+    -- there is room for it in any room that has the core's limit
+    pub fits_exact : (room : LogRoom) → room ≡ core.log_room → Within core.log_room.limit (s.log.used + reserved s.store s.log + need) → Within room.limit (s.log.used + reserved s.store s.log + group_bytes place)
+    fits_exact room same fits =
+        subst (λ (x : LogRoom). Within x.limit (s.log.used + reserved s.store s.log + group_bytes place)) (sym same)
+        (subst (λ n. Within core.log_room.limit (s.log.used + reserved s.store s.log + n)) (need_is maps spare limit core s h place first.is need is) fits)

@@ -16,6 +16,7 @@ use core_state::CoreState;
 use data_changes::remove_ghost;
 use iv_types::{Catalog, Definition, LockMode, MOST_KEY_WIDTH, SortedMaps};
 use lock_manager::LockTable;
+use record_lending::group_bytes;
 use txn_book::Answer;
 
 // Whether no session holds an Increment lock on the row of a place.
@@ -86,6 +87,22 @@ fn remove<M: SortedMaps>(core: &mut CoreState<M>, view: u32, group: &[u8])
     core.next += 1;
 }
 
+// Removes the row of the first place whose row may be removed, if the log has room for the record of it.
+fn clean_at<M: SortedMaps>(core: &mut CoreState<M>, view: u32, group: &[u8]) -> Answer
+    requires { (s : State) × Began M.maps M.spare M.limit core.old s 0 × IsFirstCleanable s.store (view, group.now) }
+    ensures { (s : State) → Began M.maps M.spare M.limit core.old s 0 → IsFirstCleanable s.store (view, group.now) → Told M.maps M.spare M.limit s 0 act.Clean (answer_of result) core.new }
+{
+    let need = group_bytes(view, group);
+    match core.log_room.refusal(need) {
+        Some(why) => Answer::Refused(why),
+        None => {
+            remove(core, view, group);
+            core.log_room.clean(need);
+            Answer::Cleaned(1)
+        }
+    }
+}
+
 // The bytes of a key at the front of as many as a key can have.
 fn key_of(bytes: &[u8]) -> [u8; MOST_KEY_WIDTH as usize]
     requires { length bytes.now ≤ MOST_KEY_WIDTH }
@@ -97,7 +114,7 @@ fn key_of(bytes: &[u8]) -> [u8; MOST_KEY_WIDTH as usize]
 }
 
 /// Removes the first ghost, by its view's number and the bytes of its group, on which no pay is kept, which no session has locked and
-/// of which no version is kept, if there is one. Takes no memory.
+/// of which no version is kept, if there is one. It is refused where the log has no room for the record of that. Takes no memory.
 pub fn clean<M: SortedMaps>(core: &mut CoreState<M>) -> Answer
     requires { (s : State) × Began M.maps M.spare M.limit core.old s 0 }
     ensures told { (s : State) → Began M.maps M.spare M.limit core.old s 0 → Told M.maps M.spare M.limit s 0 act.Clean (answer_of result) core.new }
@@ -106,6 +123,5 @@ pub fn clean<M: SortedMaps>(core: &mut CoreState<M>) -> Answer
         Some((view, group)) => (view, group.len(), key_of(group)),
         None => return Answer::Cleaned(0),
     };
-    remove(core, view, &key[..width]);
-    Answer::Cleaned(1)
+    clean_at(core, view, &key[..width])
 }

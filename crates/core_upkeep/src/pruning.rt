@@ -9,6 +9,7 @@ ghost use Rattle.core_upkeep.specs.Oldest.{oldest};
 
 use core_state::CoreState;
 use iv_types::SortedMaps;
+use log_room::same_room_law;
 use txn_book::Answer;
 
 /// Drops the versions that no open snapshot can need: those of commits up to the least number of an open snapshot, or up to the
@@ -18,6 +19,7 @@ pub fn prune<M: SortedMaps>(core: &mut CoreState<M>) -> Answer
     ensures rows { core.new.store.row_versions.versions ≡ above (oldest core.old.book) core.old.store.row_versions.versions }
     ensures deltas { core.new.store.delta_versions.versions ≡ above (oldest core.old.book) core.old.store.delta_versions.versions }
 {
+    same_room_law();
     let oldest = core.book.least_snapshot();
     let alloc = core.alloc;
     core.store.row_versions.prune(alloc, oldest);

@@ -1,5 +1,5 @@
 //! A definition is made.
-ghost use Rattle.std.specs.Prelude.{◌≡◌, ◌+◌, ◌≤◌, ◌∷◌, ◌++◌, [], ℕ, length, OnOk, OnErr};
+ghost use Rattle.std.specs.Prelude.{◌≡◌, ◌+◌, ◌≤◌, ◌<◌, ◌^◌, ◌∷◌, ◌++◌, [], ℕ, length, OnOk, OnErr};
 ghost use Rattle.iv_types.specs.Maps.{IsWithin, used};
 ghost use Rattle.iv_types.specs.Definitions.{CanAdd, number_of};
 ghost use Rattle.iv_meaning.specs.Objects.{object_of};
@@ -17,22 +17,20 @@ use table_store::put_all;
 ///
 /// # Errors
 ///
-/// Where there is no memory for them, or where they are 2^32 or more, which no index has room for.
+/// Where there is no memory for them.
 pub fn reserve_first<M: SortedMaps>(
     store: &mut DataStore<M>,
     number: u32,
     first: &[IndexEntry],
 ) -> Result<(), NoMemory>
+    requires { length first.now < 2 ^ 32 }
     ensures room { OnOk result (length first.now ≤ M.spare store.new.tables number) }
     ensures maps { (i : ℕ) → M.maps store.new.tables i ≡ M.maps store.old.tables i }
     ensures spare { (i : ℕ) → M.spare store.old.tables i ≤ M.spare store.new.tables i }
     ensures limit { M.limit store.new.tables ≡ M.limit store.old.tables }
     ensures rest { store.new ≡ record store.old { tables = store.new.tables } }
 {
-    let Ok(more) = u32::try_from(first.len()) else {
-        return Err(NoMemory);
-    };
-    store.tables.maps_mut().reserve(number, more)
+    store.tables.maps_mut().reserve(number, first.len() as u32)
 }
 
 /// Adds a definition, with the entries that it begins with, for which there is room. No session keeps a step.

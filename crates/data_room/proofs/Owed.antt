@@ -24,7 +24,8 @@ sum_reverse f (x ∷ xs) =
     let alone = sum_first (f x) [] in
     omega (arith, turned, parts, rest, one, alone)
 
-last_is : {X : Type 0} (k : ℕ) (xs : List X) → drop k (reverse xs) ≡ reverse (take (length xs - k) xs)
+-- the first of a list are left out where the last are of it in the other order
+pub last_is : {X : Type 0} (k : ℕ) (xs : List X) → drop k (reverse xs) ≡ reverse (take (length xs - k) xs)
 last_is {X} k xs = elim (cases_lt (length xs) k) [
   | inl few ↦
       let long : length (reverse xs) ≡ length xs = length-reverse xs in

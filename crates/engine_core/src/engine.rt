@@ -1,10 +1,11 @@
 //! The core as an engine that does steps.
-ghost use Rattle.std.specs.Prelude.{◌≡◌, ◌<◌, ◌^◌, [], IfOk};
+ghost use Rattle.std.specs.Prelude.{◌≡◌, ◌+◌, ◌<◌, ◌^◌, [], Some, IfOk};
 ghost use mathlib.Core.Path.{sym, ap};
 ghost use Rattle.std.specs.FinMap.{empty};
 ghost use Rattle.core_state.specs.Stands.{limited};
 ghost use Rattle.data_store.specs.Held.{AreEmpty};
 ghost use Rattle.ordered_index.specs.Tree.{map_of, spare_of, limit_of};
+ghost use Rattle.txn_machine.specs.Log.{Within, block_bytes};
 ghost use Rattle.txn_machine.specs.State.{opened_state};
 ghost use Rattle.txn_machine.specs.Store.{opened};
 ghost use Rattle.engine_core.specs.Standing.{IsIn, none_below};
@@ -25,19 +26,26 @@ pub struct Core<M: SortedMaps> {
 
 impl<M: SortedMaps> Core<M> {
     /// A core on a database that defines nothing, whose greatest commit number is this one, over maps without an entry
-    /// and with this limit of what the data count.
+    /// and with this limit of what the data count. An area of its log takes so many bytes, where there is such a limit.
     ///
     /// # Errors
     ///
     /// Where there is no memory for it.
-    pub fn new(alloc: Global, maps: M, limit: Option<u32>, number: u64) -> Result<Self, NoMemory>
+    pub fn new(
+        alloc: Global,
+        maps: M,
+        log: Option<u32>,
+        most: u32,
+        number: u64,
+    ) -> Result<Self, NoMemory>
         requires empty { AreEmpty (M.maps maps) }
-        requires limit { M.limit maps ≡ limit }
+        requires log { Within log (block_bytes + 1) }
+        requires data { M.limit maps ≡ Some most }
         requires number { number < 2 ^ 63 }
-        ensures { IfOk result (λ core. IsIn M.maps M.spare M.limit core (opened_state (limited limit) (opened (record { number = number; schema = []; rows = empty }) empty))) }
+        ensures { IfOk result (λ core. IsIn M.maps M.spare M.limit core (opened_state (limited log (Some most)) (opened (record { number = number; schema = []; rows = empty }) empty))) }
     {
         Ok(Core {
-            state: CoreState::new(alloc, maps, limit, number)?,
+            state: CoreState::new(alloc, maps, log, most, number)?,
         })
     }
 

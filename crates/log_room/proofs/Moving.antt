@@ -291,7 +291,7 @@ defines_room old new s l i statement object need moves need_is k room =
     by_moves old new s t l m need 0 0 (definition_need statement) 0 0 (definition_need statement) moves need_is (omega arith) (omega arith) (omega arith)
     (omega (arith, same)) (omega arith) (omega arith) room k
 
-pub saves_room : (old new : LogRoom) (s : Store) (l : Log) (bytes kept : ℕ) → new.limit ≡ old.limit → new.reserved ≡ old.reserved → new.used ≡ min (bytes + 6) (2 ^ 64 - 1) → bytes ≡ kept → block_bytes + 1 + kept ≤ l.used
+pub saves_room : (old new : LogRoom) (s : Store) (l : Log) (bytes kept : ℕ) → new.limit ≡ old.limit → new.reserved ≡ old.reserved → new.used ≡ min (bytes + 6) (2 ^ 64 - 1) → bytes ≡ min kept (2 ^ 64 - 1) → block_bytes + 1 + kept ≤ l.used
     → IsRoomOf old s l → IsRoomOf new s (record l { used = block_bytes + 1 + kept })
 saves_room old new s l bytes kept limit reserved_same used is least k = subst (λ x. AreCountedIn x new.used new.reserved s (record l { used = block_bytes + 1 + kept })) (sym limit) (by old.limit k)
   where

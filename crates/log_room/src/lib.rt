@@ -8,4 +8,4 @@ mod law;
 mod room;
 
 pub use law::same_room_law;
-pub use room::LogRoom;
+pub use room::{END_BYTES, LogRoom};

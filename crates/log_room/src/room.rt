@@ -29,8 +29,8 @@ const BLOCK_BYTES: u64 = 5;
 // An empty block, and the gate of the next.
 const EMPTY_LOG: u64 = 6;
 
-// What a serial transaction reserves for its end: its Commit with the end of a block.
-const END_BYTES: u64 = 40;
+/// What a serial transaction reserves for its end: its Commit with the end of a block.
+pub const END_BYTES: u64 = 40;
 
 // The bytes of an Undo, of a Commit and of an Abort.
 const UNDO_BYTES: u64 = 25;
@@ -209,7 +209,7 @@ impl LogRoom {
     /// A checkpoint leaves one block, with so many bytes of carried records, which with its gates are no more than what was used.
     pub fn save(&mut self, bytes: u64)
         ensures limit { self.new.limit ≡ self.old.limit }
-        ensures room { (s : Store) (l : Log) → bytes ≡ carried s → block_bytes + 1 + carried s ≤ l.used → IsRoomOf self.old s l → IsRoomOf self.new s (record l { used = block_bytes + 1 + carried s }) }
+        ensures room { (s : Store) (l : Log) → bytes ≡ told_need (carried s) → block_bytes + 1 + carried s ≤ l.used → IsRoomOf self.old s l → IsRoomOf self.new s (record l { used = block_bytes + 1 + carried s }) }
     {
         self.used = bytes.saturating_add(EMPTY_LOG);
     }

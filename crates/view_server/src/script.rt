@@ -1,5 +1,5 @@
 //! The program's top call.
-ghost use Rattle.std.specs.Prelude.{◌≡◌, ◌≢◌, ◌↔◌, ℕ, List, Some, IfOk};
+ghost use Rattle.std.specs.Prelude.{◌≡◌, ◌≢◌, ◌↔◌, ℕ, List, None, Some, IfOk};
 ghost use Rattle.std.specs.FinMap.{empty};
 ghost use Rattle.ordered_index.specs.Tree.{map_of, spare_of, limit_of};
 ghost use Rattle.core_state.specs.Stands.{limited};
@@ -38,10 +38,10 @@ fn let_go(engine: Core<PageMaps>) {
 
 // An engine on an empty database.
 fn new_engine(alloc: Global) -> Result<Core<PageMaps>, NoMemory>
-    ensures { IfOk result (λ engine. IsIn map_of spare_of limit_of engine (opened_state (limited (Some DATA_LIMIT)) (opened created empty))) }
+    ensures { IfOk result (λ engine. IsIn map_of spare_of limit_of engine (opened_state (limited None (Some DATA_LIMIT)) (opened created empty))) }
 {
     let maps = PageMaps::new(alloc, DEFAULT_PAGES)?;
-    Core::new(alloc, maps, Some(DATA_LIMIT), 0)
+    Core::new(alloc, maps, None, DATA_LIMIT, 0)
 }
 
 // Runs the lines of a source on an engine that was opened on an empty database.
@@ -51,7 +51,7 @@ fn run_on<S: Source, K: Sink>(
     source: &mut S,
     sink: &mut K,
 ) -> Status
-    requires { IsIn map_of spare_of limit_of engine.old (opened_state (limited (Some DATA_LIMIT)) (opened created empty)) }
+    requires { IsIn map_of spare_of limit_of engine.old (opened_state (limited None (Some DATA_LIMIT)) (opened created empty)) }
     ensures command { result ≢ Status.Usage }
     ensures disks { result ≢ Status.DiskFault }
     ensures output { (input before : List ℕ) → S.left source.old ≡ Some input → K.written sink.old ≡ Some before → Output created result input before (S.left source.new) (K.written sink.new) }
@@ -85,7 +85,7 @@ fn run_script<S: Source, K: Sink>(alloc: Global, source: &mut S, sink: &mut K) -
 
 // Runs the made script of so many rounds on an engine that was opened on an empty database.
 fn make_on<K: Sink>(alloc: Global, engine: &mut Core<PageMaps>, sink: &mut K, number: u32) -> Status
-    requires { IsIn map_of spare_of limit_of engine.old (opened_state (limited (Some DATA_LIMIT)) (opened created empty)) }
+    requires { IsIn map_of spare_of limit_of engine.old (opened_state (limited None (Some DATA_LIMIT)) (opened created empty)) }
     ensures status { EndsMade result }
     ensures made { (before : List ℕ) → K.written sink.old ≡ Some before → Made created result number before (K.written sink.new) }
     ensures sink_faults { SinkFaults result (K.faults sink.old) (K.faults sink.new) }

@@ -1,4 +1,4 @@
-use Rattle.std.proofs.Common.{◌≡◌, ◌≤◌, ◌+◌, ◌∷◌, [], map, length, refl, sym, ap, subst, ◌∙◌, arith}
+use Rattle.std.proofs.Common.{◌≡◌, ◌≤◌, ◌+◌, ◌∷◌, [], false, map, length, refl, sym, ap, subst, ◌∙◌, arith}
 use Rattle.iv_types.specs.declared.lock.Change.{Change}
 use Rattle.lock_manager.specs.Table as lock
 use Rattle.txn_machine.specs.Answers as answer
@@ -9,12 +9,14 @@ use Rattle.data_store.specs.Past.{committed_value}
 use Rattle.std.specs.List.{sum}
 use Rattle.iv_meaning.specs.Objects as defined
 use Rattle.data_room.specs.declared.room.DataRoom.{DataRoom}
+use Rattle.log_room.specs.declared.room.LogRoom.{LogRoom}
+use Rattle.record_lending.proofs.Owed.{none_ghosted}
 use Rattle.core_state.specs.Stands.{Holds, Told}
 use Rattle.core_effects.specs.Writing.{CanWrite}
 use Rattle.core_effects.specs.declared.writing.Writing.{Writing}
 use Rattle.txn_machine.specs.Acts as act
 use Rattle.txn_machine.specs.Counts.{put_size, told_need}
-use Rattle.txn_machine.specs.Log.{logs, growth_back, delta_entry}
+use Rattle.txn_machine.specs.Log.{logs, growth_back, delta_entry, owed_bytes}
 use Rattle.txn_machine.specs.RowChanges.{row_change}
 use Rattle.txn_machine.specs.Store.{Takes, Writes, does, schema_of}
 use Rattle.core_state.specs.declared.state.CoreState.{CoreState}
@@ -22,7 +24,7 @@ use Rattle.core_state.proofs.Sessions.{owes_none}
 use Rattle.core_effects.proofs.Results.{on_err_of}
 use Rattle.core_changes.specs.Room.{AreDeltas, HasRoom}
 use Rattle.core_changes.proofs.Puts.{open_here, table_here, rows_fit, few_locks, few_owed, are_deltas}
-use Rattle.core_changes.proofs.Within.{free_there, between, can_write, same, put_told, can_still}
+use Rattle.core_changes.proofs.Within.{free_there, between, can_write, same, written_are, log_left, put_told, can_still}
 use Rattle.core_changes.proofs.Full.{rows_here}
 use Rattle.core_changes.proofs.putting.put_within.Goals as goal
 
@@ -259,7 +261,8 @@ returns-clause-told g c = λ s can.
     (subst (λ (x : CoreState g.row.M.Denot). all_deltas x.ahead + length c.args.owed ≤ x.store.delta_versions.room) (sym c.make_room.ensures.rest) (subst (λ n. all_deltas core.ahead + n ≤ core.store.delta_versions.room) many c.in_ok-reserve_ahead.ensures.deltas))) in
     let new = c.write.new.core in
     let left = c.set_aside.new.self in
-    let after : CoreState g.row.M.Denot = record new { data_room = left } in
+    let logged = c.put.new.self in
+    let after : CoreState g.row.M.Denot = record new { data_room = left; log_room = logged } in
     let kept_are : c.kept_room-aside.result ≡ told_need (growth_back (schema_of s.store) (row_change ch) + sum (map delta_entry c.args.owed)) =
     c.kept_room-aside.ensures ∙ (ap (λ ds. told_need (growth_back (defined.schema_of one.store.catalog) (row_change ch) + sum (map delta_entry ds))) c.as_slice-8.ensures ∙ ap (λ o. told_need (growth_back o (row_change ch) + sum (map delta_entry c.args.owed))) b1.holds.stored.objects) in
     let kept = same g.M.SortedMaps.maps g.M.SortedMaps.spare g.M.SortedMaps.limit one s i ch c.args.wants c.args.owed c.args.bytes c.args.entry_bytes can1 c.book_law.ensures c.number_law.ensures room two.locks w c.take.ensures.room
@@ -273,18 +276,25 @@ returns-clause-told g c = λ s can.
     (c.write.ensures.holds mid (logs s.store i a (Takes c.args.wants) s.log) s.definitions a took writes) in
     let e2 = c.take.ensures.rest in
     let e3 = c.write.ensures.rest in
+    let same_log : new.log_room ≡ one.log_room = ap (λ (x : CoreState g.row.M.Denot). x.log_room) e3 ∙ ap (λ (x : CoreState g.row.M.Denot). x.log_room) e2 in
+    let owes : c.owed_bytes-reserved.result ≡ told_need (owed_bytes false c.args.owed) =
+    c.owed_bytes-reserved.ensures ∙ ap told_need (none_ghosted false c.as_slice-9.result.now refl ∙ ap (owed_bytes false) c.as_slice-9.ensures) in
+    let log_then = log_left g.M.SortedMaps.maps g.M.SortedMaps.spare g.M.SortedMaps.limit one s i ch c.args.wants c.args.owed c.args.bytes c.args.entry_bytes can1 c.same_room_law.ensures new.log_room logged c.write_bytes-written.result c.owed_bytes-reserved.result same_log
+    (written_are g.M.SortedMaps.maps g.M.SortedMaps.spare g.M.SortedMaps.limit one s i ch c.args.wants c.args.owed c.args.bytes c.args.entry_bytes can1 c.in_ok-ready.ready.kept c.write_bytes-written.result c.in_ok-ready.ensures.kept c.write_bytes-written.ensures) owes
+    (c.put.ensures.room mid (logs s.store i a (Takes c.args.wants) s.log) i a (ch.table, ch.key) ch.after) in
     let before : c.in_ok-before.before ≡ ch.before = c.in_ok-before.ensures ∙ c.as_ref.ensures.value in
     let told : c.from_vec-told.result ≡ c.args.owed = c.from_vec-told.ensures ∙ (c.in_ok-copied_deltas.ensures ∙ c.as_slice.ensures) in
     subst (λ d. Told g.M.SortedMaps.maps g.M.SortedMaps.spare g.M.SortedMaps.limit s i a (answer.Changed c.in_ok-before.before d) after) (sym told)
     (subst (λ b. Told g.M.SortedMaps.maps g.M.SortedMaps.spare g.M.SortedMaps.limit s i a (answer.Changed b c.args.owed) after) (sym before)
-    (put_told g.M.SortedMaps.maps g.M.SortedMaps.spare g.M.SortedMaps.limit one s i ch c.args.wants c.args.owed c.args.bytes c.args.entry_bytes can1 new left c.kept_room-aside.result kept_are wrote
-    (ap (λ (x : CoreState g.row.M.Denot). x.data_room) e3 ∙ ap (λ (x : CoreState g.row.M.Denot). x.data_room) e2) (ap (λ (d : DataRoom). d.limit) c.set_aside.ensures.rest) c.set_aside.ensures.own c.set_aside.ensures.others c.set_aside.ensures.total
+    (put_told g.M.SortedMaps.maps g.M.SortedMaps.spare g.M.SortedMaps.limit one s i ch c.args.wants c.args.owed c.args.bytes c.args.entry_bytes can1 new left logged c.kept_room-aside.result kept_are wrote
+    (ap (λ (x : CoreState g.row.M.Denot). x.data_room) e3 ∙ ap (λ (x : CoreState g.row.M.Denot). x.data_room) e2) (ap (λ (d : DataRoom). d.limit) c.set_aside.ensures.rest) c.set_aside.ensures.own c.set_aside.ensures.others c.set_aside.ensures.total log_then
     (record {
       steps = ap (λ (x : CoreState g.row.M.Denot). x.steps) e3 ∙ ap (λ (x : CoreState g.row.M.Denot). x.steps) e2;
       seats = ap (λ (x : CoreState g.row.M.Denot). x.seats) e3 ∙ ap (λ (x : CoreState g.row.M.Denot). x.seats) e2;
       cleaner = ap (λ (x : CoreState g.row.M.Denot). x.cleaner) e3 ∙ ap (λ (x : CoreState g.row.M.Denot). x.cleaner) e2;
       stop = ap (λ (x : CoreState g.row.M.Denot). x.stop) e3 ∙ ap (λ (x : CoreState g.row.M.Denot). x.stop) e2;
       limit = ap (λ (d : DataRoom). d.limit) c.set_aside.ensures.rest ∙ (ap (λ (x : CoreState g.row.M.Denot). x.data_room.limit) e3 ∙ ap (λ (x : CoreState g.row.M.Denot). x.data_room.limit) e2);
+      log_limit = c.put.ensures.limit ∙ ap (λ (r : LogRoom). r.limit) same_log;
     })
     (ap (λ (x : CoreState g.row.M.Denot). lock.waiting_of x.locks i) e3 ∙ c.take.ensures.own)
     (λ j n. ap (λ (x : CoreState g.row.M.Denot). lock.waiting_of x.locks j) e3 ∙ c.take.ensures.others j n)))

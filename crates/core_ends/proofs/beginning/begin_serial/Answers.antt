@@ -1,23 +1,20 @@
-use Rattle.std.proofs.Common.{◌+◌, ◌≤◌, IsTrue, false, refl, sym, subst}
-use Rattle.txn_machine.specs.Counts.{most_of_history}
-use Rattle.core_ends.proofs.Begins.{full_told, may_begin}
+use Rattle.std.proofs.Common.{arith}
+use Rattle.std.proofs.lemmas.Result.{IfOk-weaker}
+use Rattle.txn_machine.specs.Log.{end_bytes}
+use Rattle.core_state.proofs.Logged.{log_fits}
+use Rattle.core_ends.proofs.Begins.{log_full_told}
 use Rattle.core_ends.proofs.beginning.begin_serial.Goals as goal
-use Rattle.data_changes.proofs.Answered.{if_ok_as}
 
-not_true : IsTrue false → ⊥
-not_true t = absurd cc
-
-pub open-requires-after_bounds : goal.open-requires-after_bounds
-open-requires-after_bounds g c κs within =
+pub begin_logged-requires-after_bounds : goal.begin_logged-requires-after_bounds
+begin_logged-requires-after_bounds g c κs within =
+    let s = c.requires.0 in
     let h = c.requires.1 in
-    let room : c.history_bytes-kept.result + 256 ≤ most_of_history = c.has_room.ensures.0 (subst IsTrue (sym c.if-not-has_room.false) refl) in
-    (c.requires.0, h, c.requires.2, may_begin g.M.SortedMaps.maps g.M.SortedMaps.spare g.M.SortedMaps.limit c.args.core.now c.requires.0 c.args.session h c.requires.2.0 c.requires.2.1 c.book_law.ensures (subst (λ n. n + 256 ≤ most_of_history) c.history_bytes-kept.ensures room))
+    (s, h, c.requires.2, log_fits g.M.SortedMaps.maps g.M.SortedMaps.spare g.M.SortedMaps.limit c.args.core.now s c.args.session h end_bytes end_bytes (omega arith) (c.in-None.ensures.none s.store s.log h.reserves.log_room))
 
-pub returns-clause-told : goal.returns-clause-told
-returns-clause-told g c = if_ok_as c.open.result _ _
-    (λ said told s h may. told s h may (may_begin g.M.SortedMaps.maps g.M.SortedMaps.spare g.M.SortedMaps.limit c.args.core.now s c.args.session h may.0 may.1 c.book_law.ensures
-    (subst (λ n. n + 256 ≤ most_of_history) c.history_bytes-kept.ensures (c.has_room.ensures.0 (subst IsTrue (sym c.if-not-has_room.false) refl))))) c.open.ensures.told
+pub returns-in-Some-clause-told : goal.returns-in-Some-clause-told
+returns-in-Some-clause-told g c = λ s h may.
+    log_full_told g.M.SortedMaps.maps g.M.SortedMaps.spare g.M.SortedMaps.limit c.args.core.now s c.args.session h c.in-Some.why (c.in-Some.ensures.some s.store s.log h.reserves.log_room)
 
-pub returns-then-not-has_room-clause-told : goal.returns-then-not-has_room-clause-told
-returns-then-not-has_room-clause-told g c = λ s h may. full_told g.M.SortedMaps.maps g.M.SortedMaps.spare g.M.SortedMaps.limit c.args.core.now s c.args.session h may.0 may.1 c.book_law.ensures c.history_bytes-kept.result 256 c.history_bytes-kept.ensures refl
-    (λ room. not_true (subst IsTrue c.if-not-has_room.true (c.has_room.ensures.1 room)))
+pub returns-in-None-clause-told : goal.returns-in-None-clause-told
+returns-in-None-clause-told g c = IfOk-weaker c.begin_logged.result _ _
+    (λ said told s h may. told s h may (log_fits g.M.SortedMaps.maps g.M.SortedMaps.spare g.M.SortedMaps.limit c.args.core.now s c.args.session h end_bytes end_bytes (omega arith) (c.in-None.ensures.none s.store s.log h.reserves.log_room))) c.begin_logged.ensures.told

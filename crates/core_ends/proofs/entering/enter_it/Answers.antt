@@ -99,7 +99,7 @@ returns-clause-left g c = λ s h r some.
     refl refl refl
     (c.push_versions.ensures.pruned ∙ ap (λ (x : CoreState g.row.M.Denot). x.store.row_versions.pruned) then)
     (c.push_versions.ensures.deltas_pruned ∙ ap (λ (x : CoreState g.row.M.Denot). x.store.delta_versions.pruned) then)
-    refl refl refl refl refl refl r own
+    refl refl refl refl refl refl refl r own
     (subst (λ (x : CoreState g.row.M.Denot). Committed x.book after i (txn_of own.txn)) first
     (c.commit-number.ensures.entry own.txn (ap (λ (x : CoreState g.row.M.Denot). open_at x.book.opens i) first ∙ own.there)))
     refl

@@ -10,4 +10,4 @@ lose-requires g c =
 pub returns : goal.returns
 returns g c = λ s a wants h o asks deadlock.
     let own = own_txn g.M.SortedMaps.maps g.M.SortedMaps.spare g.M.SortedMaps.limit c.args.core.now s c.args.session h o in
-    lost_told g.M.SortedMaps.maps g.M.SortedMaps.spare g.M.SortedMaps.limit c.args.core.now s c.args.session h o a wants asks c.lose.new.self c.args.cycle own c.book_law.ensures (c.lose.ensures own.txn own.there) deadlock
+    lost_told g.M.SortedMaps.maps g.M.SortedMaps.spare g.M.SortedMaps.limit c.args.core.now s c.args.session h o a wants asks c.lose.new.self c.args.cycle own c.book_law.ensures c.same_room_law.ensures (c.lose.ensures own.txn own.there) deadlock

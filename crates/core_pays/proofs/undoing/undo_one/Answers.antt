@@ -1,8 +1,10 @@
-use Rattle.std.proofs.Common.{◌≡◌, ◌<◌, ◌^◌, length, arith, ap, ◌∙◌}
+use Rattle.std.proofs.Common.{◌≡◌, ◌<◌, ◌^◌, length, arith, sym, ap, subst, ◌∙◌}
 use Rattle.txn_machine.specs.Acts as act
 use Rattle.txn_machine.specs.Log.{logs}
 use Rattle.txn_machine.specs.Store.{Undoes}
 use Rattle.data_room.specs.declared.room.DataRoom.{DataRoom}
+use Rattle.log_room.specs.Rooms.{IsRoomOf}
+use Rattle.log_room.specs.declared.room.LogRoom.{LogRoom}
 use Rattle.core_state.specs.declared.state.CoreState.{CoreState}
 use Rattle.core_effects.proofs.Done.{begun_underway}
 use Rattle.core_pays.proofs.Reserving.{can_go_back}
@@ -55,8 +57,11 @@ returns g c = λ s h may.
     let holds = c.undo.ensures.holds s.store s.log s.definitions act.UndoOne h.holds (keeps_here g.M.SortedMaps.maps g.M.SortedMaps.spare g.M.SortedMaps.limit core c.undo.new.core s i h may) in
     let new = c.undo.new.core in
     let room = c.give_back.new.self in
+    let log = c.undo_in.new.room in
     let same_limit = ap (λ (d : DataRoom). d.limit) c.give_back.ensures.rest in
-    undone_told g.M.SortedMaps.maps g.M.SortedMaps.spare g.M.SortedMaps.limit core c.undo.new.core s i h may c.undo.ensures.rest room same_limit c.len.result
-    ((c.len.ensures ∙ c.open_of.result.now.kept.ok.0) ∙ left_is g.M.SortedMaps.maps g.M.SortedMaps.spare g.M.SortedMaps.limit core c.undo.new.core s i h may l holds c.open_of.result.now c.open_of.ensures) holds
+    let same_log = ap (λ (x : CoreState g.row.M.Denot). x.log_room) c.undo.ensures.rest in
+    undone_told g.M.SortedMaps.maps g.M.SortedMaps.spare g.M.SortedMaps.limit core new s i h may c.undo.ensures.rest room log same_limit c.undo_in.ensures.limit c.len.result
+    ((c.len.ensures ∙ c.open_of.result.now.kept.ok.0) ∙ left_is g.M.SortedMaps.maps g.M.SortedMaps.spare g.M.SortedMaps.limit core new s i h may l holds c.open_of.result.now c.open_of.ensures) holds
     (undone_reserved g.M.SortedMaps.maps g.M.SortedMaps.spare g.M.SortedMaps.limit core new s i h may room new.data_room c.room_of_latest-room.result (ap (λ (x : CoreState g.row.M.Denot). x.data_room) c.undo.ensures.rest) same_limit (c.room_of_latest-room.ensures s h may)
     c.give_back.ensures.few c.give_back.ensures.own c.give_back.ensures.others c.give_back.ensures.total)
+    (c.undo_in.ensures.undone s.store s.log i act.UndoOne (c.owed_of_latest-owed.ensures s h may) (subst (λ (x : LogRoom). IsRoomOf x s.store s.log) (sym same_log) h.reserves.log_room))

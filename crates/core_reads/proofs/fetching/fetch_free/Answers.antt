@@ -2,13 +2,18 @@ use Rattle.std.proofs.Common.{IsTrue, false, refl, sym, subst}
 use Rattle.txn_machine.specs.Steps.{stored}
 use Rattle.data_store.specs.Contents.{contents_of}
 use Rattle.data_changes.proofs.Answered.{if_ok_as}
-use Rattle.core_state.proofs.Sessions.{of_ready}
+use Rattle.core_state.proofs.Sessions.{is_there, of_ready}
 use Rattle.machine_answers.proofs.Found.{finds}
 use Rattle.core_reads.proofs.Fetched.{readable, can_find, can_read, counts_bytes, full_told}
 use Rattle.core_reads.proofs.fetching.fetch_free.Goals as goal
 
 not_true : IsTrue false → ⊥
 not_true t = absurd cc
+
+pub open_of-requires-after_bounds : goal.open_of-requires-after_bounds
+open_of-requires-after_bounds g c κs within =
+    let f = c.requires.2 in
+    is_there g.M.SortedMaps.maps g.M.SortedMaps.spare g.M.SortedMaps.limit c.args.core.now c.requires.0 c.args.session f.began (of_ready g.M.SortedMaps.maps g.M.SortedMaps.spare g.M.SortedMaps.limit c.args.core.now c.requires.0 c.args.session f.began f.may.0)
 
 pub found_bytes-requires-after_bounds : goal.found_bytes-requires-after_bounds
 found_bytes-requires-after_bounds g c κs within =

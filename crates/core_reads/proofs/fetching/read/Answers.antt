@@ -42,13 +42,16 @@ returns-clause-told g c = λ s mode can.
     (c.in_ok-rows.ensures (contents_of s.store) (stored s.store) (readable g.M.SortedMaps.maps g.M.SortedMaps.spare g.M.SortedMaps.limit middle s c.args.session h) refl refl)
     (λ hh o. c.take.ensures.holds s.store s.log s.definitions (act.Fetch c.args.index c.args.interval.now mode) hh o (owes_none g.M.SortedMaps.maps g.M.SortedMaps.spare g.M.SortedMaps.limit middle s c.args.session h can.fetches.may.0))
     (λ hh o size last. c.note.ensures.holds mid_store (logs s.store c.args.session (act.Fetch c.args.index c.args.interval.now mode) (Takes c.args.wants) s.log) s.definitions (act.Fetch c.args.index c.args.interval.now mode) (note_of s.store c.args.session c.args.index c.args.interval.now rows) hh o size last)
+    c.same_room_law.ensures
     (ap (λ (x : CoreState g.row.M.Denot). x.data_room) e3 ∙ (ap (λ (x : CoreState g.row.M.Denot). x.data_room) e2 ∙ ap (λ (x : CoreState g.row.M.Denot). x.data_room) e1))
+    (ap (λ (x : CoreState g.row.M.Denot). x.log_room) e3 ∙ (ap (λ (x : CoreState g.row.M.Denot). x.log_room) e2 ∙ ap (λ (x : CoreState g.row.M.Denot). x.log_room) e1))
     (record {
       steps = ap (λ (x : CoreState g.row.M.Denot). x.steps) e3 ∙ (ap (λ (x : CoreState g.row.M.Denot). x.steps) e2 ∙ ap (λ (x : CoreState g.row.M.Denot). x.steps) e1);
       seats = ap (λ (x : CoreState g.row.M.Denot). x.seats) e3 ∙ (ap (λ (x : CoreState g.row.M.Denot). x.seats) e2 ∙ ap (λ (x : CoreState g.row.M.Denot). x.seats) e1);
       cleaner = ap (λ (x : CoreState g.row.M.Denot). x.cleaner) e3 ∙ (ap (λ (x : CoreState g.row.M.Denot). x.cleaner) e2 ∙ ap (λ (x : CoreState g.row.M.Denot). x.cleaner) e1);
       stop = ap (λ (x : CoreState g.row.M.Denot). x.stop) e3 ∙ (ap (λ (x : CoreState g.row.M.Denot). x.stop) e2 ∙ ap (λ (x : CoreState g.row.M.Denot). x.stop) e1);
       limit = ap (λ (x : CoreState g.row.M.Denot). x.data_room.limit) e3 ∙ (ap (λ (x : CoreState g.row.M.Denot). x.data_room.limit) e2 ∙ ap (λ (x : CoreState g.row.M.Denot). x.data_room.limit) e1);
+      log_limit = ap (λ (x : CoreState g.row.M.Denot). x.log_room.limit) e3 ∙ (ap (λ (x : CoreState g.row.M.Denot). x.log_room.limit) e2 ∙ ap (λ (x : CoreState g.row.M.Denot). x.log_room.limit) e1);
     })
     (ap (λ (x : CoreState g.row.M.Denot). waiting_of x.locks c.args.session) e3 ∙ c.take.ensures.own)
     (λ j differ. ap (λ (x : CoreState g.row.M.Denot). waiting_of x.locks j) e3 ∙ c.take.ensures.others j differ)

@@ -71,3 +71,8 @@ pub returns-in-Prune-clause-told : goal.returns-in-Prune-clause-told
 returns-in-Prune-clause-told g c =
     subst (λ (a : Act). Does g.M.SortedMaps.maps g.M.SortedMaps.spare g.M.SortedMaps.limit c.args.core.now c.args.session (act_of a) (answer_of c.prune.result) c.prune.new.core) (sym c.in-Prune.is)
     (λ s h may. subst (λ i. Told g.M.SortedMaps.maps g.M.SortedMaps.spare g.M.SortedMaps.limit s i machine.Prune (answer_of c.prune.result) c.prune.new.core) (sym may) (c.prune.ensures.told s (subst (λ i. Began g.M.SortedMaps.maps g.M.SortedMaps.spare g.M.SortedMaps.limit c.args.core.now s i) may h)))
+
+pub returns-in-Checkpoint-clause-told : goal.returns-in-Checkpoint-clause-told
+returns-in-Checkpoint-clause-told g c =
+    subst (λ (a : Act). Does g.M.SortedMaps.maps g.M.SortedMaps.spare g.M.SortedMaps.limit c.args.core.now c.args.session (act_of a) (answer_of c.save.result) c.save.new.core) (sym c.in-Checkpoint.is)
+    (λ s h may. subst (λ i. Told g.M.SortedMaps.maps g.M.SortedMaps.spare g.M.SortedMaps.limit s i machine.Checkpoint (answer_of c.save.result) c.save.new.core) (sym may) (c.save.ensures s (subst (λ i. Began g.M.SortedMaps.maps g.M.SortedMaps.spare g.M.SortedMaps.limit c.args.core.now s i) may h)))

@@ -1,0 +1,11 @@
+pub mod Bytes
+pub mod Commits
+pub mod Given
+pub mod Keeps
+pub mod Kept
+pub mod Made
+pub mod Newest
+pub mod Ones
+pub mod Results
+pub mod Told
+pub mod Used

@@ -1,0 +1,51 @@
+use Rattle.std.proofs.Common.{cond, Some, None, sym, ◌∙◌}
+use Rattle.txn_machine.specs.Acts as act
+use Rattle.txn_machine.specs.Records.{Abort}
+use Rattle.txn_machine.specs.Store.{schema_of}
+use Rattle.txn_book.specs.Acts.{answer_of}
+use Rattle.core_state.proofs.Sessions.{is_there, open_to_commit, wrote_is}
+use Rattle.core_journal.specs.Records.{with_perhaps}
+use Rattle.core_recording.proofs.Kept.{id_is}
+use Rattle.core_recording.proofs.Commits.{leave_told}
+use Rattle.core_recording.proofs.Ones.{can_one, gave_perhaps}
+use Rattle.core_recording.proofs.ending.commit_none.Goals as goal
+
+pub open_of-txn-requires-after_bounds : goal.open_of-txn-requires-after_bounds
+open_of-txn-requires-after_bounds g c κs within = is_there g.M.SortedMaps.maps g.M.SortedMaps.spare g.M.SortedMaps.limit c.args.core.now c.requires.0.state c.args.session c.requires.0.began (open_to_commit g.M.SortedMaps.maps g.M.SortedMaps.spare g.M.SortedMaps.limit c.args.core.now c.requires.0.state c.args.session c.requires.0.began c.requires.0.may)
+
+pub commit-said-requires-after_bounds : goal.commit-said-requires-after_bounds
+commit-said-requires-after_bounds g c κs within = (c.requires.0.state, c.requires.0.began, c.requires.0.may)
+
+pub give_abort-requires : goal.give_abort-requires
+give_abort-requires g c = λ wrote.
+    let q = c.requires.0 in
+    let s = q.state in
+    let i = c.args.session in
+    let told = c.commit-said.ensures s q.began q.may in
+    let txn = c.open_of-txn.result.now in
+    let id = id_is g.M.SortedMaps.maps g.M.SortedMaps.spare g.M.SortedMaps.limit c.args.core.now s i q.began (open_to_commit g.M.SortedMaps.maps g.M.SortedMaps.spare g.M.SortedMaps.limit c.args.core.now s i q.began q.may) txn c.open_of-txn.ensures in
+    let is = sym (wrote_is g.M.SortedMaps.maps g.M.SortedMaps.spare g.M.SortedMaps.limit c.args.core.now s i q.began (open_to_commit g.M.SortedMaps.maps g.M.SortedMaps.spare g.M.SortedMaps.limit c.args.core.now s i q.began q.may) txn c.open_of-txn.ensures) ∙ wrote in (
+      schema_of s.store,
+      q.records,
+      q.behind.has_them,
+      can_one g.M.SortedMaps.maps g.M.SortedMaps.spare g.M.SortedMaps.limit g.J.Journal.has g.J.Journal.limit c.args.core.now c.args.journal.now s i act.Commit (answer_of c.commit-said.result) c.commit-said.new.core
+          q.began told (Abort txn.id) q.records
+          (leave_told s i q.records (answer_of c.commit-said.result) told.effects told.no_fault c.requires.1 told.says ∙ (λ x. with_perhaps (schema_of s.store) s.log.next (cond (is x) (Some (Abort (sym id x))) None) q.records)) tt q.behind,
+    )
+
+pub returns-clause-gives : goal.returns-clause-gives
+returns-clause-gives g c = λ s began may none.
+    let i = c.args.session in
+    let told = c.commit-said.ensures s began may in
+    let txn = c.open_of-txn.result.now in
+    let id = id_is g.M.SortedMaps.maps g.M.SortedMaps.spare g.M.SortedMaps.limit c.args.core.now s i began (open_to_commit g.M.SortedMaps.maps g.M.SortedMaps.spare g.M.SortedMaps.limit c.args.core.now s i began may) txn c.open_of-txn.ensures in
+    let is = wrote_is g.M.SortedMaps.maps g.M.SortedMaps.spare g.M.SortedMaps.limit c.args.core.now s i began (open_to_commit g.M.SortedMaps.maps g.M.SortedMaps.spare g.M.SortedMaps.limit c.args.core.now s i began may) txn c.open_of-txn.ensures in
+    gave_perhaps g.M.SortedMaps.maps g.M.SortedMaps.spare g.M.SortedMaps.limit g.J.Journal.has g.J.Journal.limit c.args.core.now c.args.journal.now s i act.Commit (answer_of c.commit-said.result) c.commit-said.new.core
+    began told (cond txn.has_written (Some (Abort txn.id)) None) c.give_abort.new.journal
+    (λ rs. leave_told s i rs (answer_of c.commit-said.result) told.effects told.no_fault none told.says ∙ (λ x. with_perhaps (schema_of s.store) s.log.next (cond (sym is x) (Some (Abort (sym id x))) None) rs)) c.give_abort.ensures.has c.give_abort.ensures.limit
+
+pub returns-clause-faults : goal.returns-clause-faults
+returns-clause-faults g c = c.give_abort.ensures.faults
+
+pub returns-clause-fine : goal.returns-clause-fine
+returns-clause-fine g c = (c.commit-said.ensures c.requires.0.state c.requires.0.began c.requires.0.may).no_fault

@@ -1,0 +1,50 @@
+use Rattle.std.proofs.Common.{refl}
+use Rattle.std.proofs.lemmas.Result.{err_from_is_err_and}
+use Rattle.txn_machine.specs.Acts as act
+use Rattle.txn_machine.specs.Acts.{Act}
+use Rattle.txn_book.specs.Acts.{answer_of}
+use Rattle.core_effects.proofs.Results.{on_err_of}
+use Rattle.core_recording.proofs.Results.{if_ok_at}
+use Rattle.core_recording.proofs.Ones.{still_ungiven, gave_all}
+use Rattle.core_recording.proofs.keeping.put.Goals as goal
+
+pub put-requires-after_bounds : goal.put-requires-after_bounds
+put-requires-after_bounds g c κs within = (c.requires.state, c.requires.began, c.requires.may)
+
+pub give_kept-requires-after_bounds : goal.give_kept-requires-after_bounds
+give_kept-requires-after_bounds g c κs within =
+    let q = c.requires in
+    let a : Act = act.Put c.args.table c.args.key.now c.args.new.now in (
+      a,
+      tt,
+      still_ungiven g.M.SortedMaps.maps g.M.SortedMaps.spare g.M.SortedMaps.limit g.J.Journal.has g.J.Journal.limit c.args.core.now c.args.journal.now q.state c.args.session a (answer_of c.in_ok-said.said) c.put.new.core
+          q.began (c.in_ok-said.ensures.told q.state q.began q.may) q.may q.records q.behind,
+    )
+
+pub returns-clause-gives : goal.returns-clause-gives
+returns-clause-gives g c = λ s began may.
+    let told = c.in_ok-said.ensures.told s began may in
+    let a : Act = act.Put c.args.table c.args.key.now c.args.new.now in
+    gave_all g.M.SortedMaps.maps g.M.SortedMaps.spare g.M.SortedMaps.limit g.J.Journal.has g.J.Journal.limit c.args.core.now c.args.journal.now s c.args.session a (answer_of c.in_ok-said.said) c.put.new.core
+    began told c.give_kept.new.journal (λ rs has. c.give_kept.ensures.gave s a tt may told rs has) c.give_kept.ensures.limit
+
+pub returns-clause-err : goal.returns-clause-err
+returns-clause-err g c = tt
+
+pub returns-clause-ungiven : goal.returns-clause-ungiven
+returns-clause-ungiven g c = tt
+
+pub returns-clause-faults : goal.returns-clause-faults
+returns-clause-faults g c = c.give_kept.ensures.faults
+
+pub returns-in_err-said-clause-gives : goal.returns-in_err-said-clause-gives
+returns-in_err-said-clause-gives g c = let p = err_from_is_err_and c.from_residual.result c.from_residual.ensures.1 in if_ok_at _ c.from_residual.result _ p.1
+
+pub returns-in_err-said-clause-err : goal.returns-in_err-said-clause-err
+returns-in_err-said-clause-err g c = on_err_of c.from_residual.result c.in_err-said.ensures.err
+
+pub returns-in_err-said-clause-ungiven : goal.returns-in_err-said-clause-ungiven
+returns-in_err-said-clause-ungiven g c = on_err_of c.from_residual.result refl
+
+pub returns-in_err-said-clause-faults : goal.returns-in_err-said-clause-faults
+returns-in_err-said-clause-faults g c = refl

@@ -1,0 +1,58 @@
+-- No clause of `run` rests on this module: it serves contracts between crates.
+--
+-- What an act gives to the journal.
+use Rattle.std.specs.Prelude.{◌≡◌, ◌⊎◌, ℕ, [], Option}
+use Rattle.iv_types.specs.Maps.{Map}
+use Rattle.iv_types.specs.declared.refusal.EngineRefusal.TheVariants.{DiskFault}
+use Rattle.txn_machine.specs.Acts.{Act}
+use Rattle.txn_machine.specs.Answers.{Answer, Refused}
+use Rattle.txn_machine.specs.Log.{Log}
+use Rattle.txn_machine.specs.May.{MayAct}
+use Rattle.txn_machine.specs.State.{State}
+use Rattle.core_journal.specs.Records.{Records, records_after}
+use Rattle.core_state.specs.Stands.{Began, Told, Failed}
+use Rattle.core_state.specs.declared.state.CoreState.{CoreState}
+
+module _ {M J : Type 0} (maps : M → ℕ → Map) (spare : M → ℕ → ℕ) (limit : M → Option ℕ) (has : J → Records → Type 0) (area : J → Option ℕ) where
+  -- the journal has these records, which take what the log counts as used, and its limit is the log's
+  pub record IsBehind (core : CoreState M) (journal : J) (l : Log) (rs : Records) : Type 0 where
+    pub has_them : has journal rs
+    pub used : rs.used ≡ l.used
+    pub same_limit : area journal ≡ core.log_room.limit
+
+  -- an act may be done in some state, of whose log the journal has the records
+  pub record CanGive (core : CoreState M) (journal : J) (session : ℕ) (a : Act) : Type 0 where
+    pub state : State
+    pub began : Began maps spare limit core state session
+    pub may : MayAct state.store session a
+    pub records : Records
+    pub behind : IsBehind core journal state.log records
+
+  -- what is told of an act, of whose effects the journal has no records yet
+  pub record IsUngiven (core : CoreState M) (journal : J) (session : ℕ) (a : Act) (said : Answer) : Type 0 where
+    pub state : State
+    pub may : MayAct state.store session a
+    pub told : Told maps spare limit state session a said core
+    pub records : Records
+    pub behind : IsBehind core journal state.log records
+
+  -- what is told of an act, and the journal has the records of its effects beside those that it had
+  pub record Gave (s : State) (session : ℕ) (a : Act) (said : Answer) (core : CoreState M) (journal : J) (then : CoreState M) (after : J) : Type 0 where
+    pub told : Told maps spare limit s session a said then
+    pub gave : (rs : Records) → IsBehind core journal s.log rs → has after (records_after s session a said told.effects rs)
+    pub same_limit : area after ≡ area journal
+
+  -- the disk failed: nothing is changed, and the record of what was to be done waits
+  pub record GaveUp (s : State) (session : ℕ) (a : Act) (said : Answer) (core : CoreState M) (journal : J) (then : CoreState M) (after : J) : Type 0 where
+    pub said_is : said ≡ Refused DiskFault
+    pub failed : Failed maps spare limit s session a then
+    pub gave : (rs : Records) → IsBehind core journal s.log rs → has after (records_after s session a (Refused DiskFault) [] rs)
+    pub same_limit : area after ≡ area journal
+
+  -- an act that has no failure, and one that may have it
+  abbrev pub Gives : CoreState M → J → ℕ → Act → Answer → CoreState M → J → Type 0
+  Gives core journal session a said then after = (s : State) → Began maps spare limit core s session → MayAct s.store session a → Gave s session a said core journal then after
+
+  abbrev pub MayGiveUp : CoreState M → J → ℕ → Act → Answer → CoreState M → J → Type 0
+  MayGiveUp core journal session a said then after =
+      (s : State) → Began maps spare limit core s session → MayAct s.store session a → Gave s session a said core journal then after ⊎ GaveUp s session a said core journal then after
