@@ -9,7 +9,8 @@ use Rattle.txn_book.specs.declared.step.Act.TheVariants as act
 use Rattle.ordered_index.specs.Tree.{Tree, map_of, spare_of, limit_of}
 use Rattle.core_state.specs.Stands.{Stands}
 use Rattle.core_state.specs.declared.state.CoreState.{CoreState}
-use Rattle.engine_core.specs.Standing.{IsIn}
+use Rattle.core_journal.specs.declared.none.NoJournal.{NoJournal}
+use Rattle.engine_core.specs.Standing.{IsInMemory}
 use Rattle.engine_core.specs.declared.engine.Core.{Core}
 
 -- what a core holds is that of this state
@@ -17,8 +18,8 @@ abbrev pub IsAt : CoreState Tree → State → Type 0
 IsAt core s = Stands map_of spare_of limit_of core s
 
 -- the core stands in a state
-abbrev pub IsStanding : Core Tree → Type 0
-IsStanding core = (s : State) × IsIn map_of spare_of limit_of core s
+abbrev pub IsStanding : Core Tree NoJournal → Type 0
+IsStanding core = (s : State) × IsInMemory core s
 
 -- the statement of an act was read from a text
 abbrev pub IsSpelt : Act → Type 0

@@ -12,6 +12,7 @@ use crate::asking::may;
 use crate::steps::read_step;
 use anyhow::bail;
 use case_text::first_word;
+use core_journal::NoJournal;
 use engine_core::Core;
 use ordered_index::PageMaps;
 use std::alloc::Global;
@@ -36,16 +37,16 @@ fn log_bytes(text: &str) -> anyhow::Result<u32>
 }
 
 // A core that has nothing, with a limit of its log or without one.
-fn new_core(alloc: Global, log: Option<u32>) -> anyhow::Result<Core<PageMaps>>
+fn new_core(alloc: Global, log: Option<u32>) -> anyhow::Result<Core<PageMaps, NoJournal>>
     requires { Within log 6 }
     ensures { IfOk result IsStanding }
 {
     let maps = PageMaps::new(alloc, PAGES)?;
-    Ok(Core::new(alloc, maps, log, DATA_LIMIT, 0)?)
+    Ok(Core::new(alloc, maps, NoJournal { limit: log }, log, DATA_LIMIT, 0)?)
 }
 
 // The same, with the limit of its log that is given, if one is.
-fn core_with(alloc: Global, log: &str) -> anyhow::Result<Core<PageMaps>>
+fn core_with(alloc: Global, log: &str) -> anyhow::Result<Core<PageMaps, NoJournal>>
     ensures { IfOk result IsStanding }
 {
     match log {
@@ -67,7 +68,11 @@ fn session_of(text: &str) -> anyhow::Result<u32>
 }
 
 // How many steps a session's transaction keeps.
-fn kept_text(alloc: Global, core: &Core<PageMaps>, text: &str) -> anyhow::Result<String> {
+fn kept_text(
+    alloc: Global,
+    core: &Core<PageMaps, NoJournal>,
+    text: &str,
+) -> anyhow::Result<String> {
     match core.kept_steps(session_of(text)?) {
         Some(many) => Ok(format!(in alloc; "{many}")?),
         None => Ok(String::from_str(alloc, "none")?),
@@ -75,7 +80,11 @@ fn kept_text(alloc: Global, core: &Core<PageMaps>, text: &str) -> anyhow::Result
 }
 
 // A session's last refusal.
-fn last_refusal_text(alloc: Global, core: &Core<PageMaps>, text: &str) -> anyhow::Result<String> {
+fn last_refusal_text(
+    alloc: Global,
+    core: &Core<PageMaps, NoJournal>,
+    text: &str,
+) -> anyhow::Result<String> {
     match core.refused(text.parse::<u32>()?) {
         Some(last) => {
             let number = last.step;
@@ -87,7 +96,11 @@ fn last_refusal_text(alloc: Global, core: &Core<PageMaps>, text: &str) -> anyhow
 }
 
 // Does a step, if it may be asked for.
-fn answered(alloc: Global, core: &mut Core<PageMaps>, step: &Step) -> anyhow::Result<Answer>
+fn answered(
+    alloc: Global,
+    core: &mut Core<PageMaps, NoJournal>,
+    step: &Step,
+) -> anyhow::Result<Answer>
     requires stands { IsStanding core.old }
     requires spelt { IsSpelt step.now.act }
     ensures { IsStanding core.new }
@@ -97,7 +110,11 @@ fn answered(alloc: Global, core: &mut Core<PageMaps>, step: &Step) -> anyhow::Re
 }
 
 // Does the step of a text.
-fn step_done(alloc: Global, core: &mut Core<PageMaps>, text: &str) -> anyhow::Result<Answer>
+fn step_done(
+    alloc: Global,
+    core: &mut Core<PageMaps, NoJournal>,
+    text: &str,
+) -> anyhow::Result<Answer>
     requires { IsStanding core.old }
     ensures { IsStanding core.new }
 {
@@ -108,7 +125,7 @@ fn step_done(alloc: Global, core: &mut Core<PageMaps>, text: &str) -> anyhow::Re
 }
 
 // Does the step of a text, and forgets what it is answered.
-fn pass(alloc: Global, core: &mut Core<PageMaps>, call: &str) -> anyhow::Result<()>
+fn pass(alloc: Global, core: &mut Core<PageMaps, NoJournal>, call: &str) -> anyhow::Result<()>
     requires { IsStanding core.old }
     ensures { IsStanding core.new }
 {
@@ -121,7 +138,7 @@ fn pass(alloc: Global, core: &mut Core<PageMaps>, call: &str) -> anyhow::Result<
 }
 
 // Does the calls before the last ones.
-fn pass_all(alloc: Global, core: &mut Core<PageMaps>, calls: &str) -> anyhow::Result<()>
+fn pass_all(alloc: Global, core: &mut Core<PageMaps, NoJournal>, calls: &str) -> anyhow::Result<()>
     requires { IsStanding core.old }
     ensures { IsStanding core.new }
 {
@@ -135,7 +152,11 @@ fn pass_all(alloc: Global, core: &mut Core<PageMaps>, calls: &str) -> anyhow::Re
 }
 
 // What the step of a text is answered.
-fn step_text(alloc: Global, core: &mut Core<PageMaps>, text: &str) -> anyhow::Result<String>
+fn step_text(
+    alloc: Global,
+    core: &mut Core<PageMaps, NoJournal>,
+    text: &str,
+) -> anyhow::Result<String>
     requires { IsStanding core.old }
     ensures { IsStanding core.new }
 {
@@ -146,7 +167,11 @@ fn step_text(alloc: Global, core: &mut Core<PageMaps>, text: &str) -> anyhow::Re
 }
 
 // What a call comes to.
-fn call_text(alloc: Global, core: &mut Core<PageMaps>, call: &str) -> anyhow::Result<String>
+fn call_text(
+    alloc: Global,
+    core: &mut Core<PageMaps, NoJournal>,
+    call: &str,
+) -> anyhow::Result<String>
     requires { IsStanding core.old }
     ensures { IsStanding core.new }
 {
@@ -163,7 +188,11 @@ fn call_text(alloc: Global, core: &mut Core<PageMaps>, call: &str) -> anyhow::Re
 }
 
 // What calls come to.
-fn all_text(alloc: Global, core: &mut Core<PageMaps>, calls: &str) -> anyhow::Result<String>
+fn all_text(
+    alloc: Global,
+    core: &mut Core<PageMaps, NoJournal>,
+    calls: &str,
+) -> anyhow::Result<String>
     requires { IsStanding core.old }
     ensures { IsStanding core.new }
 {
@@ -181,7 +210,7 @@ fn all_text(alloc: Global, core: &mut Core<PageMaps>, calls: &str) -> anyhow::Re
 // What the last calls come to, on a core that stands, after those before them.
 fn last_text(
     alloc: Global,
-    core: &mut Core<PageMaps>,
+    core: &mut Core<PageMaps, NoJournal>,
     given: &str,
     before: &str,
     calls: &str,

@@ -46,7 +46,7 @@ module _ {M : Type 0} (maps : M → ℕ → Map) (spare : M → ℕ → ℕ) (li
     stop = same.stop ∙ h.counts.stop;
   }
 
-  pub done_told : (a : Act) (said : Answer) (es : List Effect) → Says s i a said es → Holds maps spare limit new (run the_views s.store i es) (log_after s i a said es) (definitions_after s.definitions a said)
+  unfoldable pub done_told : (a : Act) (said : Answer) (es : List Effect) → Says s i a said es → Holds maps spare limit new (run the_views s.store i es) (log_after s i a said es) (definitions_after s.definitions a said)
       → Reserves maps spare limit new (run the_views s.store i es) (log_after s i a said es) (definitions_after s.definitions a said)
       → AreUncounted core new → (IsSession i → table.waiting_of new.locks i ≡ []) → ((j : ℕ) → IsSession j → j ≢ i → table.waiting_of new.locks j ≡ s.waiting j)
       → is_blocked said ≡ false → is_fault said ≡ false → (log_after s i a said es).begun ≤ s.log.begun + 1 → (log_after s i a said es).next ≤ s.log.next + 1

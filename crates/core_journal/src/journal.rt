@@ -1,6 +1,7 @@
 //! Journals.
 ghost use Rattle.std.specs.Prelude.{◌≡◌, ◌+◌, ◌∷◌, ◌<◌, ◌^◌, ℕ, Option, length, OnOk, OnErr};
 ghost use Rattle.iv_types.specs.Faults.{Rose};
+ghost use Rattle.txn_machine.specs.Counts.{told_need};
 ghost use Rattle.txn_machine.specs.Log.{Within, block_bytes};
 ghost use Rattle.log_records.specs.Lent.{stands_for};
 ghost use Rattle.log_records.specs.Spelling.{IsShort, spelling};
@@ -41,10 +42,10 @@ pub trait Journal {
         ensures limit { limit self.new ≡ limit self.old };
 
     /// Begins anew, once a checkpoint has taken over all that its records say: with the records that this carries, which take so many
-    /// bytes of the area with those of their block.
+    /// bytes of the area with those of their block. Bytes past the end of a `u64` count as that end.
     fn restart(&mut self, used: u64)
         requires { Within (limit self.old) used }
-        ensures has { (rs : Records) → has self.old rs → has self.new (restarted used) }
+        ensures has { (rs : Records) (bytes : ℕ) → used ≡ told_need bytes → has self.old rs → has self.new (restarted bytes) }
         ensures limit { limit self.new ≡ limit self.old }
         ensures faults { faults self.new ≡ faults self.old };
 

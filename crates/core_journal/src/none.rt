@@ -1,19 +1,22 @@
 //! The journal of an engine without a disk.
-ghost use Rattle.std.specs.Prelude.{None};
-ghost use Rattle.core_journal.specs.Faults.{none_below};
+ghost use Rattle.core_journal.specs.NoJournal.{has_any, limit_of, none_below};
 
 use crate::journal::Journal;
 use iv_types::DiskFault;
 use log_records::LentRecord;
 
-/// A journal that keeps nothing: its engine's database lies in memory alone.
+/// A journal that keeps nothing: its engine's database lies in memory alone. What its records would take is counted against a limit
+/// all the same, where there is one.
 #[derive(Clone, Copy, Debug, PartialEq, Eq)]
-pub struct NoJournal;
+pub struct NoJournal {
+    /// The bytes of an area of the log.
+    pub limit: Option<u32>,
+}
 
 impl Journal for NoJournal {
-    ghost has = { λ _ _. Unit {0} };
+    ghost has = { has_any };
 
-    ghost limit = { λ _. None };
+    ghost limit = { limit_of };
 
     ghost faults = { λ _. 0 };
 

@@ -51,7 +51,7 @@ used_after s i a said es rs h = all_used s.store i a es s.log rs h
 -- ---- there is room
 
 -- what is used lies within the limit
-used_within : (most : Option ℕ) (used reserved_bytes : ℕ) (s : Store) (l : Log) → AreCountedIn most used reserved_bytes s l → Within most l.used
+pub used_within : (most : Option ℕ) (used reserved_bytes : ℕ) (s : Store) (l : Log) → AreCountedIn most used reserved_bytes s l → Within most l.used
 used_within None used reserved_bytes s l h = tt
 used_within (Some most) used reserved_bytes s l h = let are = h.used_are in let within = h.within in omega (arith, are, within)
 

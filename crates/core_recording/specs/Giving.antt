@@ -49,10 +49,14 @@ module _ {M J : Type 0} (maps : M → ℕ → Map) (spare : M → ℕ → ℕ) (
     pub gave : (rs : Records) → IsBehind core journal s.log rs → has after (records_after s session a (Refused DiskFault) [] rs)
     pub same_limit : area after ≡ area journal
 
+  -- one or the other
+  abbrev pub Did : State → ℕ → Act → Answer → CoreState M → J → CoreState M → J → Type 0
+  Did s session a said core journal then after = Gave s session a said core journal then after ⊎ GaveUp s session a said core journal then after
+
   -- an act that has no failure, and one that may have it
   abbrev pub Gives : CoreState M → J → ℕ → Act → Answer → CoreState M → J → Type 0
   Gives core journal session a said then after = (s : State) → Began maps spare limit core s session → MayAct s.store session a → Gave s session a said core journal then after
 
   abbrev pub MayGiveUp : CoreState M → J → ℕ → Act → Answer → CoreState M → J → Type 0
   MayGiveUp core journal session a said then after =
-      (s : State) → Began maps spare limit core s session → MayAct s.store session a → Gave s session a said core journal then after ⊎ GaveUp s session a said core journal then after
+      (s : State) → Began maps spare limit core s session → MayAct s.store session a → Did s session a said core journal then after

@@ -15,7 +15,7 @@ use log_records::LentRecord;
 use record_lending::abort_of;
 
 /// Gives a record under this number.
-pub(crate) fn give<J: Journal>(journal: &mut J, number: u64, lent: LentRecord<'_>)
+pub fn give<J: Journal>(journal: &mut J, number: u64, lent: LentRecord<'_>)
     requires { (objects : Schema) × (r : Record) × (rs : Records) × (stands_for lent ≡ in_bytes objects r) × J.has journal.old rs × CanAppend (J.limit journal.old) objects number r rs }
     ensures has { (objects : Schema) (r : Record) (rs : Records) → stands_for lent.entry ≡ in_bytes objects r → J.has journal.old rs → J.has journal.new (with_one objects (record { number = number; of = r }) rs) }
     ensures limit { J.limit journal.new ≡ J.limit journal.old }
@@ -44,7 +44,7 @@ pub(crate) fn give_abort<J: Journal>(journal: &mut J, wrote: bool, number: u64, 
 ///
 /// Where the disk fails. The record waits then.
 #[tactic(none)]
-pub(crate) fn give_and_flush<J: Journal>(
+pub fn give_and_flush<J: Journal>(
     journal: &mut J,
     number: u64,
     lent: LentRecord<'_>,

@@ -37,9 +37,9 @@ pub fn end<M: SortedMaps, J: Journal>(
     said
 }
 
-// The number of the next commit.
+/// The number of the next commit.
 #[tactic(none)]
-fn next_commit<M: SortedMaps>(core: &CoreState<M>) -> u64
+pub fn next_commit<M: SortedMaps>(core: &CoreState<M>) -> u64
     requires { (s : State) × (session : ℕ) × Began M.maps M.spare M.limit core.now s session }
     ensures { (s : State) (session : ℕ) → Began M.maps M.spare M.limit core.now s session → result ≡ (committed s.store).number + 1 }
 {

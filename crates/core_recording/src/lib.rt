@@ -10,7 +10,8 @@ mod keeping;
 mod latest;
 mod undoing;
 
-pub use ending::{commit, end};
+pub use append::{give, give_and_flush};
+pub use ending::{commit, end, next_commit};
 pub use ghosting::make_ghost;
 pub use keeping::{pay, put};
 pub use latest::give_latest;

@@ -25,7 +25,7 @@ use Rattle.txn_machine.specs.Ghosts.{the_views}
 use Rattle.txn_machine.specs.Keeping.{Open}
 use Rattle.txn_machine.specs.Log.{Logged, logs, definition_entries}
 use Rattle.txn_machine.specs.State.{State}
-use Rattle.txn_machine.specs.Steps.{history_bytes}
+use Rattle.txn_machine.specs.Steps.{DefinesIt, history_bytes}
 use Rattle.txn_machine.specs.Store.{Store, committed, schema_of, locks_of, Defines, does}
 use Rattle.txn_machine.specs.Stored.{add_all}
 use Rattle.txn_machine.proofs.Looking.{view_laws}
@@ -91,6 +91,20 @@ module _ {M : Type 0} (maps : M → ℕ → Map) (spare : M → ℕ → ℕ) (li
     data_small = m.data_small;
     need_is = m.need_is;
     room = m.room;
+  }
+
+  -- it is defined under the number of the next commit
+  pub defines_it : (core : CoreState M) → MayEnter maps spare limit s core i statement d first text need → (number : ℕ) → number ≡ (committed s.store).number + 1 → DefinesIt s statement number (Defines (object_of d) ∷ [])
+  defines_it core m number number_is = record {
+    object = object_of d;
+    makes = m.may.makes;
+    none_open = m.may.none;
+    accepted = (0, defines (object_of d) ∷ [], accepted maps spare limit core s i statement d m.may first m.first_are);
+    log_room = m.log_room;
+    data_room = m.data_room;
+    room = subst (λ n. history_bytes s + n ≤ most_of_history) m.need_is m.room;
+    number_is = number_is;
+    effects = refl;
   }
 
   module _ (core : CoreState M) (m : MayEnter maps spare limit s core i statement d first text need) (good : IsBook core.book) where
@@ -183,17 +197,7 @@ module _ {M : Type 0} (maps : M → ℕ → Map) (spare : M → ℕ → ℕ) (li
         opening = subst (λ x. IsOpening new.log_room.limit x s) (sym (ap (λ (x : DataRoom). x.limit) room_is)) (subst (λ x. IsOpening x core.data_room.limit s) (sym log_limit) h.opening);
         runs = h.runs;
         effects = Defines o ∷ [];
-        says = record {
-          object = o;
-          makes = m.may.makes;
-          none_open = m.may.none;
-          accepted = (0, defines o ∷ [], accepted maps spare limit core s i statement d m.may first m.first_are);
-          log_room = m.log_room;
-          data_room = m.data_room;
-          room = subst (λ n. history_bytes s + n ≤ most_of_history) m.need_is m.room;
-          number_is = number_is ∙ ap (λ n. n + 1) h.holds.book.number;
-          effects = refl;
-        };
+        says = defines_it core m number (number_is ∙ ap (λ n. n + 1) h.holds.book.number);
         holds = record {
           stored = subst (IsHeld new.store.catalog (maps new.store.tables) new.store.views) contents_are stored;
           book = book_then;

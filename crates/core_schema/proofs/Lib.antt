@@ -4,3 +4,4 @@ pub mod Needs
 pub mod Roomier
 pub mod Entered
 pub mod Fitting
+pub mod Recorded

@@ -91,6 +91,22 @@ more_stored objects rows o stored sound h place numbers there =
       width = r.width;
     }
 
+-- a text is no longer than what it counts in the data
+text_long : (text : List ℕ) → length text ≤ definition_entries text
+text_long text = no_less (length text) _
+  where
+    no_less : (a b : ℕ) → a ≤ a + b
+    no_less a b = omega arith
+
+-- the text of a definition for which the data have room is short
+pub text_few : {M : Type 0} (maps : M → ℕ → Map) (spare : M → ℕ → ℕ) (limit : M → Option ℕ) (core : CoreState M) (s : State) (i : ℕ) (statement : StatementTree) (d : Definition) → MayMake maps spare limit s core i statement d
+    → Where s.opening.data_limit (used_data s + made_need s.store statement (object_of d) < 2 ^ 32) → length (statement_text statement) < 2 ^ 32
+text_few maps spare limit core s i statement d m small =
+    let long = text_long (statement_text statement) in
+    let need : made_need s.store statement (object_of d) ≡ definition_entries (statement_text statement) + made_entries (schema_of s.store) (committed s.store).rows (object_of d) = refl in
+    let lt : used_data s + made_need s.store statement (object_of d) < 2 ^ 32 = where_some s.opening.data_limit (subst IsSome (sym (limit_of maps spare limit core s i m.began)) m.began.opening.bounded) small in
+    omega (arith, long, need, lt)
+
 module _ {M : Type 0} (maps : M → ℕ → Map) (spare : M → ℕ → ℕ) (limit : M → Option ℕ) (core : CoreState M) (s : State) (i : ℕ) (statement : StatementTree) (d : Definition) (m : MayMake maps spare limit s core i statement d)
     (first : List IndexEntry) (first_are : AreFirst core.store.catalog (maps core.store.tables) (contents_of s.store) d first) where
   abbrev o : Object

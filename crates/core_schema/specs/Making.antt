@@ -1,7 +1,8 @@
 -- No clause of `run` rests on this module: it serves contracts between crates.
 --
 -- When a definition can be made, and the change that its entry in the history has.
-use Rattle.std.specs.Prelude.{◌≡◌, ℕ, ◌+◌, ◌<◌, ◌≤◌, ◌^◌, List, [], ◌∷◌, Option, None, Some}
+use Rattle.std.specs.Prelude.{◌≡◌, ℕ, ◌+◌, ◌<◌, ◌≤◌, ◌^◌, List, [], ◌∷◌, length, Option, None, Some}
+use Rattle.iv_types.specs.Definitions.{Definitions}
 use Rattle.iv_types.specs.Maps.{Map}
 use Rattle.iv_types.specs.Printing.{statement_text}
 use Rattle.iv_types.specs.Syntax.{StatementTree}
@@ -16,11 +17,28 @@ use Rattle.txn_machine.specs.May.{MayAct}
 use Rattle.txn_machine.specs.State.{State}
 use Rattle.txn_machine.specs.Log.{definition_need}
 use Rattle.txn_machine.specs.Steps.{Makes, NoneIsOpen, FitsLog, FitsData, made_need, used_data, history_bytes}
+use Rattle.txn_book.specs.Books.{how_many_open}
 use Rattle.data_store.specs.Contents.{contents_of}
-use Rattle.data_defining.specs.Defining.{AreFirst}
+use Rattle.data_defining.specs.Defining.{AreFirst, IsLast}
 use Rattle.data_room.specs.Reserved.{Where}
 use Rattle.core_state.specs.Stands.{Began}
 use Rattle.core_state.specs.declared.state.CoreState.{CoreState}
+
+-- a definition's text is the row of its one change
+pub record IsTextOf (text : List ℕ) (c : Change) : Type 0 where
+  pub table : c.table ≡ 0
+  pub before : c.before ≡ None
+  pub after : c.after ≡ Some (Word text ∷ [])
+
+-- these changes are that one
+pub record HaveText (text : List ℕ) (changes : List Change) : Type 0 where
+  pub change : Change
+  pub are : changes ≡ change ∷ []
+  pub is_text : IsTextOf text change
+
+-- a core with this catalog
+abbrev pub with_catalog : {M : Type 0} → Definitions → CoreState M → CoreState M
+with_catalog definitions core = record core { store = record core.store { catalog = definitions } }
 
 module _ {M : Type 0} (maps : M → ℕ → Map) (spare : M → ℕ → ℕ) (limit : M → Option ℕ) where
   -- the step began, and a statement makes this definition
@@ -72,8 +90,13 @@ module _ {M : Type 0} (maps : M → ℕ → Map) (spare : M → ℕ → ℕ) (li
     pub need_is : need ≡ entry_size + definition_size statement
     pub room : history_bytes s + need ≤ most_of_history
 
--- a definition's text is the row of its one change
-pub record IsTextOf (text : List ℕ) (c : Change) : Type 0 where
-  pub table : c.table ≡ 0
-  pub before : c.before ≡ None
-  pub after : c.after ≡ Some (Word text ∷ [])
+  -- the definition stands last in the catalog, without which it may be entered; what that takes memory for is there
+  pub record IsReady (s : State) (core : CoreState M) (session : ℕ) (statement : StatementTree) (number : ℕ) (first : List IndexEntry) (changes : List Change) (need : ℕ) : Type 0 where
+    pub before : Definitions
+    pub definition : Definition
+    pub text : List ℕ
+    pub may : MayEnter s (with_catalog before core) session statement definition first text need
+    pub last : IsLast core.store.catalog before definition number
+    pub texts : HaveText text changes
+    pub first_room : length first ≤ spare core.store.tables number
+    pub entry_room : how_many_open core.book.opens + 1 ≤ core.book.room

@@ -230,7 +230,7 @@ module _ {M : Type 0} (maps : M → ℕ → Map) (spare : M → ℕ → ℕ) (li
   closed : (the_after.stop ≡ None → Reserves maps spare limit core after_store (log_after s i a (answer_of x) t.effects) (definitions_after s.definitions a (answer_of x)))
       → (steps : ℕ) (seats : List Seat) (cleaner : Cleaner) (stop : Option ℕ) → steps ≡ core.steps + 1 → seat_at seats i ≡ told (seat_at core.seats i) steps (refusal_in x) → ((j : ℕ) → j ≢ i → seat_at seats j ≡ seat_at core.seats j)
       → cleaner ≡ cleaned core.cleaner steps (length core.book.history) x → stop ≡ option_map (λ (y : Stop). y.step) (stop_after s.stop steps a (answer_of x)) → s.steps < most_steps
-      → Moved maps spare limit s i a (answer_of x) (record core { steps = steps; seats = seats; cleaner = cleaner; stop = stop })
+      → Moved maps spare limit s i a (answer_of x) t.effects (record core { steps = steps; seats = seats; cleaner = cleaner; stop = stop })
   closed reserves steps seats cleaner stop more own others clean stops lt =
       let number : steps ≡ s.steps + 1 = more ∙ ap (λ n. n + 1) t.counts.steps in
       let does : Step s i a (answer_of x) the_after = record { may = may; does = inl (record { runs = t.runs; effects = t.effects; says = t.says; left = refl }) } in
@@ -238,6 +238,7 @@ module _ {M : Type 0} (maps : M → ℕ → Map) (spare : M → ℕ → ℕ) (li
       record {
         after = the_after;
         does = does;
+        logged = refl;
         stands = record {
           reached = leads_on s i a (answer_of x) the_after t.reached does;
           opening = steps_on core.log_room.limit core.data_room.limit s i a (answer_of x) the_after t.opening does refl;
@@ -284,7 +285,7 @@ module _ {M : Type 0} (maps : M → ℕ → Map) (spare : M → ℕ → ℕ) (li
 module _ {M : Type 0} (maps : M → ℕ → Map) (spare : M → ℕ → ℕ) (limit : M → Option ℕ) (core : CoreState M) (s : State) (i : ℕ) (a : Act) (x : Said) (may : May s i a) (within : i ≤ 64) (t : Told maps spare limit s i a (answer_of x) core) where
   pub told_closed : (steps : ℕ) (seats : List Seat) (cleaner : Cleaner) (stop : Option ℕ) → steps ≡ core.steps + 1 → seat_at seats i ≡ told (seat_at core.seats i) steps (refusal_in x) → ((j : ℕ) → j ≢ i → seat_at seats j ≡ seat_at core.seats j)
       → cleaner ≡ cleaned core.cleaner steps (length core.book.history) x → stop ≡ option_map (λ (y : Stop). y.step) (stop_if (steps == most_steps) (record { step = steps; act = a })) → s.steps < most_steps
-      → Moved maps spare limit s i a (answer_of x) (record core { steps = steps; seats = seats; cleaner = cleaner; stop = stop })
+      → Moved maps spare limit s i a (answer_of x) t.effects (record core { steps = steps; seats = seats; cleaner = cleaner; stop = stop })
   told_closed steps seats cleaner stop more own others clean stops lt =
       closed maps spare limit core s i a x may within
       (record {
@@ -327,7 +328,7 @@ failed_log s i act.Cancel h n = absurd h
 
 pub fault_closed : {M : Type 0} (maps : M → ℕ → Map) (spare : M → ℕ → ℕ) (limit : M → Option ℕ) (core : CoreState M) (s : State) (i : ℕ) (a : Act) → May s i a → i ≤ 64 → Failed maps spare limit s i a core
     → (steps next : ℕ) (seats : List Seat) (stop : Option ℕ) → steps ≡ core.steps + 1 → next ≡ core.next + 1 → seat_at seats i ≡ told (seat_at core.seats i) steps (Some refused.DiskFault) → ((j : ℕ) → j ≢ i → seat_at seats j ≡ seat_at core.seats j)
-    → stop ≡ Some steps → Moved maps spare limit s i a (answer.Refused refused.DiskFault) (record core { steps = steps; next = next; seats = seats; stop = stop })
+    → stop ≡ Some steps → Moved maps spare limit s i a (answer.Refused refused.DiskFault) [] (record core { steps = steps; next = next; seats = seats; stop = stop })
 fault_closed maps spare limit core s i a may within f steps next seats stop more appends own others stops =
     let h : Began maps spare limit core s i = f.began in
     let log = failed_log s i a f.says f.appends in
@@ -363,15 +364,34 @@ fault_closed maps spare limit core s i a may within f steps next seats stop more
 
 -- ---- a stopped core
 
+-- the log is what it was where a session is told of a stop
+stopped_log : (s : State) (i : ℕ) (a : Act) (number : ℕ) → log_after s i a (answer.Refused (refused.Stopped number)) [] ≡ s.log
+stopped_log s i (act.Begin mode) number = refl
+stopped_log s i act.Defs number = refl
+stopped_log s i (act.Fetch index interval mode) number = refl
+stopped_log s i (act.Peek index interval) number = refl
+stopped_log s i (act.Put index key new) number = refl
+stopped_log s i act.Pay number = refl
+stopped_log s i act.Ghost number = refl
+stopped_log s i act.UndoOne number = refl
+stopped_log s i act.End number = refl
+stopped_log s i act.Commit number = refl
+stopped_log s i (act.Schema statement) number = refl
+stopped_log s i act.Clean number = refl
+stopped_log s i act.Prune number = refl
+stopped_log s i act.Checkpoint number = refl
+stopped_log s i act.Cancel number = refl
+
 -- what it stores and waits for is as before, and so are its counts
 pub stop_told : {M : Type 0} (maps : M → ℕ → Map) (spare : M → ℕ → ℕ) (limit : M → Option ℕ) (core : CoreState M) (s : State) (i : ℕ) (a : Act) (stop : Stop) (seats : List Seat) → May s i a → i ≤ 64 → Stands maps spare limit core s → s.stop ≡ Some stop
     → seat_at seats i ≡ record (seat_at core.seats i) { told_of_stop = true } → ((j : ℕ) → j ≢ i → seat_at seats j ≡ seat_at core.seats j)
-    → Moved maps spare limit s i a (answer.Refused (refused.Stopped stop.step)) (record core { seats = seats })
+    → Moved maps spare limit s i a (answer.Refused (refused.Stopped stop.step)) [] (record core { seats = seats })
 stop_told maps spare limit core s i a stop seats may within h stopped own others =
     let does : Step s i a (answer.Refused (refused.Stopped stop.step)) (machine.told_of_stop s i) = record { may = may; does = inr (record { stop = stop; stopped = stopped; says = refl; left = refl }) } in
     record {
       after = machine.told_of_stop s i;
       does = does;
+      logged = sym (stopped_log s i a stop.step);
       stands = record {
         reached = leads_on s i a (answer.Refused (refused.Stopped stop.step)) (machine.told_of_stop s i) h.reached does;
         opening = steps_on core.log_room.limit core.data_room.limit s i a (answer.Refused (refused.Stopped stop.step)) (machine.told_of_stop s i) h.opening does refl;

@@ -137,8 +137,9 @@ module _ {M : Type 0} (maps : M → ℕ → Map) (spare : M → ℕ → ℕ) (li
     pub says : Says s session a (Refused DiskFault) []
     pub appends : (log_after s session a (Refused DiskFault) []).next ≡ s.log.next + 1
 
-  -- a step was answered so, and led to the state in which the core is
-  pub record Moved (s : State) (session : ℕ) (a : Act) (said : Answer) (core : CoreState M) : Type 0 where
+  -- a step was answered so by these effects, and led to the state in which the core is
+  pub record Moved (s : State) (session : ℕ) (a : Act) (said : Answer) (effects : List Effect) (core : CoreState M) : Type 0 where
     pub after : State
     pub does : Step s session a said after
+    pub logged : after.log ≡ log_after s session a said effects
     pub stands : Stands core after

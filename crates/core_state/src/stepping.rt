@@ -1,5 +1,5 @@
 //! How a step begins and ends.
-ghost use Rattle.std.specs.Prelude.{◌≡◌, ◌<◌, ◌≤◌, ◌^◌, Some, None};
+ghost use Rattle.std.specs.Prelude.{◌≡◌, ◌<◌, ◌≤◌, ◌^◌, [], Some, None};
 ghost use Rattle.iv_types.specs.declared.limit.TheConstants.{MOST_SESSIONS};
 ghost use Rattle.txn_machine.specs.State.{State, Stop};
 ghost use Rattle.txn_machine.specs.Answers as answer;
@@ -52,7 +52,7 @@ impl<M: SortedMaps> CoreState<M> {
         requires steps { self.old.steps < 2 ^ 62 }
         requires few { (seat_at self.old.seats session).steps < 2 ^ 62 }
         requires removed { self.old.cleaner.removed < 2 ^ 62 }
-        ensures { (s : State) (a : Act) → May s session a → Told M.maps M.spare M.limit s session a (answer_of said.now) self.old → Moved M.maps M.spare M.limit s session a (answer_of said.now) self.new }
+        ensures { (s : State) (a : Act) → May s session a → (told : Told M.maps M.spare M.limit s session a (answer_of said.now) self.old) → Moved M.maps M.spare M.limit s session a (answer_of said.now) told.effects self.new }
     {
         self.steps += 1;
         let number = self.steps;
@@ -70,7 +70,7 @@ impl<M: SortedMaps> CoreState<M> {
         requires steps { self.old.steps < 2 ^ 62 }
         requires next { self.old.next < 2 ^ 63 }
         requires few { (seat_at self.old.seats session).steps < 2 ^ 62 }
-        ensures { (s : State) (a : Act) → May s session a → Failed M.maps M.spare M.limit s session a self.old → Moved M.maps M.spare M.limit s session a (answer.Refused refusal.DiskFault) self.new }
+        ensures { (s : State) (a : Act) → May s session a → Failed M.maps M.spare M.limit s session a self.old → Moved M.maps M.spare M.limit s session a (answer.Refused refusal.DiskFault) [] self.new }
     {
         let number = self.steps + 1;
         self.steps = number;
@@ -82,7 +82,7 @@ impl<M: SortedMaps> CoreState<M> {
     /// Answers a step of a core that is stopped: the session is told of it.
     pub fn tell_of_stop(&mut self, session: u32)
         requires { session ≤ MOST_SESSIONS }
-        ensures { (s : State) (stop : Stop) (a : Act) → May s session a → Stands M.maps M.spare M.limit self.old s → s.stop ≡ Some stop → Moved M.maps M.spare M.limit s session a (answer.Refused (refusal.Stopped stop.step)) self.new }
+        ensures { (s : State) (stop : Stop) (a : Act) → May s session a → Stands M.maps M.spare M.limit self.old s → s.stop ≡ Some stop → Moved M.maps M.spare M.limit s session a (answer.Refused (refusal.Stopped stop.step)) [] self.new }
     {
         self.seats.tell_of_stop(session);
     }

@@ -1,5 +1,6 @@
 pub mod Kept
 pub mod Cleanable
+pub mod Cleaned
 pub mod Removed
 pub mod Candidates
 pub mod Carried

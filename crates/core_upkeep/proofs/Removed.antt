@@ -25,7 +25,7 @@ use Rattle.txn_machine.specs.Ghosts.{the_views, account_of, IsCleanable, IsFirst
 use Rattle.txn_machine.specs.Keeping.{increments, idle}
 use Rattle.txn_machine.specs.Locks.{with_one}
 use Rattle.txn_machine.specs.Log.{Within, Above, logs, reserved}
-use Rattle.txn_machine.specs.Records.{group_bytes}
+use Rattle.txn_machine.specs.Records.{Clean, group_bytes}
 use Rattle.txn_machine.specs.State.{State}
 use Rattle.txn_machine.specs.Stored.{IsStoredRow, stored_number, zeros}
 use Rattle.txn_machine.specs.Store.{now, schema_of, committed, does, Cleans}
@@ -47,6 +47,9 @@ use Rattle.data_past.proofs.Aheads.{ahead_cleans}
 use Rattle.data_past.proofs.Effects.{past_cleans}
 use Rattle.data_room.specs.Reserved.{IsReserved}
 use Rattle.data_room.specs.declared.room.DataRoom.{DataRoom}
+use Rattle.log_records.specs.Spelling.{IsShort}
+use Rattle.log_disk.specs.Spelled.{in_bytes}
+use Rattle.record_lending.specs.Known.{ShortLaw}
 use Rattle.log_room.specs.Rooms.{IsRoomOf}
 use Rattle.log_room.specs.declared.room.LogRoom.{LogRoom}
 use Rattle.core_state.specs.Rooms.{HasRooms}
@@ -99,16 +102,22 @@ module _ {M : Type 0} (maps : M → ℕ → Map) (spare : M → ℕ → ℕ) (li
     unpaid = unpaid;
   }
 
+  limited : IsLimited (schema_of s.store)
+  limited = subst IsLimited h.holds.stored.objects h.holds.rooms.limited
+
   -- its key is short
   pub key_fits : length place.1 ≤ 1024
   key_fits =
-      let limited : IsLimited (schema_of s.store) = subst IsLimited h.holds.stored.objects h.holds.rooms.limited in
       let most = (limited.narrow place.0 (view row_is.of) row_is.view_is).0 in
       let bytes = (width_law _ row_is.group row_is.fits).1 in
       let same : length place.1 ≡ length (Rattle.iv_types.specs.Encoding.key_bytes _ row_is.group) = ap length row_is.key in
       omega (arith, most, bytes, same)
 
-  -- so the bytes of its record are told as they are
+  -- it is of a group of a view, so its record can be written
+  pub clean_short : ShortLaw → IsShort (in_bytes (schema_of s.store) (Clean place))
+  clean_short law = law (schema_of s.store) limited (Clean place) (record { of = row_is.of; view_is = row_is.view_is; group = row_is.group; fits = row_is.fits; key = row_is.key })
+
+  -- the bytes of its record are told as they are
   pub need_is : (need : ℕ) → need ≡ told_need (group_bytes place) → need ≡ group_bytes place
   need_is need is = let short = key_fits in omega (arith, is, short)
 
@@ -171,12 +180,15 @@ module _ {M : Type 0} (maps : M → ℕ → Map) (spare : M → ℕ → ℕ) (li
 
     pub removed_told : (new : CoreState M) (room : LogRoom) → Within core.log_room.limit (s.log.used + reserved s.store s.log + need) → Holds maps spare limit new (does the_views s.store 0 (Cleans place)) (logs s.store 0 act.Clean (Cleans place) s.log) s.definitions
         → new.data_room ≡ core.data_room → IsRoomOf room (does the_views s.store 0 (Cleans place)) (logs s.store 0 act.Clean (Cleans place) s.log) → AreUncounted core (record new { log_room = room }) → ((j : ℕ) → table.waiting_of new.locks j ≡ table.waiting_of core.locks j)
-        → Told maps spare limit s 0 act.Clean (answer.Cleaned 1) (record new { log_room = room })
-    removed_told new room fits holds same_data logged same others =
-        done_told maps spare limit core (record new { log_room = room }) s 0 h act.Clean (answer.Cleaned 1) (Cleans place ∷ [])
-        (place, first, refl, log_fits maps spare limit core s 0 h need (group_bytes place) is fits)
-        (log_holds maps spare limit new room (does the_views s.store 0 (Cleans place)) (logs s.store 0 act.Clean (Cleans place) s.log) s.definitions holds)
-        (record { data_room = removed_reserves maps spare limit core s h place first.is new.data_room same_data; log_room = logged }) same (λ js. others 0 ∙ h.own js) (λ j js n. others j ∙ h.waiting j js n) refl refl (omega arith) (omega arith)
+        → (told : Told maps spare limit s 0 act.Clean (answer.Cleaned 1) (record new { log_room = room })) × (told.effects ≡ Cleans place ∷ [])
+    unfolding done_told
+    removed_told new room fits holds same_data logged same others = (
+      done_told maps spare limit core (record new { log_room = room }) s 0 h act.Clean (answer.Cleaned 1) (Cleans place ∷ [])
+          (place, first, refl, log_fits maps spare limit core s 0 h need (group_bytes place) is fits)
+          (log_holds maps spare limit new room (does the_views s.store 0 (Cleans place)) (logs s.store 0 act.Clean (Cleans place) s.log) s.definitions holds)
+          (record { data_room = removed_reserves maps spare limit core s h place first.is new.data_room same_data; log_room = logged }) same (λ js. others 0 ∙ h.own js) (λ j js n. others j ∙ h.waiting j js n) refl refl (omega arith) (omega arith),
+      refl,
+    )
 
     -- there is room for it in any room that has the core's limit
     pub fits_exact : (room : LogRoom) → room ≡ core.log_room → Within core.log_room.limit (s.log.used + reserved s.store s.log + need) → Within room.limit (s.log.used + reserved s.store s.log + group_bytes place)

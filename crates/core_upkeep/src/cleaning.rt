@@ -1,8 +1,9 @@
 //! Clean.
-ghost use Rattle.std.specs.Prelude.{◌≡◌, ◌↔◌, ◌≤◌, None, true, IsTrue, IsSome, IfSome, length, take};
+ghost use Rattle.std.specs.Prelude.{◌≡◌, ◌↔◌, ◌≤◌, None, true, [], ◌∷◌, IsTrue, IsSome, IfSome, IfErr, OnOk, length, take};
 ghost use Rattle.iv_types.specs.declared.limit.TheConstants.{MOST_KEY_WIDTH};
 ghost use Rattle.table_laws.specs.Place.{Place};
 ghost use Rattle.txn_machine.specs.Acts as act;
+ghost use Rattle.txn_machine.specs.Answers.{Cleaned, Refused};
 ghost use Rattle.txn_machine.specs.Ghosts.{the_views, IsCleanable, IsFirstCleanable};
 ghost use Rattle.txn_machine.specs.Log.{logs};
 ghost use Rattle.txn_machine.specs.State.{State};
@@ -10,13 +11,16 @@ ghost use Rattle.txn_machine.specs.Store.{Cleans, does};
 ghost use Rattle.txn_book.specs.Acts.{answer_of};
 ghost use Rattle.data_store.specs.ViewPast.{view_of};
 ghost use Rattle.core_state.specs.Stands.{Began, Holds, Told};
+ghost use Rattle.core_recording.specs.Giving.{CanGive, Gave, Gives};
 ghost use Rattle.core_upkeep.specs.Cleaning.{IsUnlocked};
 
+use core_journal::Journal;
+use core_recording::give;
 use core_state::CoreState;
 use data_changes::remove_ghost;
-use iv_types::{Catalog, Definition, LockMode, MOST_KEY_WIDTH, SortedMaps};
+use iv_types::{Catalog, Definition, EngineRefusal, LockMode, MOST_KEY_WIDTH, SortedMaps};
 use lock_manager::LockTable;
-use record_lending::group_bytes;
+use record_lending::{clean_of, group_bytes, short_law};
 use txn_book::Answer;
 
 // Whether no session holds an Increment lock on the row of a place.
@@ -87,19 +91,49 @@ fn remove<M: SortedMaps>(core: &mut CoreState<M>, view: u32, group: &[u8])
     core.next += 1;
 }
 
-// Removes the row of the first place whose row may be removed, if the log has room for the record of it.
-fn clean_at<M: SortedMaps>(core: &mut CoreState<M>, view: u32, group: &[u8]) -> Answer
+// Removes the row of the first place whose row may be removed, or tells why the log has no room for the record of it.
+fn remove_first<M: SortedMaps>(
+    core: &mut CoreState<M>,
+    view: u32,
+    group: &[u8],
+) -> Result<(), EngineRefusal>
     requires { (s : State) × Began M.maps M.spare M.limit core.old s 0 × IsFirstCleanable s.store (view, group.now) }
-    ensures { (s : State) → Began M.maps M.spare M.limit core.old s 0 → IsFirstCleanable s.store (view, group.now) → Told M.maps M.spare M.limit s 0 act.Clean (answer_of result) core.new }
+    ensures ok { OnOk result ((s : State) → Began M.maps M.spare M.limit core.old s 0 → IsFirstCleanable s.store (view, group.now)
+        → (told : Told M.maps M.spare M.limit s 0 act.Clean (Cleaned 1) core.new) × (told.effects ≡ Cleans (view, group.now) ∷ [])) }
+    ensures err { IfErr result (λ why. (s : State) → Began M.maps M.spare M.limit core.old s 0 → IsFirstCleanable s.store (view, group.now) → Told M.maps M.spare M.limit s 0 act.Clean (Refused why) core.new) }
 {
     let need = group_bytes(view, group);
     match core.log_room.refusal(need) {
-        Some(why) => Answer::Refused(why),
+        Some(why) => Err(why),
         None => {
             remove(core, view, group);
             core.log_room.clean(need);
+            Ok(())
+        }
+    }
+}
+
+// Does so, and gives the record of it.
+#[tactic(none)]
+fn clean_at<M: SortedMaps, J: Journal>(
+    core: &mut CoreState<M>,
+    journal: &mut J,
+    view: u32,
+    group: &[u8],
+) -> Answer
+    requires { (q : CanGive M.maps M.spare M.limit J.has J.limit core.old journal.old 0 act.Clean) × IsFirstCleanable q.state.store (view, group.now) }
+    ensures gives { (s : State) → Began M.maps M.spare M.limit core.old s 0 → IsFirstCleanable s.store (view, group.now)
+        → Gave M.maps M.spare M.limit J.has J.limit s 0 act.Clean (answer_of result) core.old journal.old core.new journal.new }
+    ensures faults { J.faults journal.new ≡ J.faults journal.old }
+{
+    short_law();
+    let number = core.next;
+    match remove_first(core, view, group) {
+        Ok(()) => {
+            give(journal, number, clean_of(view, group));
             Answer::Cleaned(1)
         }
+        Err(why) => Answer::Refused(why),
     }
 }
 
@@ -114,14 +148,16 @@ fn key_of(bytes: &[u8]) -> [u8; MOST_KEY_WIDTH as usize]
 }
 
 /// Removes the first ghost, by its view's number and the bytes of its group, on which no pay is kept, which no session has locked and
-/// of which no version is kept, if there is one. It is refused where the log has no room for the record of that. Takes no memory.
-pub fn clean<M: SortedMaps>(core: &mut CoreState<M>) -> Answer
-    requires { (s : State) × Began M.maps M.spare M.limit core.old s 0 }
-    ensures told { (s : State) → Began M.maps M.spare M.limit core.old s 0 → Told M.maps M.spare M.limit s 0 act.Clean (answer_of result) core.new }
+/// of which no version is kept, if there is one, and gives the record of that to the journal. It is refused where the log has no room
+/// for the record. Takes no memory.
+pub fn clean<M: SortedMaps, J: Journal>(core: &mut CoreState<M>, journal: &mut J) -> Answer
+    requires { CanGive M.maps M.spare M.limit J.has J.limit core.old journal.old 0 act.Clean }
+    ensures gives { Gives M.maps M.spare M.limit J.has J.limit core.old journal.old 0 act.Clean (answer_of result) core.new journal.new }
+    ensures faults { J.faults journal.new ≡ J.faults journal.old }
 {
     let (view, width, key) = match first_cleanable(core) {
         Some((view, group)) => (view, group.len(), key_of(group)),
         None => return Answer::Cleaned(0),
     };
-    clean_at(core, view, &key[..width])
+    clean_at(core, journal, view, &key[..width])
 }

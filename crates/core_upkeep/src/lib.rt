@@ -1,4 +1,5 @@
-//! Acts that keep the core small: Clean, Prune, and Checkpoint of a core without a disk.
+//! Acts that keep the core small: Clean, with the record that it gives to the journal, Prune, and Checkpoint of a core without a disk,
+//! with which the journal begins anew.
 #![tactic(auto)]
 
 mod carrying;

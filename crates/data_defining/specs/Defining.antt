@@ -3,7 +3,7 @@
 -- What a definition makes of the contents of a store, and the entries that it begins with.
 use Rattle.std.specs.Prelude.{◌≡◌, ℕ, List, [], ◌∷◌, ◌++◌, map, Some}
 use Rattle.iv_types.specs.Maps.{Map}
-use Rattle.iv_types.specs.Definitions.{Definitions}
+use Rattle.iv_types.specs.Definitions.{Definitions, number_of}
 use Rattle.iv_types.specs.declared.catalog.Definition.{Definition}
 use Rattle.iv_types.specs.declared.catalog.Definition.TheVariants.{Table, Index, View}
 use Rattle.iv_types.specs.declared.catalog.ViewDef.{ViewDef}
@@ -63,3 +63,8 @@ pub record CanDefine (definitions : Definitions) (maps : ℕ → Map) (state : S
   pub unkept : (session : ℕ) → c.kept session ≡ []
   pub in_range : AreInRange (c.objects ++ object_of d ∷ []) c.rows
   pub first : AreFirst definitions maps c d es
+
+-- it stands last among the definitions, behind these, under this number
+pub record IsLast (definitions before : Definitions) (d : Definition) (number : ℕ) : Type 0 where
+  pub are : definitions ≡ before ++ d ∷ []
+  pub number_is : number ≡ number_of d

@@ -10,20 +10,36 @@ use Rattle.txn_machine.specs.Log.{Logged}
 use Rattle.txn_machine.specs.State.{State}
 use Rattle.txn_book.specs.Acts.{act_of, answer_of}
 use Rattle.txn_book.specs.Holding.{IsSame}
-use Rattle.txn_book.specs.Moves.{Moves, kept_count}
+use Rattle.txn_book.specs.Moves.{IsAskable, IsAsked, Moves, kept_count}
 use Rattle.txn_book.specs.Txns.{txn_of}
 use Rattle.txn_book.specs.declared.open_table.Open.{Open as BookOpen}
 use Rattle.txn_book.specs.declared.step.Step.{Step}
 use Rattle.txn_book.specs.declared.step.Answer.{Answer}
-use Rattle.core_state.specs.Stands.{Moved}
+use Rattle.ordered_index.specs.Tree.{Tree, map_of, spare_of, limit_of}
+use Rattle.core_journal.specs.NoJournal as no_journal
+use Rattle.core_journal.specs.Records.{Records}
+use Rattle.core_journal.specs.declared.none.NoJournal.{NoJournal}
+use Rattle.core_recording.specs.Giving.{IsBehind}
+use Rattle.core_state.specs.Stands.{Stands}
 use Rattle.core_effects.proofs.Counted.{many_same}
-use Rattle.engine_core.specs.Standing.{IsIn}
+use Rattle.engine_core.specs.Acting.{Recorded}
+use Rattle.engine_core.specs.Standing.{IsIn, IsInMemory}
 use Rattle.engine_core.specs.declared.engine.Core.{Core}
 
 -- a core without a disk moves as its state does
-pub moves_as : {M : Type 0} (maps : M → ℕ → Map) (spare : M → ℕ → ℕ) (limit : M → Option ℕ) (core : Core M) (s : State) (step : Step) (said : Answer) → Moved maps spare limit s step.session (act_of step.act) (answer_of said) core.state
-    → Moves (IsIn maps spare limit core) (λ db. ⊥) s step said
-moves_as maps spare limit core s step said m = record { after = m.after; does = m.does; stands = m.stands; durable = λ runs fine db no. absurd no }
+pub moves_as : {M J : Type 0} (maps : M → ℕ → Map) (spare : M → ℕ → ℕ) (limit : M → Option ℕ) (has : J → Records → Type 0) (area : J → Option ℕ) (core : Core M J) (s : State) (step : Step) (said : Answer) (rs : Records)
+    → Recorded maps spare limit has area s step.session (act_of step.act) (answer_of said) rs core.state core.journal → Moves (IsIn maps spare limit has area core) (λ db. ⊥) s step said
+moves_as maps spare limit has area core s step said rs r = record {
+  after = r.moved.after;
+  does = r.moved.does;
+  stands = record { stands = r.moved.stands; records = _; behind = r.behind };
+  durable = λ runs fine db no. absurd no;
+}
+
+-- a step that may be asked for may be done
+pub may_be_done : (core : Core Tree NoJournal) (step : Step) → IsAskable (IsInMemory core) step
+    → (s : State) × (rs : Records) × Stands map_of spare_of limit_of core.state s × IsBehind map_of spare_of limit_of no_journal.has_any no_journal.limit_of core.state core.journal s.log rs × IsAsked s step
+may_be_done core step q = (q.state, q.stands.records, q.stands.stands, q.stands.behind, q.asked)
 
 -- as many are kept in the book
 pub kept_as : (objects : Schema) (o : Option BookOpen) (m : Option Open) (l : Logged) → IsSame objects o m l → option_map (λ (t : BookOpen). length t.kept.items) o ≡ option_map kept_count m

@@ -1,6 +1,5 @@
--- What an act needs, and what is told where there was no memory for it.
-use Rattle.std.specs.Prelude.{◌≡◌, ℕ, Option, refl}
-use mathlib.Core.Path.{subst}
+-- What is told of an act for which there was no memory.
+use Rattle.std.specs.Prelude.{ℕ, Option, refl}
 use Rattle.iv_types.specs.Maps.{Map}
 use Rattle.iv_types.specs.declared.refusal.EngineRefusal.TheVariants.{NoMemory}
 use Rattle.txn_machine.specs.Acts as act
@@ -11,15 +10,8 @@ use Rattle.txn_machine.specs.Steps.{TakesMemory}
 use Rattle.core_state.specs.Stands.{Began, Told}
 use Rattle.core_state.proofs.Unchanged.{unchanged_told}
 use Rattle.core_state.specs.declared.state.CoreState.{CoreState}
-use Rattle.txn_book.specs.Acts.{act_of}
-use Rattle.txn_book.specs.declared.step.Act.{Act as BookAct}
-use Rattle.engine_core.specs.Acting.{CanDo}
 
 module _ {M : Type 0} (maps : M → ℕ → Map) (spare : M → ℕ → ℕ) (limit : M → Option ℕ) where
-  -- what an act needs, where it is this one
-  pub can_do : (core : CoreState M) (i : ℕ) (x y : BookAct) → x ≡ y → CanDo maps spare limit core i (act_of x) → CanDo maps spare limit core i (act_of y)
-  can_do core i x y e h = subst (λ (a : BookAct). CanDo maps spare limit core i (act_of a)) e h
-
   -- the answer where there was no memory
   pub no_memory_told : (core : CoreState M) (s : State) (i : ℕ) (a : Act) → TakesMemory a → Began maps spare limit core s i → Told maps spare limit s i a (answer.Refused NoMemory) core
   no_memory_told core s i (act.Begin mode) takes h = unchanged_told maps spare limit core s i (act.Begin mode) (answer.Refused NoMemory) h (tt, refl) refl refl refl refl

@@ -1,25 +1,29 @@
 -- No clause of `run` rests on this module: it serves contracts between crates.
 --
--- What an act of a step that has begun needs, and what it leaves.
-use Rattle.std.specs.Prelude.{ℕ, Option}
+-- What an act leaves for which there was no memory, and what a step leaves with its records.
+use Rattle.std.specs.Prelude.{◌≡◌, ◌⊎◌, ℕ, List, [], Option, IsSome}
 use Rattle.iv_types.specs.Maps.{Map}
 use Rattle.txn_machine.specs.Acts.{Act}
 use Rattle.txn_machine.specs.Answers.{Answer}
 use Rattle.txn_machine.specs.May.{MayAct}
 use Rattle.txn_machine.specs.State.{State}
-use Rattle.txn_machine.specs.Steps.{TakesMemory}
-use Rattle.core_state.specs.Stands.{Began, Told}
+use Rattle.txn_machine.specs.Steps.{Says, TakesMemory}
+use Rattle.txn_machine.specs.Store.{Effect}
+use Rattle.core_journal.specs.Records.{Records, records_after}
+use Rattle.core_recording.specs.Giving.{IsBehind}
+use Rattle.core_state.specs.Stands.{Began, Moved}
 use Rattle.core_state.specs.declared.state.CoreState.{CoreState}
 
 module _ {M : Type 0} (maps : M → ℕ → Map) (spare : M → ℕ → ℕ) (limit : M → Option ℕ) where
-  -- the session's step has begun in some state, and it may do the act there
-  abbrev pub CanDo : CoreState M → ℕ → Act → Type 0
-  CanDo core session a = (s : State) × Began maps spare limit core s session × MayAct s.store session a
-
-  -- the act is answered so, and the core holds what it leaves
-  abbrev pub Does : CoreState M → ℕ → Act → Answer → CoreState M → Type 0
-  Does core session a said after = (s : State) → Began maps spare limit core s session → MayAct s.store session a → Told maps spare limit s session a said after
-
   -- the act takes memory, and did nothing
   abbrev pub LacksMemory : CoreState M → ℕ → Act → CoreState M → Type 0
   LacksMemory core session a after = TakesMemory a × ((s : State) → Began maps spare limit core s session → MayAct s.store session a → Began maps spare limit after s session)
+
+module _ {M J : Type 0} (maps : M → ℕ → Map) (spare : M → ℕ → ℕ) (limit : M → Option ℕ) (has : J → Records → Type 0) (area : J → Option ℕ) where
+  -- A step was answered so, and led to the state in which the core is; its journal has the records of these effects beside those that
+  -- it had. They are the effects of the answer; a core that is stopped tells so, and does nothing.
+  pub record Recorded (s : State) (session : ℕ) (a : Act) (said : Answer) (rs : Records) (core : CoreState M) (journal : J) : Type 0 where
+    pub effects : List Effect
+    pub says : Says s session a said effects ⊎ (IsSome s.stop × (effects ≡ []))
+    pub moved : Moved maps spare limit s session a said effects core
+    pub behind : IsBehind maps spare limit has area core journal moved.after.log (records_after s session a said effects rs)

@@ -5,13 +5,24 @@ use Rattle.std.specs.Prelude.{ℕ, ◌<◌, ◌^◌, Option}
 use Rattle.std.proofs.Common.{arith}
 use Rattle.iv_types.specs.Maps.{Map}
 use Rattle.txn_machine.specs.State.{State}
+use Rattle.ordered_index.specs.Tree.{Tree, map_of, spare_of, limit_of}
+use Rattle.core_journal.specs.NoJournal as no_journal
+use Rattle.core_journal.specs.Records.{Records}
+use Rattle.core_journal.specs.declared.none.NoJournal.{NoJournal}
+use Rattle.core_recording.specs.Giving.{IsBehind}
 use Rattle.core_state.specs.Stands.{Stands}
 use Rattle.engine_core.specs.declared.engine.Core.{Core}
 
-module _ {M : Type 0} (maps : M → ℕ → Map) (spare : M → ℕ → ℕ) (limit : M → Option ℕ) where
-  -- that of what it holds
-  abbrev pub IsIn : Core M → State → Type 0
-  IsIn core s = Stands maps spare limit core.state s
+module _ {M J : Type 0} (maps : M → ℕ → Map) (spare : M → ℕ → ℕ) (limit : M → Option ℕ) (has : J → Records → Type 0) (area : J → Option ℕ) where
+  -- that of what it holds, of whose log its journal has the records
+  pub record IsIn (core : Core M J) (s : State) : Type 0 where
+    pub stands : Stands maps spare limit core.state s
+    pub records : Records
+    pub behind : IsBehind maps spare limit has area core.state core.journal s.log records
+
+-- the same of a core without a disk, whose maps are trees of pages
+abbrev pub IsInMemory : Core Tree NoJournal → State → Type 0
+IsInMemory core s = IsIn map_of spare_of limit_of no_journal.has_any no_journal.limit_of core s
 
 -- a count of no faults is a u64
 pub none_below : 0 < 2 ^ 64

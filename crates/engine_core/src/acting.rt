@@ -1,27 +1,35 @@
 //! What a step does: its act.
-ghost use Rattle.std.specs.Prelude.{◌≡◌, false, None, IfOk, OnErr};
-ghost use Rattle.txn_machine.specs.Acts as machine;
+ghost use Rattle.std.specs.Prelude.{◌≡◌, None, IfOk, OnErr};
 ghost use Rattle.txn_machine.specs.State.{State, is_fault};
 ghost use Rattle.txn_book.specs.Acts.{act_of, answer_of};
-ghost use Rattle.txn_book.specs.Moves.{IsAsked};
-ghost use Rattle.core_state.specs.Stands.{Stands, Moved};
-ghost use Rattle.engine_core.specs.Acting.{CanDo, Does, LacksMemory};
+ghost use Rattle.txn_book.specs.Moves.{CountsFault, IsAsked};
+ghost use Rattle.core_journal.specs.Records.{Records};
+ghost use Rattle.core_recording.specs.Giving.{CanGive, IsBehind, MayGiveUp};
+ghost use Rattle.core_state.specs.Stands.{Stands};
+ghost use Rattle.engine_core.specs.Acting.{LacksMemory, Recorded};
 
-use core_changes::put;
-use core_ends::{begin, cancel, commit, end};
-use core_pays::{make_ghost, pay, undo_one};
+use core_ends::{begin, cancel};
+use core_journal::Journal;
 use core_reads::{defs, fetch, peek};
+use core_recording::{commit, end, make_ghost, pay, put, undo_one};
 use core_schema::define;
 use core_state::CoreState;
 use core_upkeep::{clean, prune, save};
 use iv_types::{EngineRefusal, NoMemory, SortedMaps};
 use txn_book::{Act, Answer, Step};
 
-// Does an act. It fails only where it takes memory and there is none, and nothing is changed then.
-fn act<M: SortedMaps>(core: &mut CoreState<M>, session: u32, act: &Act) -> Result<Answer, NoMemory>
-    requires { CanDo M.maps M.spare M.limit core.old session (act_of act.now) }
-    ensures told { IfOk result (λ said. Does M.maps M.spare M.limit core.old session (act_of act.now) (answer_of said) core.new) }
+// Does an act, and gives its records to the journal. It fails only where it takes memory and there is none, and nothing is changed then.
+fn act<M: SortedMaps, J: Journal>(
+    core: &mut CoreState<M>,
+    journal: &mut J,
+    session: u32,
+    act: &Act,
+) -> Result<Answer, NoMemory>
+    requires { CanGive M.maps M.spare M.limit J.has J.limit core.old journal.old session (act_of act.now) }
+    ensures gives { IfOk result (λ said. MayGiveUp M.maps M.spare M.limit J.has J.limit core.old journal.old session (act_of act.now) (answer_of said) core.new journal.new) }
+    ensures faults { IfOk result (λ said. CountsFault said (J.faults journal.old) (J.faults journal.new)) }
     ensures err { OnErr result (LacksMemory M.maps M.spare M.limit core.old session (act_of act.now) core.new) }
+    ensures ungiven { OnErr result (journal.new ≡ journal.old) }
 {
     match act {
         Act::Begin(mode) => begin(core, session, *mode),
@@ -32,54 +40,78 @@ fn act<M: SortedMaps>(core: &mut CoreState<M>, session: u32, act: &Act) -> Resul
             mode,
         } => fetch(core, session, *index, interval, *mode),
         Act::Peek { index, interval } => peek(core, session, *index, interval),
-        Act::Put { table, key, new } => put(core, session, *table, key, new),
-        Act::Pay => Ok(pay(core, session)),
-        Act::Ghost => make_ghost(core, session),
-        Act::UndoOne => Ok(undo_one(core, session)),
-        Act::End => Ok(end(core, session)),
-        Act::Commit => Ok(commit(core, session)),
-        Act::Schema(statement) => define(core, session, statement),
-        Act::Clean => Ok(clean(core)),
+        Act::Put { table, key, new } => put(core, journal, session, *table, key, new),
+        Act::Pay => Ok(pay(core, journal, session)),
+        Act::Ghost => make_ghost(core, journal, session),
+        Act::UndoOne => Ok(undo_one(core, journal, session)),
+        Act::End => Ok(end(core, journal, session)),
+        Act::Commit => Ok(commit(core, journal, session)),
+        Act::Schema(statement) => define(core, journal, session, statement),
+        Act::Clean => Ok(clean(core, journal)),
         Act::Prune => Ok(prune(core)),
-        Act::Checkpoint => Ok(save(core)),
+        Act::Checkpoint => Ok(save(core, journal)),
         Act::Cancel => Ok(cancel(core, session)),
     }
 }
 
 // Does an act, and answers it; a want of memory is an answer too.
-fn answer<M: SortedMaps>(core: &mut CoreState<M>, session: u32, asked: &Act) -> Answer
-    requires { CanDo M.maps M.spare M.limit core.old session (act_of asked.now) }
-    ensures { Does M.maps M.spare M.limit core.old session (act_of asked.now) (answer_of result) core.new }
+fn answer<M: SortedMaps, J: Journal>(
+    core: &mut CoreState<M>,
+    journal: &mut J,
+    session: u32,
+    asked: &Act,
+) -> Answer
+    requires { CanGive M.maps M.spare M.limit J.has J.limit core.old journal.old session (act_of asked.now) }
+    ensures gives { MayGiveUp M.maps M.spare M.limit J.has J.limit core.old journal.old session (act_of asked.now) (answer_of result) core.new journal.new }
+    ensures faults { CountsFault result (J.faults journal.old) (J.faults journal.new) }
 {
-    match act(core, session, asked) {
+    match act(core, journal, session, asked) {
         Ok(said) => said,
         Err(NoMemory) => Answer::Refused(EngineRefusal::NoMemory),
     }
 }
 
-// Does a step of a core that is not stopped: the session waits for nothing any more, the act is answered, and the step counted.
-fn run<M: SortedMaps>(core: &mut CoreState<M>, step: &Step) -> Answer
-    requires { (s : State) × Stands M.maps M.spare M.limit core.old s × (s.stop ≡ None) × IsAsked s step.now }
-    ensures moved { (s : State) → Stands M.maps M.spare M.limit core.old s → s.stop ≡ None → IsAsked s step.now → Moved M.maps M.spare M.limit s step.now.session (act_of step.now.act) (answer_of result) core.new }
-    ensures fine { is_fault (answer_of result) ≡ false }
+// Whether an answer tells that the disk failed.
+fn tells_fault(said: &Answer) -> bool
+    ensures { result ≡ is_fault (answer_of said.now) }
+{
+    matches!(said, Answer::Refused(EngineRefusal::DiskFault))
+}
+
+// Does a step of a core that is not stopped: the session waits for nothing any more, the act is answered, and the step counted. A
+// step at which the disk failed stops the core.
+fn run<M: SortedMaps, J: Journal>(core: &mut CoreState<M>, journal: &mut J, step: &Step) -> Answer
+    requires { (s : State) × (rs : Records) × Stands M.maps M.spare M.limit core.old s × IsBehind M.maps M.spare M.limit J.has J.limit core.old journal.old s.log rs × (s.stop ≡ None) × IsAsked s step.now }
+    ensures recorded { (s : State) (rs : Records) → Stands M.maps M.spare M.limit core.old s → IsBehind M.maps M.spare M.limit J.has J.limit core.old journal.old s.log rs → s.stop ≡ None → IsAsked s step.now
+        → Recorded M.maps M.spare M.limit J.has J.limit s step.now.session (act_of step.now.act) (answer_of result) rs core.new journal.new }
+    ensures faults { CountsFault result (J.faults journal.old) (J.faults journal.new) }
 {
     core.open_step(step.session);
-    let said = answer(core, step.session, &step.act);
-    core.close_step(step.session, &said);
+    let said = answer(core, journal, step.session, &step.act);
+    if tells_fault(&said) {
+        core.fail_step(step.session);
+    } else {
+        core.close_step(step.session, &said);
+    }
     said
 }
 
-/// Does a step: of a core that is stopped the session is told so.
-pub fn do_one<M: SortedMaps>(core: &mut CoreState<M>, step: &Step) -> Answer
-    requires { (s : State) × Stands M.maps M.spare M.limit core.old s × IsAsked s step.now }
-    ensures moved { (s : State) → Stands M.maps M.spare M.limit core.old s → IsAsked s step.now → Moved M.maps M.spare M.limit s step.now.session (act_of step.now.act) (answer_of result) core.new }
-    ensures fine { is_fault (answer_of result) ≡ false }
+/// Does a step, and gives its records to the journal: of a core that is stopped the session is told so.
+pub fn do_one<M: SortedMaps, J: Journal>(
+    core: &mut CoreState<M>,
+    journal: &mut J,
+    step: &Step,
+) -> Answer
+    requires { (s : State) × (rs : Records) × Stands M.maps M.spare M.limit core.old s × IsBehind M.maps M.spare M.limit J.has J.limit core.old journal.old s.log rs × IsAsked s step.now }
+    ensures recorded { (s : State) (rs : Records) → Stands M.maps M.spare M.limit core.old s → IsBehind M.maps M.spare M.limit J.has J.limit core.old journal.old s.log rs → IsAsked s step.now
+        → Recorded M.maps M.spare M.limit J.has J.limit s step.now.session (act_of step.now.act) (answer_of result) rs core.new journal.new }
+    ensures faults { CountsFault result (J.faults journal.old) (J.faults journal.new) }
 {
     match core.stop {
         Some(number) => {
             core.tell_of_stop(step.session);
             Answer::Refused(EngineRefusal::Stopped(number))
         }
-        None => run(core, step),
+        None => run(core, journal, step),
     }
 }

@@ -2,31 +2,34 @@
 ghost use Rattle.std.specs.Prelude.{◌≡◌, ◌+◌, ◌<◌, ◌^◌, [], Some, IfOk};
 ghost use mathlib.Core.Path.{sym, ap};
 ghost use Rattle.std.specs.FinMap.{empty};
+ghost use Rattle.core_journal.specs.Records.{restarted};
 ghost use Rattle.core_state.specs.Stands.{limited};
 ghost use Rattle.data_store.specs.Held.{AreEmpty};
-ghost use Rattle.ordered_index.specs.Tree.{map_of, spare_of, limit_of};
 ghost use Rattle.txn_machine.specs.Log.{Within, block_bytes};
 ghost use Rattle.txn_machine.specs.State.{opened_state};
 ghost use Rattle.txn_machine.specs.Store.{opened};
-ghost use Rattle.engine_core.specs.Standing.{IsIn, none_below};
+ghost use Rattle.engine_core.specs.Standing.{IsIn, IsInMemory, none_below};
 
 use crate::acting::do_one;
+use core_journal::{Journal, NoJournal};
 use core_state::CoreState;
 use iv_types::{NoMemory, SEATS, SortedMaps};
 use ordered_index::PageMaps;
 use std::alloc::Global;
 use txn_book::{Answer, LastRefusal, Step, Stepper};
 
-/// The core of the engine: what it stores in these maps, its open transactions, locks and history. It has no disk, so that no
-/// fault is told, and nothing of what a crash leaves.
+/// The core of the engine: what it stores in these maps, its open transactions, locks and history, and the journal to which each step
+/// gives its records.
 #[derive(Drop)]
-pub struct Core<M: SortedMaps> {
+pub struct Core<M: SortedMaps, J: Journal> {
     state: CoreState<M>,
+    journal: J,
 }
 
-impl<M: SortedMaps> Core<M> {
+impl<M: SortedMaps, J: Journal + Drop> Core<M, J> {
     /// A core on a database that defines nothing, whose greatest commit number is this one, over maps without an entry
-    /// and with this limit of what the data count. An area of its log takes so many bytes, where there is such a limit.
+    /// and with this limit of what the data count. Its journal has no record, and an area of its log takes so many bytes, where
+    /// there is such a limit.
     ///
     /// # Errors
     ///
@@ -34,18 +37,22 @@ impl<M: SortedMaps> Core<M> {
     pub fn new(
         alloc: Global,
         maps: M,
+        journal: J,
         log: Option<u32>,
         most: u32,
         number: u64,
     ) -> Result<Self, NoMemory>
         requires empty { AreEmpty (M.maps maps) }
-        requires log { Within log (block_bytes + 1) }
+        requires unrecorded { J.has journal (restarted (block_bytes + 1)) }
+        requires log { J.limit journal ≡ log }
+        requires least { Within log (block_bytes + 1) }
         requires data { M.limit maps ≡ Some most }
         requires number { number < 2 ^ 63 }
-        ensures { IfOk result (λ core. IsIn M.maps M.spare M.limit core (opened_state (limited log (Some most)) (opened (record { number = number; schema = []; rows = empty }) empty))) }
+        ensures { IfOk result (λ core. IsIn M.maps M.spare M.limit J.has J.limit core (opened_state (limited log (Some most)) (opened (record { number = number; schema = []; rows = empty }) empty))) }
     {
         Ok(Core {
             state: CoreState::new(alloc, maps, log, most, number)?,
+            journal,
         })
     }
 
@@ -57,8 +64,9 @@ impl<M: SortedMaps> Core<M> {
     }
 }
 
-impl Stepper for Core<PageMaps> {
-    ghost stands = { IsIn map_of spare_of limit_of };
+// A core without a disk, so that no fault is told, and nothing of what a crash leaves.
+impl Stepper for Core<PageMaps, NoJournal> {
+    ghost stands = { IsInMemory };
 
     ghost faults = { λ _. 0 };
 
@@ -68,9 +76,9 @@ impl Stepper for Core<PageMaps> {
 
     ghost recovered_since = { λ _ _ _. ⊥ };
 
-    ghost is_reached = { λ _ _ stands. stands.reached };
+    ghost is_reached = { λ _ _ stands. stands.stands.reached };
 
-    ghost runs_well = { λ _ _ stands _. sym (ap (λ o. o.faults) stands.opening.is) };
+    ghost runs_well = { λ _ _ stands _. sym (ap (λ o. o.faults) stands.stands.opening.is) };
 
     ghost keeps_all = { λ _ _ _ _ _ no. absurd no };
 
@@ -82,8 +90,9 @@ impl Stepper for Core<PageMaps> {
 
     ghost counts_in = { λ _. none_below };
 
+    #[tactic(auto, using(crate::proofs::Steps::may_be_done))]
     fn step(&mut self, step: &Step) -> Answer {
-        do_one(&mut self.state, step)
+        do_one(&mut self.state, &mut self.journal, step)
     }
 
     fn steps_done(&self) -> u64 {

@@ -8,4 +8,4 @@ mod law;
 mod room;
 
 pub use law::same_room_law;
-pub use room::{END_BYTES, LogRoom};
+pub use room::{EMPTY_LOG, END_BYTES, LogRoom};

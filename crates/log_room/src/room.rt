@@ -26,8 +26,8 @@ use iv_types::EngineRefusal;
 // A block's gate and its length.
 const BLOCK_BYTES: u64 = 5;
 
-// An empty block, and the gate of the next.
-const EMPTY_LOG: u64 = 6;
+/// What a log uses that has an empty block: that block, and the gate of the next.
+pub const EMPTY_LOG: u64 = 6;
 
 /// What a serial transaction reserves for its end: its Commit with the end of a block.
 pub const END_BYTES: u64 = 40;

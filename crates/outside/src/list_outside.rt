@@ -1,5 +1,6 @@
 //! An outside in memory, for tests.
 ghost use Rattle.std.specs.Prelude.{◌≡◌, ◌≢◌, ◌+◌, ◌<◌, ◌≤◌, ◌^◌, ◌⊎◌, ℕ, List, [], Option, Some, None, IfOk, OnOk, OnErr, replicate, vec_len, vec_capacity, MatchOption};
+ghost use Rattle.outside.specs.Closed.{times_in, times_open};
 ghost use Rattle.outside.specs.Places.{places_out};
 
 use crate::closed::ClosedDisk;
@@ -24,6 +25,7 @@ pub struct ListOutside {
     faults: u64,
     ghost counts: { faults < 2 ^ 64 },
     ghost has_place: { vec_len closed + places_out opened ≤ vec_capacity closed },
+    ghost once: { (name : List ℕ) → times_in closed.items name + times_open opened name ≤ 1 },
 }
 
 impl ListOutside {
@@ -109,10 +111,12 @@ impl Outside for ListOutside {
 
     ghost counts_in = { λ o. o.counts };
 
+    #[tactic(auto, using(crate::proofs::Closings::times_none, crate::proofs::Closings::still_once))]
     fn open_disk(&mut self, _alloc: Global, name: &str) -> Result<ListDisk, Unmade>
         ensures count { IfOk result (λ disk. faults_since disk ≡ 0) }
         ensures opened { Unit {0} → IfOk result (λ disk. ReadsAsBefore ⟦<ListDisk as Disk>⟧.size_of ⟦<ListDisk as Disk>⟧.seen ⟦<ListDisk as Disk>⟧.may_leave (lies_of self.old name.now) disk) }
         ensures opened_as { Unit {0} → OnOk result (open_of self.new ≡ Some name.now) }
+        ensures nothing_else { Unit {0} → OnOk result (lies_of self.new name.now ≡ None) }
         ensures others { Unit {0} → OnOk result (OthersStay name.now (lies_of self.old) (lies_of self.new)) }
         ensures lie { Unit {0} → OnErr result ((name : List ℕ) → lies_of self.new name ≡ lies_of self.old name) }
         ensures opened_as_err { Unit {0} → OnErr result (open_of self.new ≡ open_of self.old) }
@@ -135,11 +139,13 @@ impl Outside for ListOutside {
         Ok(disk.reopened())
     }
 
+    #[tactic(auto, using(crate::proofs::Closings::times_none, crate::proofs::Closings::still_once))]
     fn make_disk(&mut self, alloc: Global, name: &str, bytes: u64) -> Result<ListDisk, Unmade>
         ensures count { IfOk result (λ disk. faults_since disk ≡ 0) }
         ensures size { IfOk result (λ disk. ⟦<ListDisk as Disk>⟧.size_of disk ≡ bytes) }
         ensures zeros { Unit {0} → IfOk result (λ disk. ⟦<ListDisk as Disk>⟧.seen disk ≡ replicate bytes 0) }
         ensures opened_as { Unit {0} → OnOk result (open_of self.new ≡ Some name.now) }
+        ensures nothing_else { Unit {0} → OnOk result (lies_of self.new name.now ≡ None) }
         ensures others { Unit {0} → OthersStay name.now (lies_of self.old) (lies_of self.new) }
         ensures opened_as_err { Unit {0} → OnErr result (open_of self.new ≡ open_of self.old) }
         ensures cause { CountsUnmade result (faults_of self.old) (faults_of self.new) }
@@ -167,6 +173,7 @@ impl Outside for ListOutside {
         ensures closed { Unit {0} → (name : List ℕ) → open_of self.old ≡ Some name → lies_of self.new name ≡ Some disk }
         ensures opened_as { Unit {0} → open_of self.new ≡ None }
         ensures others { Unit {0} → (name : List ℕ) → open_of self.old ≡ Some name → OthersStay name (lies_of self.old) (lies_of self.new) }
+        ensures lie { Unit {0} → open_of self.old ≡ None → (name : List ℕ) → lies_of self.new name ≡ lies_of self.old name }
         ensures cause { CountsClosed (faults_since disk) (faults_of self.old) (faults_of self.new) }
         ensures calls { calls_of self.new ≡ calls_of self.old }
         ensures settings { KeepsSettings self.old self.new }

@@ -14,7 +14,7 @@ pub trait Outside {
     /// Holds where the outside tells which disk lies under a name.
     ghost is_told: { Type 0 };
 
-    /// The disk that lies under a name, where one lies there and it is told.
+    /// The disk that lies under a name, where one lies there and it is told. Of one that is open it is not.
     ghost lies: { Self → List ℕ → Option Self.Disk };
 
     /// The name of the disk that was opened or made last, until a disk is closed.
@@ -24,7 +24,7 @@ pub trait Outside {
     ghost faults: { Self → ℕ };
 
     /// Opens the disk that lies under a name: it reads as it did, and a crash leaves nothing else of it. Its own count of faults
-    /// begins at 0.
+    /// begins at 0. While it is open, no other lies there.
     ///
     /// # Errors
     ///
@@ -34,12 +34,13 @@ pub trait Outside {
         ensures count { IfOk result (λ disk. Self.Disk.faults disk ≡ 0) }
         ensures opened { is_told → IfOk result (λ disk. ReadsAsBefore Self.Disk.size_of Self.Disk.seen Self.Disk.may_leave (lies self.old name.now) disk) }
         ensures opened_as { is_told → OnOk result (opened_as self.new ≡ Some name.now) }
+        ensures nothing_else { is_told → OnOk result (lies self.new name.now ≡ None) }
         ensures others { is_told → OnOk result (OthersStay name.now (lies self.old) (lies self.new)) }
         ensures lie { is_told → OnErr result ((name : List ℕ) → lies self.new name ≡ lies self.old name) }
         ensures opened_as_err { is_told → OnErr result (opened_as self.new ≡ opened_as self.old) }
         ensures cause { CountsUnmade result (faults self.old) (faults self.new) };
 
-    /// Makes a disk of so many zeros under a name, in place of one that lies there.
+    /// Makes a disk of so many zeros under a name, in place of one that lies there: while it is open, no other does.
     ///
     /// # Errors
     ///
@@ -50,16 +51,18 @@ pub trait Outside {
         ensures size { IfOk result (λ disk. Self.Disk.size_of disk ≡ bytes) }
         ensures zeros { Self.Disk.is_told → IfOk result (λ disk. Self.Disk.seen disk ≡ replicate bytes 0) }
         ensures opened_as { is_told → OnOk result (opened_as self.new ≡ Some name.now) }
+        ensures nothing_else { is_told → OnOk result (lies self.new name.now ≡ None) }
         ensures others { is_told → OthersStay name.now (lies self.old) (lies self.new) }
         ensures opened_as_err { is_told → OnErr result (opened_as self.new ≡ opened_as self.old) }
         ensures cause { CountsUnmade result (faults self.old) (faults self.new) };
 
-    /// Closes a disk, which then lies under the name that was opened or made last. The count of faults rises exactly where the
-    /// disk's count is above 0.
+    /// Closes a disk, which then lies under the name that was opened or made last; where there is none, each name is as before. The
+    /// count of faults rises exactly where the disk's count is above 0.
     fn close_disk(&mut self, disk: Self::Disk)
         ensures closed { is_told → (name : List ℕ) → opened_as self.old ≡ Some name → lies self.new name ≡ Some disk }
         ensures opened_as { is_told → opened_as self.new ≡ None }
         ensures others { is_told → (name : List ℕ) → opened_as self.old ≡ Some name → OthersStay name (lies self.old) (lies self.new) }
+        ensures lie { is_told → opened_as self.old ≡ None → (name : List ℕ) → lies self.new name ≡ lies self.old name }
         ensures cause { CountsClosed (Self.Disk.faults disk) (faults self.old) (faults self.new) };
 
     /// The count of faults is a `u64`, so it never falls.

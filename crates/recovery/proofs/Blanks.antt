@@ -2,12 +2,13 @@
 -- database.
 use Rattle.std.proofs.Common.{◌≡◌, ℕ, zero, suc, ◌*◌, ◌≤◌, Bool, false, if◌then◌else◌, List, [], ◌∷◌, ◌++◌, map, length, get_or, replicate, Option, None, Some, refl, sym, ap, subst, ◌∙◌, arith}
 use Rattle.std.specs.List.{range_with_len}
+use Rattle.std.specs.Prelude.{IsSomeAnd}
 use Rattle.std.proofs.lemmas.List.{length-replicate}
 use Rattle.disk_io.specs.Disk.{part, splice}
 use Rattle.disk_io.specs.Bytes.{length-splice, byte-splice_before, byte-splice_in}
 use Rattle.page_store.specs.declared.facts.HeaderFacts.{HeaderFacts}
-use Rattle.page_store.specs.Image.{live}
-use Rattle.page_store.specs.Publish.{IsFirstBlock, IsNew, page_if, stored_pages}
+use Rattle.page_store.specs.Image.{Image, live, image}
+use Rattle.page_store.specs.Publish.{IsFirstBlock, IsNew, new_image, page_if, stored_pages}
 use Rattle.page_store.proofs.Old.{shut_closed, none_open}
 use Rattle.log_records.specs.Area.{block}
 use Rattle.wal_log.specs.Log.{new_log}
@@ -16,7 +17,7 @@ use Rattle.log_disk.specs.Bears.{Bears}
 use Rattle.log_disk.specs.Calls.{Saves, first_block}
 use Rattle.log_disk.proofs.Blank.{AreNone, bare, none_stored}
 use Rattle.log_disk.proofs.Fresh.{new_bears}
-use Rattle.recovery.specs.Formatted.{blank}
+use Rattle.recovery.specs.Formatted.{blank, IsFirst}
 
 pub gates_closed : (s one both : List ℕ) → 278528 ≤ length s → one ≡ splice 0 (0 ∷ []) s → both ≡ splice 139264 (0 ∷ []) one → live both ≡ None
 gates_closed s one both long first second = none_open both (shut_closed 0 both (λ e. absurd (omega (arith, e, zero_first)))) (shut_closed 1 both (λ e. absurd (omega (arith, e, zero_second))))
@@ -72,3 +73,9 @@ blank_bears room count bytes c least new = new_bears room count bare [] 1 (new_l
       short = omega arith;
       block_fits = omega (arith, least, ap length six_bytes);
     }
+
+pub first_header : (room count : ℕ) (block bytes c : List ℕ) → IsNew room first_facts block (replicate count false) bytes c → IsSomeAnd (image room count c) IsFirst
+first_header room count block bytes c new = subst (λ (o : Option Image). IsSomeAnd o IsFirst) (sym means) (record { number = refl; next_entry = refl; area = refl; no_pages = none_of count bytes })
+  where
+    means : image room count c ≡ Some (new_image room first_facts block (replicate count false) bytes new.map new.log)
+    means = ap (λ (n : ℕ). image room n c) (sym (length-replicate count false)) ∙ new.means

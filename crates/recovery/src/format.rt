@@ -1,11 +1,12 @@
 //! A new database on a disk.
-ghost use Rattle.std.specs.Prelude.{◌≡◌, ◌+◌, ◌*◌, ◌≤◌, false, None, OnOk, replicate};
+ghost use Rattle.std.specs.Prelude.{◌≡◌, ◌+◌, ◌*◌, ◌≤◌, false, None, Err, OnOk, IsSomeAnd, replicate};
 ghost use Rattle.disk_io.specs.Disk.{Only, CountsFault};
-ghost use Rattle.page_store.specs.Image.{live};
+ghost use Rattle.page_store.specs.Image.{live, image};
 ghost use Rattle.page_store.specs.Store.{stored_flags};
 ghost use Rattle.wal_log.specs.Log.{new_log};
 ghost use Rattle.log_disk.specs.Bears.{Bears};
-ghost use Rattle.recovery.specs.Formatted.{IsGeometry, FormatFaults, area_bytes, blank, disk_size};
+ghost use Rattle.recovery.specs.Formatted.{IsGeometry, IsFirst, FormatFaults, area_bytes, blank, disk_size};
+ghost use Rattle.recovery.specs.declared.format.FormatFault.TheVariants as FormatFault;
 
 use disk_io::Disk;
 use iv_types::{DiskFault, FORMAT, Failed};
@@ -66,6 +67,7 @@ fn publish_blank<D: Disk>(
     requires log { log.now ≡ new_log (area_bytes log_kib) }
     requires none { D.is_told → live (D.seen disk.old) ≡ None }
     ensures blank { D.is_told → OnOk result (Bears (area_bytes log_kib) pages (D.seen disk.new) blank) }
+    ensures header { D.is_told → OnOk result (IsSomeAnd (image (area_bytes log_kib) pages (D.seen disk.new)) IsFirst) }
     ensures durable { D.is_told → OnOk result (Only (D.seen disk.new) (D.may_leave disk.new)) }
     ensures size { D.size_of disk.new ≡ D.size_of disk.old }
     ensures cause { CountsFault result (D.faults disk.old) (D.faults disk.new) }
@@ -81,12 +83,13 @@ fn publish_blank<D: Disk>(
 }
 
 /// Makes a new database of a disk, whatever it has: no definitions, and commit number 0. It has so many pages, 512 to 131,072,
-/// and two log areas of so many KiB, 64 to 262,144.
+/// and two log areas of so many KiB, 64 to 262,144. Its first header has the number 1, and so has its next record; its log is in
+/// area 0, and no page is stored.
 ///
 /// # Errors
 ///
-/// `DiskFault` exactly where the disk's count of faults rises; what the disk then has is no database. `NoMemory` where there
-/// is none for the pages and the log; nothing is written then.
+/// `DiskFault` exactly where the disk's count of faults rises; of what the disk then has nothing is said. `NoMemory` where there
+/// is none for the pages and the log; the disk is as before then, since no call of it was made.
 pub fn format_disk<D: Disk>(
     alloc: Global,
     disk: &mut D,
@@ -96,8 +99,10 @@ pub fn format_disk<D: Disk>(
     requires geometry { IsGeometry pages log_kib }
     requires size { D.size_of disk.old ≡ disk_size pages log_kib }
     ensures blank { D.is_told → OnOk result (Bears (area_bytes log_kib) pages (D.seen disk.new) blank) }
+    ensures header { D.is_told → OnOk result (IsSomeAnd (image (area_bytes log_kib) pages (D.seen disk.new)) IsFirst) }
     ensures durable { D.is_told → OnOk result (Only (D.seen disk.new) (D.may_leave disk.new)) }
     ensures size { D.size_of disk.new ≡ D.size_of disk.old }
+    ensures untouched { result ≡ Err FormatFault.NoMemory → disk.new ≡ disk.old }
     ensures cause { FormatFaults result (D.faults disk.old) (D.faults disk.new) }
 {
     let Ok(mut store) = PageStore::new(alloc, pages) else {

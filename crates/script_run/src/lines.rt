@@ -1,5 +1,5 @@
 //! The lines of a source.
-ghost use Rattle.std.specs.Prelude.{◌≡◌, ◌≢◌, ◌++◌, ◌∷◌, ◌≤◌, ℕ, List, OnOk, OnErr, IsErr, Some};
+ghost use Rattle.std.specs.Prelude.{◌≡◌, ◌≢◌, ◌++◌, ◌∷◌, ◌≤◌, ℕ, true, List, [], OnOk, OnErr, IsErr, Some};
 ghost use Rattle.iv_types.specs.Faults.{CountsFault};
 ghost use Rattle.iv_meaning.specs.Database.{Database};
 ghost use Rattle.iv_meaning.specs.Said.{Said, too_long, Says};
@@ -63,6 +63,7 @@ fn refuse_line<E: Stepper>(
 // Writes the replies that wait, where it is due.
 fn flush<K: Sink>(sink: &mut K, waiting: &mut Vec<u8>, due: bool) -> Result<(), WriteFault>
     ensures ok { (before : List ℕ) → K.written sink.old ≡ Some before → OnOk result (MovesOn before waiting.old.items waiting.new.items (K.written sink.new)) }
+    ensures due { due ≡ true → OnOk result (waiting.new.items ≡ []) }
     ensures err { (before : List ℕ) → K.written sink.old ≡ Some before → OnErr result (WroteFront before waiting.old.items (K.written sink.new)) }
     ensures fault { CountsFault result (K.faults sink.old) (K.faults sink.new) }
 {

@@ -7,16 +7,16 @@ use Rattle.iv_types.specs.declared.refusal.Refusal.{Refusal}
 use Rattle.iv_types.specs.declared.refusal.Refusal.TheVariants as refusal
 use Rattle.iv_types.specs.Syntax.{StatementTree}
 use Rattle.txn_sessions.specs.declared.session.Session.{Session}
-use Rattle.txn_sessions.specs.Sessions.{stands, left_of, IsIdle, IsStarted}
+use Rattle.txn_sessions.specs.Sessions.{todo_of, stands, left_of, IsIdle, IsStarted}
 use Rattle.session_table.specs.declared.slot.LineKind.{LineKind}
 use Rattle.session_table.specs.declared.slot.LineKind.TheVariants.{Idle, Waiting, Stepping, Held}
 use Rattle.session_table.specs.declared.slot.Slot.{Slot}
-use Rattle.session_table.specs.Slots.{FitsLine}
-use Rattle.session_table.specs.Requests.{refusal_of, Began, Gave}
+use Rattle.session_table.specs.Slots.{FitsLine, seat_in}
+use Rattle.session_table.specs.Requests.{MayLack, refusal_of, Began, Gave}
 
 pub started_began : (old new : Session) (tree : StatementTree) (r : Result (Unit {0}) Refusal) → IsIdle old → IsStarted old tree r new → Began old (Ok tree) (result_err r) new
 started_began old new tree (Ok u) was_idle (goes, starts, busy) = (goes, starts, busy)
-started_began old new tree (Err why) was_idle (because, stays) = (because, (λ k. left_of (stays.standing k) (stays.line k)), stays.line ∙ was_idle)
+started_began old new tree (Err why) was_idle (because, stays) = (elim because [ inl lacks ↦ inl (lacks, tt) | inr e ↦ inr e ], (λ k. left_of (stays.standing k) (stays.line k)), stays.line ∙ was_idle)
 
 pub refused_began : (session : Session) (why : Refusal) → IsIdle session → Began session (Err why) (Some why) session
 refused_began session why was_idle = (inr refl, refl, was_idle)
@@ -25,7 +25,7 @@ refused_began session why was_idle = (inr refl, refl, was_idle)
 pub began_gave : (slot slot' : Slot) (read : Result StatementTree Refusal) (r : Option Refusal) → slot.line ≡ Idle → slot'.line ≡ slot.line → Began slot.session read r slot'.session → Gave slot read r slot'
 began_gave slot slot' read (Some why) is same (because, todo, idle) = (
   elim because [
-    | inl lacks ↦ inl lacks
+    | inl lacks ↦ inl (lacks.0, subst (λ l. MayLack (seat_in l (todo_of slot.session)).line read) (sym is) lacks.1)
     | inr e ↦ inr (subst (λ l. refusal_of l (stands slot.session) read ≡ Some why) (sym is) e)
   ],
   same,

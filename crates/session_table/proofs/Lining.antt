@@ -19,17 +19,18 @@ use Rattle.session_table.specs.declared.slot.Slot.{Slot}
 use Rattle.session_table.specs.Going.{the_tell, MayGo}
 use Rattle.session_table.specs.Slots.{seat_or_none, table_of, numbers, IsSlot, AreSlots, AllGo}
 use Rattle.session_table.specs.Trying.{Retried}
-use Rattle.session_table.specs.Requests.{SlotDid, EngineDid, DidOwn, RanLine}
+use Rattle.session_table.specs.Requests.{LacksOnly, LacksAt, SlotDid, EngineDid, DidOwn, RanLine}
 use Rattle.session_table.proofs.Passing.{numbers_differ}
 use Rattle.session_table.proofs.Tables.{table_set, each_after}
 
 pub nothing_done : (s : Story) (slots : List Slot) (out : List ℕ) → AllGo slots s → DidOwn request.Nothing s slots out slots out s
-nothing_done s slots out go = record { said = nothing; says = refl; piece = []; told = sym (append-nil out); own = record { told = refl; table_left = refl; left = refl }; go = go }
+nothing_done s slots out go = record { said = nothing; says = refl; lacks = tt; piece = []; told = sym (append-nil out); own = record { told = refl; table_left = refl; left = refl }; go = go }
 
 pub too_long_told : (s : Story) (slots : List Slot) (out out' : List ℕ) → AllGo slots s → out' ≡ out ++ reply_lines 0 (reply.Error refusal.LineTooLong ∷ []) → DidOwn request.TooLong s slots out slots out' s
 too_long_told s slots out out' go told = record {
   said = too_long;
   says = refl;
+  lacks = tt;
   piece = reply_lines 0 (reply.Error refusal.LineTooLong ∷ []);
   told = told;
   own = record { told = refl; table_left = refl; left = refl };
@@ -40,6 +41,7 @@ pub bad_told : (s : Story) (slots : List Slot) (out out' : List ℕ) → AllGo s
 bad_told s slots out out' go told = record {
   said = bad;
   says = refl;
+  lacks = tt;
   piece = reply_lines 0 (reply.Error refusal.BadLine ∷ []);
   told = told;
   own = record { told = refl; table_left = refl; left = refl };
@@ -52,6 +54,7 @@ pub session_did : (place : ℕ) (a : Ask) (s : Story) (slots : List Slot) (slot 
 session_did place a s slots slot slot' out out' after at are go d = record {
   said = d.said;
   says = d.says;
+  lacks = subst (λ o. LacksOnly (seat_or_none o).line a d.said) (sym at) d.lacks;
   piece = d.piece;
   told = d.told;
   own = subst (λ table. Own DoesOf the_programs the_tell d.said (table_of slots) s d.piece table after) (sym (table_set slots place slot' slot at)) (d.own (table_of slots) (ap seat_or_none at));
@@ -61,11 +64,12 @@ session_did place a s slots slot slot' out out' after at are go d = record {
 }
 
 -- a line of the engine's own
-pub engine_did : (asked : Request) (said : Said) (s after : Story) (slots : List Slot) (out out' : List ℕ) → SaysSo asked said → AreSlots slots → AllGo slots s → EngineDid said s out out' after
+pub engine_did : (asked : Request) (said : Said) (s after : Story) (slots : List Slot) (out out' : List ℕ) → SaysSo asked said → LacksAt (table_of slots) asked said → AreSlots slots → AllGo slots s → EngineDid said s out out' after
     → DidOwn asked s slots out slots out' after
-engine_did asked said s after slots out out' says are go d = record {
+engine_did asked said s after slots out out' says of_engine are go d = record {
   said = said;
   says = says;
+  lacks = of_engine;
   piece = d.piece;
   told = d.told;
   own = d.own (table_of slots);
@@ -82,6 +86,7 @@ pub line_ran : (asked : Request) (s mid after : Story) (slots now next : List Sl
 line_ran asked s mid after slots now next out told told' many d r = record {
   said = d.said;
   says = d.says;
+  lacks = d.lacks;
   piece = d.piece ++ r.piece;
   told = r.told ∙ ap (λ l. l ++ r.piece) d.told ∙ append_assoc out d.piece r.piece;
   run = record {

@@ -33,7 +33,7 @@ use Rattle.session_table.specs.declared.slot.LineKind.TheVariants.{Idle, Waiting
 use Rattle.session_table.specs.declared.slot.Slot.{Slot}
 use Rattle.session_table.specs.Going.{the_tell, MayGo, WentOn, outcome_in, standing_in}
 use Rattle.session_table.specs.Slots.{FitsLine, seat_in, seat_by}
-use Rattle.session_table.specs.Requests.{refusal_of, Gave, kept_line, WentOnce, SlotDid}
+use Rattle.session_table.specs.Requests.{MayLack, MayBeUnread, LacksOnly, refusal_of, Gave, kept_line, WentOnce, SlotDid}
 use Rattle.session_table.proofs.Others.{other_run, other_once}
 
 -- a seat that is set as it is
@@ -114,22 +114,25 @@ module _ (s : Story) (slot : Slot) (out : List ℕ) (n : ℕ) (number : slot.ses
   -- a text is refused
   refused : (a : Ask) (read : Result Statement Refusal) (loads_or_runs : Result StatementTree Refusal → Said) (It : StatementTree → Standing → Rel n)
       → ((said : Said) → (said ≡ loads_or_runs (read_of read)) ⊎ (said ≡ unread n) → SaysOf n a said)
+      → (MayLack (seat_by slot).line (read_of read) → MayBeUnread (seat_by slot).line a) → LacksOnly (seat_by slot).line a (loads_or_runs (read_of read))
       → ((table : Table) (piece : List ℕ) (table' : Table) (s' : Story) → Given DoesOf the_programs the_tell n (table n).standing (table n).line (read_of read) It table s piece table' s' → Own DoesOf the_programs the_tell (loads_or_runs (read_of read)) table s piece table' s')
       → (why : Refusal) (slot' : Slot) (out' : List ℕ) → Gave slot (read_of read) (Some why) slot' → slot'.session.number ≡ slot.session.number → ((k : ℕ) → IsWithin k slot.session → IsWithin k slot'.session)
       → out' ≡ out ++ reply_lines n (reply.Error why ∷ []) → SlotDid n a s slot out slot' out' s
-  refused a read said_of It says_it own why slot' out' (because, line_is, todo_is) n' w told = elim because [
+  refused a read said_of It says_it may read_it own why slot' out' (because, line_is, todo_is) n' w told = elim because [
     | inl lacks ↦ record {
       said = unread n;
       says = says_it (unread n) (inr refl);
+      lacks = may lacks.1;
       piece = reply_lines n (reply.Error why ∷ []);
       told = told;
-      own = λ table at. tells_self slot' (reply.Error refusal.NoMemory) (reply_lines n (reply.Error why ∷ [])) table at seat_same (ap (λ r. reply_lines n (reply.Error r ∷ [])) lacks);
+      own = λ table at. tells_self slot' (reply.Error refusal.NoMemory) (reply_lines n (reply.Error why ∷ [])) table at seat_same (ap (λ r. reply_lines n (reply.Error r ∷ [])) lacks.0);
       others = same_others;
       go = same_goes s slot.session slot'.session n' todo_is w go;
     }
     | inr e ↦ record {
       said = said_of (read_of read);
       says = says_it (said_of (read_of read)) (inl refl);
+      lacks = read_it;
       piece = reply_lines n (reply.Error why ∷ []);
       told = told;
       own = λ table at. own table (reply_lines n (reply.Error why ∷ [])) (set_seat table n (seat_by slot')) s
@@ -146,11 +149,11 @@ module _ (s : Story) (slot : Slot) (out : List ℕ) (n : ℕ) (number : slot.ses
 
   pub runs_refused : (read : Result Statement Refusal) (why : Refusal) (slot' : Slot) (out' : List ℕ) → Gave slot (read_of read) (Some why) slot' → slot'.session.number ≡ slot.session.number
       → ((k : ℕ) → IsWithin k slot.session → IsWithin k slot'.session) → out' ≡ out ++ reply_lines n (reply.Error why ∷ []) → SlotDid n (ask.Runs read) s slot out slot' out' s
-  runs_refused read why slot' out' gave n' w told = refused (ask.Runs read) read (runs n) (RunsIt DoesOf the_programs the_tell n) (λ said h. h) (λ table piece table' s' h. h) why slot' out' gave n' w told
+  runs_refused read why slot' out' gave n' w told = refused (ask.Runs read) read (runs n) (RunsIt DoesOf the_programs the_tell n) (λ said h. h) (λ h. h) tt (λ table piece table' s' h. h) why slot' out' gave n' w told
 
   pub loads_refused : (read : Result Statement Refusal) (why : Refusal) (slot' : Slot) (out' : List ℕ) → Gave slot (read_of read) (Some why) slot' → slot'.session.number ≡ slot.session.number
       → ((k : ℕ) → IsWithin k slot.session → IsWithin k slot'.session) → out' ≡ out ++ reply_lines n (reply.Error why ∷ []) → SlotDid n (ask.Loads read) s slot out slot' out' s
-  loads_refused read why slot' out' gave n' w told = refused (ask.Loads read) read (loads n) (LoadsIt DoesOf the_programs the_tell n) (λ said h. h) (λ table piece table' s' h. h) why slot' out' gave n' w told
+  loads_refused read why slot' out' gave n' w told = refused (ask.Loads read) read (loads n) (LoadsIt DoesOf the_programs the_tell n) (λ said h. h) (λ h. h) tt (λ table piece table' s' h. h) why slot' out' gave n' w told
 
   -- its statement goes as far as it can
   pub ran : (read : Result Statement Refusal) (given : Slot) (went : Went) (x' : Session) (line' : LineKind) (out' : List ℕ) (after : Story) → Gave slot (read_of read) None given → given.session.number ≡ slot.session.number
@@ -159,6 +162,7 @@ module _ (s : Story) (slot : Slot) (out : List ℕ) (n : ℕ) (number : slot.ses
   ran (Ok statement) given went x' line' out' after (none, was_idle, begins, busy) n' h line told = record {
     said = runs n (Ok (statement_tree statement));
     says = inl refl;
+    lacks = tt;
     piece = printed n (outcome_in went.came (todo_of x'));
     told = told;
     own = λ table at.
@@ -184,6 +188,7 @@ module _ (s : Story) (slot : Slot) (out : List ℕ) (n : ℕ) (number : slot.ses
   loaded (Ok statement) given line' out' (none, was_idle, begins, busy) go' line told = record {
     said = loads n (Ok (statement_tree statement));
     says = inl refl;
+    lacks = tt;
     piece = printed n (stepped (todo_of given.session));
     told = told;
     own = λ table at.
@@ -208,6 +213,7 @@ module _ (s : Story) (slot : Slot) (out : List ℕ) (n : ℕ) (number : slot.ses
   did_step c x' line' out' after line_was h line told = record {
     said = steps n;
     says = refl;
+    lacks = tt;
     piece = printed n (outcome_in c (todo_of x'));
     told = told;
     own = λ table at.
@@ -229,6 +235,7 @@ module _ (s : Story) (slot : Slot) (out : List ℕ) (n : ℕ) (number : slot.ses
   no_step out' line_is told = record {
     said = steps n;
     says = refl;
+    lacks = tt;
     piece = reply_lines 0 (reply.Error refusal.BadLine ∷ []);
     told = told;
     own = λ table at.
@@ -248,6 +255,7 @@ module _ (s : Story) (slot : Slot) (out : List ℕ) (n : ℕ) (number : slot.ses
   not_read out' told = record {
     said = unread n;
     says = refl;
+    lacks = tt;
     piece = reply_lines n (reply.Error refusal.NoMemory ∷ []);
     told = told;
     own = λ table at. tells_self slot (reply.Error refusal.NoMemory) (reply_lines n (reply.Error refusal.NoMemory ∷ [])) table at refl refl;

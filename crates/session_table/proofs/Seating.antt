@@ -15,10 +15,10 @@ use Rattle.line_requests.specs.declared.asked.Request.TheVariants as request
 use Rattle.session_table.specs.declared.slot.Slot.{Slot}
 use Rattle.session_table.specs.declared.slot.LineKind.TheVariants.{Waiting}
 use Rattle.session_table.specs.Going.{StandsIn, MayGo}
-use Rattle.session_table.specs.Slots.{FitsLine, IsSlot, AreSlots, AllGo}
+use Rattle.session_table.specs.Slots.{table_of, FitsLine, IsSlot, AreSlots, AllGo}
 use Rattle.session_table.specs.Leaving.{LeftAll}
 use Rattle.session_table.specs.Trying.{Tried, NoneWaits, Passed, Retried}
-use Rattle.session_table.specs.Requests.{SlotDid, EngineDid, DidOwn, RanLine}
+use Rattle.session_table.specs.Requests.{LacksAt, SlotDid, EngineDid, DidOwn, RanLine}
 use Rattle.session_table.proofs.Knowing.{then, so}
 use Rattle.session_table.proofs.Tables.{each_set, all_reached}
 use Rattle.session_table.proofs.Passing.{all_after, pass_step, passed_all, tried_not}
@@ -56,9 +56,9 @@ module _ (place : ℕ) (slots : List Slot) (slot slot' : Slot) (at : slice_get s
       (session_did place a s slots slot slot' out out' t at are go (subst (λ k. SlotDid k a s slot out slot' out' t) ((are place slot at).number_is ∙ omega arith) d)))
 
 -- one of the engine's own
-pub engine_done : {St1 : State → Type 0} (St0 : State → Type 0) (asked : Request) (said : Said) (slots : List Slot) (out out' : List ℕ) → SaysSo asked said → length slots ≡ 64 → AreSlots slots
+pub engine_done : {St1 : State → Type 0} (St0 : State → Type 0) (asked : Request) (said : Said) (slots : List Slot) (out out' : List ℕ) → SaysSo asked said → LacksAt (table_of slots) asked said → length slots ≡ 64 → AreSlots slots
     → ((s : Story) → St0 s.state → IsReachedStory s → StandsIn St1 (EngineDid said s out out')) → (s : Story) → St0 s.state → AllGo slots s → StandsIn St1 (DidOwn asked s slots out slots out')
-engine_done St0 asked said slots out out' says many are did s st go = so (did s st (all_reached slots s many go)) (λ t d. engine_did asked said s t slots out out' says are go d)
+engine_done St0 asked said slots out out' says of_engine many are did s st go = so (did s st (all_reached slots s many go)) (λ t d. engine_did asked said s t slots out out' says of_engine are go d)
 
 pub engine_needs : {St0 : State → Type 0} (slots : List Slot) → length slots ≡ 64 → StandsIn St0 (AllGo slots) → StandsIn St0 IsReachedStory
 engine_needs slots many h = so h (λ s go. all_reached slots s many go)

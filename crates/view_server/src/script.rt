@@ -1,11 +1,10 @@
 //! The program's top call.
 ghost use Rattle.std.specs.Prelude.{◌≡◌, ◌≢◌, ◌↔◌, ℕ, List, None, Some, IfOk};
 ghost use Rattle.std.specs.FinMap.{empty};
-ghost use Rattle.ordered_index.specs.Tree.{map_of, spare_of, limit_of};
 ghost use Rattle.core_state.specs.Stands.{limited};
 ghost use Rattle.txn_machine.specs.State.{opened_state};
 ghost use Rattle.txn_machine.specs.Store.{opened};
-ghost use Rattle.engine_core.specs.Standing.{IsIn};
+ghost use Rattle.engine_core.specs.Standing.{IsInMemory};
 ghost use Rattle.iv_meaning.specs.Database.{created};
 ghost use Rattle.script_run.specs.Run.{Output, Taken, SourceFaults, SinkFaults};
 ghost use Rattle.script_run.specs.Summary.{Made, EndsMade};
@@ -17,6 +16,7 @@ ghost use Rattle.view_server.specs.Usage.{ToldUsage};
 
 use crate::init::init;
 use command_words::{Asked, DEFAULT_PAGES, is_command, read_words};
+use core_journal::NoJournal;
 use engine_core::Core;
 use iv_types::NoMemory;
 use line_wire::{Sink, Source, write_all};
@@ -32,26 +32,26 @@ const USAGE: &[u8] = b"usage: iv init FILE, script FILE, serve FILE, make NUMBER
 const DATA_LIMIT: u32 = (DEFAULT_PAGES - 256) * 1200;
 
 // Lets an engine go. Its drop is proved here alone.
-fn let_go(engine: Core<PageMaps>) {
+fn let_go(engine: Core<PageMaps, NoJournal>) {
     let _ = engine;
 }
 
 // An engine on an empty database.
-fn new_engine(alloc: Global) -> Result<Core<PageMaps>, NoMemory>
-    ensures { IfOk result (λ engine. IsIn map_of spare_of limit_of engine (opened_state (limited None (Some DATA_LIMIT)) (opened created empty))) }
+fn new_engine(alloc: Global) -> Result<Core<PageMaps, NoJournal>, NoMemory>
+    ensures { IfOk result (λ engine. IsInMemory engine (opened_state (limited None (Some DATA_LIMIT)) (opened created empty))) }
 {
     let maps = PageMaps::new(alloc, DEFAULT_PAGES)?;
-    Core::new(alloc, maps, None, DATA_LIMIT, 0)
+    Core::new(alloc, maps, NoJournal { limit: None }, None, DATA_LIMIT, 0)
 }
 
 // Runs the lines of a source on an engine that was opened on an empty database.
 fn run_on<S: Source, K: Sink>(
     alloc: Global,
-    engine: &mut Core<PageMaps>,
+    engine: &mut Core<PageMaps, NoJournal>,
     source: &mut S,
     sink: &mut K,
 ) -> Status
-    requires { IsIn map_of spare_of limit_of engine.old (opened_state (limited None (Some DATA_LIMIT)) (opened created empty)) }
+    requires { IsInMemory engine.old (opened_state (limited None (Some DATA_LIMIT)) (opened created empty)) }
     ensures command { result ≢ Status.Usage }
     ensures disks { result ≢ Status.DiskFault }
     ensures output { (input before : List ℕ) → S.left source.old ≡ Some input → K.written sink.old ≡ Some before → Output created result input before (S.left source.new) (K.written sink.new) }
@@ -84,8 +84,13 @@ fn run_script<S: Source, K: Sink>(alloc: Global, source: &mut S, sink: &mut K) -
 }
 
 // Runs the made script of so many rounds on an engine that was opened on an empty database.
-fn make_on<K: Sink>(alloc: Global, engine: &mut Core<PageMaps>, sink: &mut K, number: u32) -> Status
-    requires { IsIn map_of spare_of limit_of engine.old (opened_state (limited None (Some DATA_LIMIT)) (opened created empty)) }
+fn make_on<K: Sink>(
+    alloc: Global,
+    engine: &mut Core<PageMaps, NoJournal>,
+    sink: &mut K,
+    number: u32,
+) -> Status
+    requires { IsInMemory engine.old (opened_state (limited None (Some DATA_LIMIT)) (opened created empty)) }
     ensures status { EndsMade result }
     ensures made { (before : List ℕ) → K.written sink.old ≡ Some before → Made created result number before (K.written sink.new) }
     ensures sink_faults { SinkFaults result (K.faults sink.old) (K.faults sink.new) }

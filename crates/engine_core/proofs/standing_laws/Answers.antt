@@ -10,7 +10,7 @@ use Rattle.engine_core.proofs.standing_laws.Goals as goal
 
 pub returns : goal.returns
 returns g c = record {
-  reached = λ core s stands. stands.reached;
+  reached = λ core s is_in. is_in.stands.reached;
   committed = committed_law;
   view_rows = stored_law;
   absent_rows = absent_law;

@@ -1,40 +1,51 @@
-use Rattle.std.proofs.Common.{◌≡◌, sym, ap, subst, ◌∙◌}
-use Rattle.lock_manager.specs.Table.{waiting_of}
+use Rattle.std.proofs.Common.{refl}
+use Rattle.log_records.specs.Lent.{stands_for}
 use Rattle.table_laws.specs.Place.{Place}
 use Rattle.txn_machine.specs.Acts as act
-use Rattle.log_room.specs.Rooms.{IsRoomOf}
-use Rattle.log_room.specs.declared.room.LogRoom.{LogRoom}
-use Rattle.core_state.specs.declared.state.CoreState.{CoreState}
-use Rattle.core_upkeep.proofs.Removed.{full_told, fits_exact, removed_told}
+use Rattle.txn_machine.specs.Answers.{Cleaned, Refused}
+use Rattle.txn_machine.specs.Records.{Clean}
+use Rattle.txn_machine.specs.Store.{schema_of}
+use Rattle.core_recording.proofs.Ones.{can_one, gave_one}
+use Rattle.core_upkeep.proofs.Cleaned.{clean_gives, refused_gives, gave_none}
+use Rattle.core_upkeep.proofs.Removed.{clean_short}
 use Rattle.core_upkeep.proofs.cleaning.clean_at.Goals as goal
 
-pub remove-requires-after_bounds : goal.remove-requires-after_bounds
-remove-requires-after_bounds g c κs within = (c.requires.0, c.requires.1, c.requires.2.is)
+pub remove_first-requires-after_bounds : goal.remove_first-requires-after_bounds
+remove_first-requires-after_bounds g c κs within = (c.requires.0.state, c.requires.0.began, c.requires.1)
 
-pub returns-in-Some : goal.returns-in-Some
-returns-in-Some g c = λ s h first.
-    let place : Place = (c.args.view, c.args.group.now) in
-    let full = c.in-Some.ensures.some s.store s.log h.reserves.log_room in
-    full_told g.M.SortedMaps.maps g.M.SortedMaps.spare g.M.SortedMaps.limit c.args.core.now s h place first c.group_bytes-need.result c.group_bytes-need.ensures c.in-Some.why full.0 full.1
-
-pub returns-in-None : goal.returns-in-None
-returns-in-None g c = λ s h first.
+pub give-requires : goal.give-requires
+give-requires g c =
+    let q = c.requires.0 in
+    let s = q.state in
     let core = c.args.core.now in
     let place : Place = (c.args.view, c.args.group.now) in
-    let need = c.group_bytes-need.result in
-    let is = c.group_bytes-need.ensures in
-    let fits = c.in-None.ensures.none s.store s.log h.reserves.log_room in
-    let new = c.remove.new.core in
-    let rest = c.remove.ensures.rest in
-    let same : new.log_room ≡ core.log_room = ap (λ (x : CoreState g.row.M.Denot). x.log_room) rest in
-    removed_told g.M.SortedMaps.maps g.M.SortedMaps.spare g.M.SortedMaps.limit core s h place first need is new c.clean.new.self fits (c.remove.ensures.holds s h first.is) (ap (λ (x : CoreState g.row.M.Denot). x.data_room) rest)
-    (c.clean.ensures.room s.store s.log 0 act.Clean place is (subst (λ (x : LogRoom). IsRoomOf x s.store s.log) (sym same) h.reserves.log_room) (fits_exact g.M.SortedMaps.maps g.M.SortedMaps.spare g.M.SortedMaps.limit core s h place first need is new.log_room same fits))
-    (record {
-      steps = ap (λ (x : CoreState g.row.M.Denot). x.steps) rest;
-      seats = ap (λ (x : CoreState g.row.M.Denot). x.seats) rest;
-      cleaner = ap (λ (x : CoreState g.row.M.Denot). x.cleaner) rest;
-      stop = ap (λ (x : CoreState g.row.M.Denot). x.stop) rest;
-      limit = ap (λ (x : CoreState g.row.M.Denot). x.data_room.limit) rest;
-      log_limit = c.clean.ensures.limit ∙ ap (λ (x : LogRoom). x.limit) same;
-    })
-    (λ j. ap (λ (x : CoreState g.row.M.Denot). waiting_of x.locks j) rest)
+    let done = c.in-Ok.ensures.ok s q.began c.requires.1 in (
+      schema_of s.store,
+      Clean place,
+      q.records,
+      c.clean_of.ensures (schema_of s.store),
+      q.behind.has_them,
+      can_one g.M.SortedMaps.maps g.M.SortedMaps.spare g.M.SortedMaps.limit g.J.Journal.has g.J.Journal.limit core c.args.journal.now s 0 act.Clean (Cleaned 1) c.remove_first.new.core
+          q.began done.0 (Clean place) q.records (clean_gives s q.records place done.0.effects done.1)
+          (clean_short g.M.SortedMaps.maps g.M.SortedMaps.spare g.M.SortedMaps.limit core s q.began place c.requires.1.is c.short_law.ensures) q.behind,
+    )
+
+pub returns-in-Ok-clause-gives : goal.returns-in-Ok-clause-gives
+returns-in-Ok-clause-gives g c = λ s h first.
+    let place : Place = (c.args.view, c.args.group.now) in
+    let done = c.in-Ok.ensures.ok s h first in
+    gave_one g.M.SortedMaps.maps g.M.SortedMaps.spare g.M.SortedMaps.limit g.J.Journal.has g.J.Journal.limit c.args.core.now c.args.journal.now s 0 act.Clean (Cleaned 1) c.remove_first.new.core
+    h done.0 (Clean place) (stands_for c.clean_of.result) c.give.new.journal
+    (λ rs. clean_gives s rs place done.0.effects done.1) (c.clean_of.ensures (schema_of s.store)) c.give.ensures.has c.give.ensures.limit
+
+pub returns-in-Ok-clause-faults : goal.returns-in-Ok-clause-faults
+returns-in-Ok-clause-faults g c = c.give.ensures.faults
+
+pub returns-in-Err-clause-gives : goal.returns-in-Err-clause-gives
+returns-in-Err-clause-gives g c = λ s h first.
+    let told = c.in-Err.ensures.err s h first in
+    gave_none g.M.SortedMaps.maps g.M.SortedMaps.spare g.M.SortedMaps.limit g.J.Journal.has g.J.Journal.limit c.args.core.now c.args.journal.now s (Refused c.in-Err.why) c.remove_first.new.core
+    h told (λ rs. refused_gives s rs c.in-Err.why told.effects told.says)
+
+pub returns-in-Err-clause-faults : goal.returns-in-Err-clause-faults
+returns-in-Err-clause-faults g c = refl

@@ -1,6 +1,15 @@
 use Rattle.txn_book.specs.Acts.{act_of}
-use Rattle.engine_core.proofs.Telling.{no_memory_told}
+use Rattle.core_recording.specs.Giving.{MayGiveUp}
+use Rattle.txn_machine.specs.Answers.{Refused}
+use Rattle.iv_types.specs.declared.refusal.EngineRefusal.TheVariants.{NoMemory}
+use Rattle.std.proofs.Common.{refl, sym, ap, subst}
+use Rattle.engine_core.proofs.Giving.{fine_counts, lacks_did}
 use Rattle.engine_core.proofs.acting.answer.Goals as goal
 
-pub returns-in-Err : goal.returns-in-Err
-returns-in-Err g c = λ s h may. no_memory_told g.M.SortedMaps.maps g.M.SortedMaps.spare g.M.SortedMaps.limit c.act.new.core s c.args.session (act_of c.args.asked.now) c.in-Err.ensures.err.0 (c.in-Err.ensures.err.1 s h may)
+pub returns-in-Err-clause-gives : goal.returns-in-Err-clause-gives
+returns-in-Err-clause-gives g c =
+    subst (λ j. MayGiveUp g.M.SortedMaps.maps g.M.SortedMaps.spare g.M.SortedMaps.limit g.J.Journal.has g.J.Journal.limit c.args.core.now c.args.journal.now c.args.session (act_of c.args.asked.now) (Refused NoMemory) c.act.new.core j) (sym c.in-Err.ensures.ungiven)
+    (lacks_did g.M.SortedMaps.maps g.M.SortedMaps.spare g.M.SortedMaps.limit g.J.Journal.has g.J.Journal.limit c.args.core.now c.args.journal.now c.args.session (act_of c.args.asked.now) c.act.new.core c.in-Err.ensures.err.0 c.in-Err.ensures.err.1)
+
+pub returns-in-Err-clause-faults : goal.returns-in-Err-clause-faults
+returns-in-Err-clause-faults g c = fine_counts _ _ _ refl (ap g.J.Journal.faults c.in-Err.ensures.ungiven)

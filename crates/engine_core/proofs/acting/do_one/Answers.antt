@@ -1,22 +1,28 @@
-use Rattle.std.proofs.Common.{sym, subst, ◌∙◌}
+use Rattle.std.proofs.Common.{sym, refl, subst, ◌∙◌}
 use Rattle.txn_machine.specs.Answers.{Refused}
 use Rattle.iv_types.specs.declared.refusal.EngineRefusal.TheVariants.{Stopped}
 use Rattle.txn_book.specs.Acts.{act_of}
-use Rattle.core_state.specs.Stands.{Moved}
+use Rattle.engine_core.specs.Acting.{Recorded}
+use Rattle.engine_core.proofs.Giving.{fine_counts}
+use Rattle.engine_core.proofs.Recording.{recorded_stop}
 use Rattle.engine_core.proofs.Stopping.{stopped_by, runs_on}
 use Rattle.engine_core.proofs.acting.do_one.Goals as goal
 
 pub run-requires-after_bounds : goal.run-requires-after_bounds
 run-requires-after_bounds g c κs within =
-    let s = c.requires.0 in
-    (s, c.requires.1, runs_on s.stop (sym c.in-None.is ∙ c.requires.1.counts.stop), c.requires.2)
+    let q = c.requires in
+    (q.0, q.1, q.2, q.3, runs_on q.0.stop (sym c.in-None.is ∙ q.2.counts.stop), q.4)
 
-pub returns-in-Some-clause-moved : goal.returns-in-Some-clause-moved
-returns-in-Some-clause-moved g c = λ s h asked.
+pub returns-in-Some-clause-recorded : goal.returns-in-Some-clause-recorded
+returns-in-Some-clause-recorded g c = λ s rs h behind asked.
     let i = c.args.step.now.session in
     let a = act_of c.args.step.now.act in
     let x = stopped_by s.stop c.in-Some.number (sym c.in-Some.is ∙ h.counts.stop) in
-    subst (λ n. Moved g.M.SortedMaps.maps g.M.SortedMaps.spare g.M.SortedMaps.limit s i a (Refused (Stopped n)) c.tell_of_stop.new.self) (sym x.number_is) (c.tell_of_stop.ensures s x.by a asked h x.is)
+    subst (λ n. Recorded g.M.SortedMaps.maps g.M.SortedMaps.spare g.M.SortedMaps.limit g.J.Journal.has g.J.Journal.limit s i a (Refused (Stopped n)) rs c.tell_of_stop.new.self c.args.journal.now) (sym x.number_is)
+    (recorded_stop g.M.SortedMaps.maps g.M.SortedMaps.spare g.M.SortedMaps.limit g.J.Journal.has g.J.Journal.limit s i a x.by c.args.core.now c.args.journal.now rs h behind x.is c.tell_of_stop.new.self (c.tell_of_stop.ensures s x.by a asked h x.is))
 
-pub returns-in-None-clause-moved : goal.returns-in-None-clause-moved
-returns-in-None-clause-moved g c = λ s h asked. c.run.ensures.moved s h (runs_on s.stop (sym c.in-None.is ∙ h.counts.stop)) asked
+pub returns-in-Some-clause-faults : goal.returns-in-Some-clause-faults
+returns-in-Some-clause-faults g c = fine_counts _ _ _ refl refl
+
+pub returns-in-None-clause-recorded : goal.returns-in-None-clause-recorded
+returns-in-None-clause-recorded g c = λ s rs h behind asked. c.run.ensures.recorded s rs h behind (runs_on s.stop (sym c.in-None.is ∙ h.counts.stop)) asked

@@ -1,30 +1,119 @@
-use Rattle.std.proofs.Common.{◌≡◌, ◌≤◌, ◌<◌, ap, arith}
+use Rattle.std.proofs.Common.{sym, ◌∙◌}
 use Rattle.txn_machine.proofs.Moving.{may_of}
-use Rattle.txn_machine.specs.State.{Seat, most_steps}
-use Rattle.txn_book.specs.Acts.{act_of}
-use Rattle.core_state.specs.Seats.{seat_at}
+use Rattle.txn_book.specs.Acts.{act_of, answer_of}
+use Rattle.core_recording.specs.Giving.{Did, IsBehind}
+use Rattle.core_state.specs.Stands.{Failed, Told}
 use Rattle.engine_core.proofs.Asking.{few_ask}
+use Rattle.engine_core.proofs.Recording.{began_limit, few_own, few_records, few_removed, few_steps, failed_of, recorded_fault, recorded_told, told_of}
 use Rattle.engine_core.proofs.acting.run.Goals as goal
 
 pub answer-said-requires-after_bounds : goal.answer-said-requires-after_bounds
 answer-said-requires-after_bounds g c κs within =
-    let s = c.requires.0 in
-    (s, c.open_step.ensures s c.requires.1 c.requires.2, may_of s c.args.step.now.session (act_of c.args.step.now.act) c.requires.2 c.requires.3.1)
+    let q = c.requires in
+    let s = q.0 in
+    let i = c.args.step.now.session in
+    let a = act_of c.args.step.now.act in
+    let began = c.open_step.ensures s q.2 q.4 in
+    record {
+      state = s;
+      began = began;
+      may = may_of s i a q.4 q.5.1;
+      records = q.1;
+      behind = record { has_them = q.3.has_them; used = q.3.used; same_limit = q.3.same_limit ∙ began_limit g.M.SortedMaps.maps g.M.SortedMaps.spare g.M.SortedMaps.limit s i c.args.core.now c.open_step.new.self q.2 began };
+    }
+
+pub fail_step-requires-clause-session : goal.fail_step-requires-clause-session
+fail_step-requires-clause-session g c κs within =
+    let q = c.requires in
+    let s = q.0 in
+    let i = c.args.step.now.session in
+    let a = act_of c.args.step.now.act in
+    let did : Did g.M.SortedMaps.maps g.M.SortedMaps.spare g.M.SortedMaps.limit g.J.Journal.has g.J.Journal.limit s i a (answer_of c.answer-said.result) c.open_step.new.self c.args.journal.now c.answer-said.new.core c.answer-said.new.journal = c.answer-said.ensures.gives s (c.open_step.ensures s q.2 q.4) (may_of s i a q.4 q.5.1) in
+    few_ask i a q.5.0
+
+pub fail_step-requires-clause-steps : goal.fail_step-requires-clause-steps
+fail_step-requires-clause-steps g c κs within =
+    let q = c.requires in
+    let s = q.0 in
+    let i = c.args.step.now.session in
+    let a = act_of c.args.step.now.act in
+    let did : Did g.M.SortedMaps.maps g.M.SortedMaps.spare g.M.SortedMaps.limit g.J.Journal.has g.J.Journal.limit s i a (answer_of c.answer-said.result) c.open_step.new.self c.args.journal.now c.answer-said.new.core c.answer-said.new.journal = c.answer-said.ensures.gives s (c.open_step.ensures s q.2 q.4) (may_of s i a q.4 q.5.1) in
+    let f : Failed g.M.SortedMaps.maps g.M.SortedMaps.spare g.M.SortedMaps.limit s i a c.answer-said.new.core = failed_of g.M.SortedMaps.maps g.M.SortedMaps.spare g.M.SortedMaps.limit g.J.Journal.has g.J.Journal.limit s i a (answer_of c.answer-said.result) c.open_step.new.self c.args.journal.now c.answer-said.new.core c.answer-said.new.journal did (sym c.tells_fault.ensures ∙ c.if-tells_fault.true) in
+    few_steps g.M.SortedMaps.maps g.M.SortedMaps.spare g.M.SortedMaps.limit c.answer-said.new.core s f.began.counts f.began.runs
+
+pub fail_step-requires-clause-next : goal.fail_step-requires-clause-next
+fail_step-requires-clause-next g c κs within =
+    let q = c.requires in
+    let s = q.0 in
+    let i = c.args.step.now.session in
+    let a = act_of c.args.step.now.act in
+    let did : Did g.M.SortedMaps.maps g.M.SortedMaps.spare g.M.SortedMaps.limit g.J.Journal.has g.J.Journal.limit s i a (answer_of c.answer-said.result) c.open_step.new.self c.args.journal.now c.answer-said.new.core c.answer-said.new.journal = c.answer-said.ensures.gives s (c.open_step.ensures s q.2 q.4) (may_of s i a q.4 q.5.1) in
+    let f : Failed g.M.SortedMaps.maps g.M.SortedMaps.spare g.M.SortedMaps.limit s i a c.answer-said.new.core = failed_of g.M.SortedMaps.maps g.M.SortedMaps.spare g.M.SortedMaps.limit g.J.Journal.has g.J.Journal.limit s i a (answer_of c.answer-said.result) c.open_step.new.self c.args.journal.now c.answer-said.new.core c.answer-said.new.journal did (sym c.tells_fault.ensures ∙ c.if-tells_fault.true) in
+    few_records g.M.SortedMaps.maps g.M.SortedMaps.spare g.M.SortedMaps.limit c.answer-said.new.core s f.began.counts f.began.runs f.began.holds.next
+
+pub fail_step-requires-clause-few : goal.fail_step-requires-clause-few
+fail_step-requires-clause-few g c κs within =
+    let q = c.requires in
+    let s = q.0 in
+    let i = c.args.step.now.session in
+    let a = act_of c.args.step.now.act in
+    let did : Did g.M.SortedMaps.maps g.M.SortedMaps.spare g.M.SortedMaps.limit g.J.Journal.has g.J.Journal.limit s i a (answer_of c.answer-said.result) c.open_step.new.self c.args.journal.now c.answer-said.new.core c.answer-said.new.journal = c.answer-said.ensures.gives s (c.open_step.ensures s q.2 q.4) (may_of s i a q.4 q.5.1) in
+    let f : Failed g.M.SortedMaps.maps g.M.SortedMaps.spare g.M.SortedMaps.limit s i a c.answer-said.new.core = failed_of g.M.SortedMaps.maps g.M.SortedMaps.spare g.M.SortedMaps.limit g.J.Journal.has g.J.Journal.limit s i a (answer_of c.answer-said.result) c.open_step.new.self c.args.journal.now c.answer-said.new.core c.answer-said.new.journal did (sym c.tells_fault.ensures ∙ c.if-tells_fault.true) in
+    few_own g.M.SortedMaps.maps g.M.SortedMaps.spare g.M.SortedMaps.limit c.answer-said.new.core s f.began.counts f.began.runs i (few_ask i a q.5.0)
+
+pub close_step-requires-clause-session : goal.close_step-requires-clause-session
+close_step-requires-clause-session g c κs within =
+    let q = c.requires in
+    let s = q.0 in
+    let i = c.args.step.now.session in
+    let a = act_of c.args.step.now.act in
+    let did : Did g.M.SortedMaps.maps g.M.SortedMaps.spare g.M.SortedMaps.limit g.J.Journal.has g.J.Journal.limit s i a (answer_of c.answer-said.result) c.open_step.new.self c.args.journal.now c.answer-said.new.core c.answer-said.new.journal = c.answer-said.ensures.gives s (c.open_step.ensures s q.2 q.4) (may_of s i a q.4 q.5.1) in
+    few_ask i a q.5.0
+
+pub close_step-requires-clause-steps : goal.close_step-requires-clause-steps
+close_step-requires-clause-steps g c κs within =
+    let q = c.requires in
+    let s = q.0 in
+    let i = c.args.step.now.session in
+    let a = act_of c.args.step.now.act in
+    let did : Did g.M.SortedMaps.maps g.M.SortedMaps.spare g.M.SortedMaps.limit g.J.Journal.has g.J.Journal.limit s i a (answer_of c.answer-said.result) c.open_step.new.self c.args.journal.now c.answer-said.new.core c.answer-said.new.journal = c.answer-said.ensures.gives s (c.open_step.ensures s q.2 q.4) (may_of s i a q.4 q.5.1) in
+    let t : Told g.M.SortedMaps.maps g.M.SortedMaps.spare g.M.SortedMaps.limit s i a (answer_of c.answer-said.result) c.answer-said.new.core = told_of g.M.SortedMaps.maps g.M.SortedMaps.spare g.M.SortedMaps.limit g.J.Journal.has g.J.Journal.limit s i a (answer_of c.answer-said.result) c.open_step.new.self c.args.journal.now c.answer-said.new.core c.answer-said.new.journal did (sym c.tells_fault.ensures ∙ c.if-tells_fault.false) in
+    few_steps g.M.SortedMaps.maps g.M.SortedMaps.spare g.M.SortedMaps.limit c.answer-said.new.core s t.counts t.runs
 
 pub close_step-requires-clause-few : goal.close_step-requires-clause-few
 close_step-requires-clause-few g c κs within =
-    let s = c.requires.0 in
+    let q = c.requires in
+    let s = q.0 in
     let i = c.args.step.now.session in
     let a = act_of c.args.step.now.act in
-    let asked = c.requires.3 in
-    let t = c.answer-said.ensures s (c.open_step.ensures s c.requires.1 c.requires.2) (may_of s i a c.requires.2 asked.1) in
-    let same : (seat_at c.answer-said.new.core.seats i).steps ≡ (s.seat_of i).steps = ap (λ (x : Seat). x.steps) (t.counts.seats i (few_ask i a asked.0)) in
-    let few : (s.seat_of i).steps ≤ s.steps = t.counts.few i in
-    let lt : s.steps < most_steps = t.counts.running t.runs in
-    omega (arith, same, few, lt)
+    let did : Did g.M.SortedMaps.maps g.M.SortedMaps.spare g.M.SortedMaps.limit g.J.Journal.has g.J.Journal.limit s i a (answer_of c.answer-said.result) c.open_step.new.self c.args.journal.now c.answer-said.new.core c.answer-said.new.journal = c.answer-said.ensures.gives s (c.open_step.ensures s q.2 q.4) (may_of s i a q.4 q.5.1) in
+    let t : Told g.M.SortedMaps.maps g.M.SortedMaps.spare g.M.SortedMaps.limit s i a (answer_of c.answer-said.result) c.answer-said.new.core = told_of g.M.SortedMaps.maps g.M.SortedMaps.spare g.M.SortedMaps.limit g.J.Journal.has g.J.Journal.limit s i a (answer_of c.answer-said.result) c.open_step.new.self c.args.journal.now c.answer-said.new.core c.answer-said.new.journal did (sym c.tells_fault.ensures ∙ c.if-tells_fault.false) in
+    few_own g.M.SortedMaps.maps g.M.SortedMaps.spare g.M.SortedMaps.limit c.answer-said.new.core s t.counts t.runs i (few_ask i a q.5.0)
 
-pub returns-clause-moved : goal.returns-clause-moved
-returns-clause-moved g c = λ s h runs asked.
+pub close_step-requires-clause-removed : goal.close_step-requires-clause-removed
+close_step-requires-clause-removed g c κs within =
+    let q = c.requires in
+    let s = q.0 in
     let i = c.args.step.now.session in
     let a = act_of c.args.step.now.act in
-    c.close_step.ensures s a asked (c.answer-said.ensures s (c.open_step.ensures s h runs) (may_of s i a runs asked.1))
+    let did : Did g.M.SortedMaps.maps g.M.SortedMaps.spare g.M.SortedMaps.limit g.J.Journal.has g.J.Journal.limit s i a (answer_of c.answer-said.result) c.open_step.new.self c.args.journal.now c.answer-said.new.core c.answer-said.new.journal = c.answer-said.ensures.gives s (c.open_step.ensures s q.2 q.4) (may_of s i a q.4 q.5.1) in
+    let t : Told g.M.SortedMaps.maps g.M.SortedMaps.spare g.M.SortedMaps.limit s i a (answer_of c.answer-said.result) c.answer-said.new.core = told_of g.M.SortedMaps.maps g.M.SortedMaps.spare g.M.SortedMaps.limit g.J.Journal.has g.J.Journal.limit s i a (answer_of c.answer-said.result) c.open_step.new.self c.args.journal.now c.answer-said.new.core c.answer-said.new.journal did (sym c.tells_fault.ensures ∙ c.if-tells_fault.false) in
+    few_removed g.M.SortedMaps.maps g.M.SortedMaps.spare g.M.SortedMaps.limit c.answer-said.new.core s t.counts t.runs
+
+pub returns-then-tells_fault-clause-recorded : goal.returns-then-tells_fault-clause-recorded
+returns-then-tells_fault-clause-recorded g c = λ s rs stands behind runs asked.
+    let i = c.args.step.now.session in
+    let a = act_of c.args.step.now.act in
+    let began = c.open_step.ensures s stands runs in
+    let did : Did g.M.SortedMaps.maps g.M.SortedMaps.spare g.M.SortedMaps.limit g.J.Journal.has g.J.Journal.limit s i a (answer_of c.answer-said.result) c.open_step.new.self c.args.journal.now c.answer-said.new.core c.answer-said.new.journal = c.answer-said.ensures.gives s began (may_of s i a runs asked.1) in
+    let behind_then : IsBehind g.M.SortedMaps.maps g.M.SortedMaps.spare g.M.SortedMaps.limit g.J.Journal.has g.J.Journal.limit c.open_step.new.self c.args.journal.now s.log rs = record { has_them = behind.has_them; used = behind.used; same_limit = behind.same_limit ∙ began_limit g.M.SortedMaps.maps g.M.SortedMaps.spare g.M.SortedMaps.limit s i c.args.core.now c.open_step.new.self stands began } in
+    recorded_fault g.M.SortedMaps.maps g.M.SortedMaps.spare g.M.SortedMaps.limit g.J.Journal.has g.J.Journal.limit s i a (answer_of c.answer-said.result) c.open_step.new.self c.args.journal.now c.answer-said.new.core c.answer-said.new.journal rs behind_then began c.fail_step.new.self did (sym c.tells_fault.ensures ∙ c.if-tells_fault.true) (λ failed. c.fail_step.ensures s a asked failed)
+
+pub returns-else-tells_fault-clause-recorded : goal.returns-else-tells_fault-clause-recorded
+returns-else-tells_fault-clause-recorded g c = λ s rs stands behind runs asked.
+    let i = c.args.step.now.session in
+    let a = act_of c.args.step.now.act in
+    let began = c.open_step.ensures s stands runs in
+    let did : Did g.M.SortedMaps.maps g.M.SortedMaps.spare g.M.SortedMaps.limit g.J.Journal.has g.J.Journal.limit s i a (answer_of c.answer-said.result) c.open_step.new.self c.args.journal.now c.answer-said.new.core c.answer-said.new.journal = c.answer-said.ensures.gives s began (may_of s i a runs asked.1) in
+    let behind_then : IsBehind g.M.SortedMaps.maps g.M.SortedMaps.spare g.M.SortedMaps.limit g.J.Journal.has g.J.Journal.limit c.open_step.new.self c.args.journal.now s.log rs = record { has_them = behind.has_them; used = behind.used; same_limit = behind.same_limit ∙ began_limit g.M.SortedMaps.maps g.M.SortedMaps.spare g.M.SortedMaps.limit s i c.args.core.now c.open_step.new.self stands began } in
+    recorded_told g.M.SortedMaps.maps g.M.SortedMaps.spare g.M.SortedMaps.limit g.J.Journal.has g.J.Journal.limit s i a (answer_of c.answer-said.result) c.open_step.new.self c.args.journal.now c.answer-said.new.core c.answer-said.new.journal rs behind_then began c.close_step.new.self did (sym c.tells_fault.ensures ∙ c.if-tells_fault.false) (λ told. c.close_step.ensures s a asked told)

@@ -24,13 +24,13 @@ pub clean_line-requires : goal.clean_line-requires
 clean_line-requires g c = engine_needs c.args.slots.now c.requires.count c.requires.engine
 
 pub returns-in-Clean-clause-did : goal.returns-in-Clean-clause-did
-returns-in-Clean-clause-did g c = rw c.in-Clean.is (on_ok_weaker c.clean_line.result (λ did. engine_done (g.S.Stepper.stands c.args.engine.now) request.Clean cleans c.args.slots.now c.args.text.now.items c.clean_line.new.text.items refl c.requires.count c.requires.slots did) c.clean_line.ensures)
+returns-in-Clean-clause-did g c = rw c.in-Clean.is (on_ok_weaker c.clean_line.result (λ did. engine_done (g.S.Stepper.stands c.args.engine.now) request.Clean cleans c.args.slots.now c.args.text.now.items c.clean_line.new.text.items refl tt c.requires.count c.requires.slots did) c.clean_line.ensures)
 
 pub save_line-requires : goal.save_line-requires
 save_line-requires g c = engine_needs c.args.slots.now c.requires.count c.requires.engine
 
 pub returns-in-Checkpoint-clause-did : goal.returns-in-Checkpoint-clause-did
-returns-in-Checkpoint-clause-did g c = rw c.in-Checkpoint.is (on_ok_weaker c.save_line.result (λ did. engine_done (g.S.Stepper.stands c.args.engine.now) request.Checkpoint checkpoints c.args.slots.now c.args.text.now.items c.save_line.new.text.items refl c.requires.count c.requires.slots did) c.save_line.ensures)
+returns-in-Checkpoint-clause-did g c = rw c.in-Checkpoint.is (on_ok_weaker c.save_line.result (λ did. engine_done (g.S.Stepper.stands c.args.engine.now) request.Checkpoint checkpoints c.args.slots.now c.args.text.now.items c.save_line.new.text.items refl tt c.requires.count c.requires.slots did) c.save_line.ensures)
 
 pub session_line-requires-clause-engine : goal.session_line-requires-clause-engine
 session_line-requires-clause-engine g c =

@@ -1,0 +1,19 @@
+-- No clause of `run` rests on this module: it serves contracts between crates.
+--
+-- The journal of an engine without a disk.
+use Rattle.std.specs.Prelude.{ℕ, ◌<◌, ◌^◌, Option}
+use Rattle.std.proofs.Common.{arith}
+use Rattle.core_journal.specs.Records.{Records}
+use Rattle.core_journal.specs.declared.none.NoJournal.{NoJournal}
+
+-- it keeps nothing, so that whatever records were given are those that it has
+abbrev pub has_any : NoJournal → Records → Type 0
+has_any journal rs = Unit {0}
+
+-- the limit that it was made with
+abbrev pub limit_of : NoJournal → Option ℕ
+limit_of journal = journal.limit
+
+-- no faults are few
+pub none_below : 0 < 2 ^ 64
+none_below = omega arith

@@ -1,0 +1,125 @@
+-- A step is counted, and its journal has its records.
+use Rattle.std.specs.Prelude.{◌≡◌, ℕ, ◌+◌, ◌<◌, ◌≤◌, ◌^◌, true, false, List, [], Option, Some, None, IsSome}
+use mathlib.Core.Path.{refl, sym, ap, subst, ◌∙◌}
+use mathlib.Core.Logic.{inl, inr}
+use Rattle.std.proofs.Common.{arith}
+use Rattle.iv_types.specs.Maps.{Map}
+use Rattle.iv_types.specs.declared.refusal.EngineRefusal.TheVariants as refusal
+use Rattle.txn_machine.specs.Acts.{Act}
+use Rattle.txn_machine.specs.Answers as answer
+use Rattle.txn_machine.specs.Answers.{Answer}
+use Rattle.txn_machine.specs.Log.{Log, Opening}
+use Rattle.txn_machine.specs.State.{State, Stop, Seat, Cleaner, is_fault, most_steps}
+use Rattle.txn_machine.specs.Steps.{Step}
+use Rattle.txn_machine.specs.Store.{Effect}
+use Rattle.core_journal.specs.Records.{Records}
+use Rattle.core_recording.specs.Giving.{Did, IsBehind}
+use Rattle.core_recording.proofs.Used.{used_after}
+use Rattle.core_state.specs.Seats.{seat_at}
+use Rattle.core_state.specs.Stands.{Began, Counts, Failed, Moved, Stands, Told}
+use Rattle.core_state.specs.declared.state.CoreState.{CoreState}
+use Rattle.engine_core.specs.Acting.{Recorded}
+use Rattle.engine_core.proofs.Quiet.{stopped_records}
+
+-- ---- what is counted has room
+
+module _ {M : Type 0} (maps : M → ℕ → Map) (spare : M → ℕ → ℕ) (limit : M → Option ℕ) (core : CoreState M) (s : State) (counts : Counts maps spare limit core s) (runs : s.stop ≡ None) where
+  few : s.steps < most_steps
+  few = counts.running runs
+
+  pub few_steps : core.steps < 2 ^ 62
+  few_steps = let same = counts.steps in let lt = few in omega (arith, same, lt)
+
+  pub few_own : (i : ℕ) → i ≤ 64 → (seat_at core.seats i).steps < 2 ^ 62
+  few_own i within =
+      let same : (seat_at core.seats i).steps ≡ (s.seat_of i).steps = ap (λ (x : Seat). x.steps) (counts.seats i within) in
+      let le : (s.seat_of i).steps ≤ s.steps = counts.few i in
+      let lt = few in
+      omega (arith, same, le, lt)
+
+  pub few_removed : core.cleaner.removed < 2 ^ 62
+  few_removed =
+      let same : core.cleaner.removed ≡ s.cleaner.removed = ap (λ (x : Cleaner). x.removed) counts.cleaner in
+      let le : s.cleaner.removed ≤ s.steps = counts.removed in
+      let lt = few in
+      omega (arith, same, le, lt)
+
+  pub few_records : core.next ≡ s.log.next → core.next < 2 ^ 63
+  few_records same = let le : s.log.next ≤ s.steps + 1 = counts.next in let lt = few in omega (arith, same, le, lt)
+
+-- ---- the limit of the log stays
+
+opening_stays : (s : State) (i : ℕ) (a : Act) (said : Answer) (after : State) → Step s i a said after → after.opening ≡ s.opening
+opening_stays s i a said after step = elim step.does [ inl d ↦ ap (λ (x : State). x.opening) d.left | inr t ↦ ap (λ (x : State). x.opening) t.left ]
+
+module _ {M : Type 0} (maps : M → ℕ → Map) (spare : M → ℕ → ℕ) (limit : M → Option ℕ) (s : State) (i : ℕ) where
+  -- of a step that has begun
+  pub began_limit : (core then : CoreState M) → Stands maps spare limit core s → Began maps spare limit then s i → core.log_room.limit ≡ then.log_room.limit
+  began_limit core then stands began = sym (ap (λ (x : Opening). x.log_limit) stands.opening.is) ∙ ap (λ (x : Opening). x.log_limit) began.opening.is
+
+  -- and of one that is done
+  moved_limit : (a : Act) (said : Answer) (es : List Effect) (then : CoreState M) (before : Option ℕ) → s.opening.log_limit ≡ before → Moved maps spare limit s i a said es then → before ≡ then.log_room.limit
+  moved_limit a said es then before was moved =
+      sym was ∙ (ap (λ (x : Opening). x.log_limit) (sym (opening_stays s i a said moved.after moved.does)) ∙ ap (λ (x : Opening). x.log_limit) moved.stands.opening.is)
+
+-- ---- what was done
+
+module _ {M J : Type 0} (maps : M → ℕ → Map) (spare : M → ℕ → ℕ) (limit : M → Option ℕ) (has : J → Records → Type 0) (area : J → Option ℕ) (s : State) (i : ℕ) (a : Act) (said : Answer) where
+  module _ (core : CoreState M) (journal : J) (then : CoreState M) (after : J) where
+    -- it was told, where the disk did not fail
+    pub told_of : Did maps spare limit has area s i a said core journal then after → is_fault said ≡ false → Told maps spare limit s i a said then
+    told_of (inl gave) fine = gave.told
+    told_of (inr up) fine = absurd (let no : false ≡ true = sym fine ∙ ap is_fault up.said_is in cc)
+
+    pub failed_of : Did maps spare limit has area s i a said core journal then after → is_fault said ≡ true → Failed maps spare limit s i a then
+    failed_of (inl gave) bad = absurd (let no : true ≡ false = sym bad ∙ gave.told.no_fault in cc)
+    failed_of (inr up) bad = up.failed
+
+    module _ (rs : Records) (behind : IsBehind maps spare limit has area core journal s.log rs) (began : Began maps spare limit core s i) (new : CoreState M) where
+      pub recorded_told : (did : Did maps spare limit has area s i a said core journal then after) → is_fault said ≡ false → ((told : Told maps spare limit s i a said then) → Moved maps spare limit s i a said told.effects new)
+          → Recorded maps spare limit has area s i a said rs new after
+      recorded_told (inl gave) fine closes =
+          let moved : Moved maps spare limit s i a said gave.told.effects new = closes gave.told in
+          record {
+            effects = gave.told.effects;
+            says = inl gave.told.says;
+            moved = moved;
+            behind = record {
+              has_them = gave.gave rs behind;
+              used = used_after s i a said gave.told.effects rs behind.used ∙ sym (ap (λ (l : Log). l.used) moved.logged);
+              same_limit = gave.same_limit ∙ (behind.same_limit ∙ moved_limit maps spare limit s i a said gave.told.effects new core.log_room.limit (ap (λ (x : Opening). x.log_limit) began.opening.is) moved);
+            };
+          }
+      recorded_told (inr up) fine closes = absurd (let no : false ≡ true = sym fine ∙ ap is_fault up.said_is in cc)
+
+      pub recorded_fault : (did : Did maps spare limit has area s i a said core journal then after) → is_fault said ≡ true → (Failed maps spare limit s i a then → Moved maps spare limit s i a (answer.Refused refusal.DiskFault) [] new)
+          → Recorded maps spare limit has area s i a said rs new after
+      recorded_fault (inl gave) bad closes = absurd (let no : true ≡ false = sym bad ∙ gave.told.no_fault in cc)
+      recorded_fault (inr up) bad closes =
+          let moved : Moved maps spare limit s i a (answer.Refused refusal.DiskFault) [] new = closes up.failed in
+          subst (λ m. Recorded maps spare limit has area s i a m rs new after) (sym up.said_is)
+          (record {
+            effects = [];
+            says = inl up.failed.says;
+            moved = moved;
+            behind = record {
+              has_them = up.gave rs behind;
+              used = used_after s i a (answer.Refused refusal.DiskFault) [] rs behind.used ∙ sym (ap (λ (l : Log). l.used) moved.logged);
+              same_limit = up.same_limit ∙ (behind.same_limit ∙ moved_limit maps spare limit s i a (answer.Refused refusal.DiskFault) [] new core.log_room.limit (ap (λ (x : Opening). x.log_limit) began.opening.is) moved);
+            };
+          })
+
+-- a session is told of a stop
+pub recorded_stop : {M J : Type 0} (maps : M → ℕ → Map) (spare : M → ℕ → ℕ) (limit : M → Option ℕ) (has : J → Records → Type 0) (area : J → Option ℕ) (s : State) (i : ℕ) (a : Act) (stop : Stop) (core : CoreState M) (journal : J) (rs : Records)
+    → Stands maps spare limit core s → IsBehind maps spare limit has area core journal s.log rs → s.stop ≡ Some stop → (new : CoreState M) → Moved maps spare limit s i a (answer.Refused (refusal.Stopped stop.step)) [] new
+    → Recorded maps spare limit has area s i a (answer.Refused (refusal.Stopped stop.step)) rs new journal
+recorded_stop maps spare limit has area s i a stop core journal rs stands behind stopped new moved = record {
+  effects = [];
+  says = inr (subst IsSome (sym stopped) refl, refl);
+  moved = moved;
+  behind = record {
+    has_them = subst (has journal) (sym (stopped_records s i rs a stop.step)) behind.has_them;
+    used = used_after s i a (answer.Refused (refusal.Stopped stop.step)) [] rs behind.used ∙ sym (ap (λ (l : Log). l.used) moved.logged);
+    same_limit = behind.same_limit ∙ moved_limit maps spare limit s i a (answer.Refused (refusal.Stopped stop.step)) [] new core.log_room.limit (ap (λ (x : Opening). x.log_limit) stands.opening.is) moved;
+  };
+}
