@@ -35,7 +35,7 @@ with_perhaps objects number (Some r) rs = with_one objects (record { number = nu
 abbrev pub flushed_all : Records → Records
 flushed_all rs = record { flushed = rs.waiting ++ rs.flushed; waiting = []; used = rs.used + block_bytes }
 
--- none, but for what a checkpoint carries
+-- none: a checkpoint has taken over what they say, and of what it carries the bytes alone are counted
 abbrev pub restarted : ℕ → Records
 restarted used = record { flushed = []; waiting = []; used = used }
 

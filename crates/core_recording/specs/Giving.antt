@@ -36,7 +36,8 @@ module _ {M J : Type 0} (maps : M → ℕ → Map) (spare : M → ℕ → ℕ) (
     pub records : Records
     pub behind : IsBehind core journal state.log records
 
-  -- what is told of an act, and the journal has the records of its effects beside those that it had
+  -- what is told of an act, and the journal has the records of its effects beside those that it had, or after a checkpoint what that
+  -- leaves
   pub record Gave (s : State) (session : ℕ) (a : Act) (said : Answer) (core : CoreState M) (journal : J) (then : CoreState M) (after : J) : Type 0 where
     pub told : Told maps spare limit s session a said then
     pub gave : (rs : Records) → IsBehind core journal s.log rs → has after (records_after s session a said told.effects rs)

@@ -1,6 +1,6 @@
 -- No clause of `run` rests on this module: it serves contracts between crates.
 --
--- In which state of the machine a core is. Its data have a limit, its log may have one, and it has no disk.
+-- In which state of the machine a core is. Its data have a limit, its log may have one; what a crash leaves is not told.
 use Rattle.std.specs.Prelude.{◌≡◌, ◌≢◌, ℕ, ◌+◌, ◌<◌, ◌≤◌, List, [], None, IsSome, false, true, Bool, Option}
 use Rattle.std.specs.Option.{option_map}
 use Rattle.iv_types.specs.Maps.{Map}

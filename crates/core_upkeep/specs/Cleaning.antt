@@ -1,6 +1,6 @@
 -- No clause of `run` rests on this module: it serves contracts between crates.
 --
--- Which ghost is removed.
+-- Which rows no session has locked for a pay.
 use Rattle.std.specs.Prelude.{ℕ}
 use Rattle.iv_types.specs.declared.lock.LockMode.TheVariants.{Increment}
 use Rattle.table_laws.specs.Place.{Place}

@@ -15,7 +15,7 @@ use Rattle.core_state.specs.Stands.{Began, Moved}
 use Rattle.core_state.specs.declared.state.CoreState.{CoreState}
 
 module _ {M : Type 0} (maps : M → ℕ → Map) (spare : M → ℕ → ℕ) (limit : M → Option ℕ) where
-  -- the act takes memory, and did nothing
+  -- the act takes memory, and changed nothing but room
   abbrev pub LacksMemory : CoreState M → ℕ → Act → CoreState M → Type 0
   LacksMemory core session a after = TakesMemory a × ((s : State) → Began maps spare limit core s session → MayAct s.store session a → Began maps spare limit after s session)
 

@@ -18,7 +18,7 @@ use core_upkeep::{clean, prune, save};
 use iv_types::{EngineRefusal, NoMemory, SortedMaps};
 use txn_book::{Act, Answer, Step};
 
-// Does an act, and gives its records to the journal. It fails only where it takes memory and there is none, and nothing is changed then.
+// Does an act, and gives its records to the journal. It fails only where it takes memory and there is none, and nothing is changed then but room.
 fn act<M: SortedMaps, J: Journal>(
     core: &mut CoreState<M>,
     journal: &mut J,

@@ -73,7 +73,7 @@ abbrev pub IsKept : Change → Kept → Type 0
 IsKept c (sets r) = row_change c ≡ r
 IsKept c (defines object) = (c.table ≡ 0)
 
--- an entry: a definition is told by its text
+-- an entry: of a definition the table alone is told
 pub record IsEntry (e : BookEntry) (m : Entry) : Type 0 where
   pub number : e.number ≡ m.number
   pub session : e.session ≡ m.session
