@@ -29,7 +29,7 @@ put_here m p s = get-write_same place_cmp_total place_cmp-IsAntisymmetric m p (S
 put_elsewhere : (m : Entries) (p q : Place) (s : StoredEntry) → q ≢ p → get (insert m p s) q ≡ get m q
 put_elsewhere m p q s other = get-write_other place_cmp_total place_cmp-IsAntisymmetric m p (Some s) q other
 
-same_some : {X : Type 0} (x y : X) → Some x ≡ Some y → x ≡ y
+pub same_some : {X : Type 0} (x y : X) → Some x ≡ Some y → x ≡ y
 same_some x y e = cc
 
 abbrev place_of : Found → Place

@@ -171,7 +171,7 @@ pub record IsTaking (m : FinMap place_cmp StoredEntry) (parts : List Part) (next
   pub stands : IfStands (entries m) next
   pub told : parts_found parts ++ definitions_in (todo (entries m) next) ≡ definitions_in (entries m)
 
-from_least : (p : Place) → is_from false (0, []) p ≡ true
+pub from_least : (p : Place) → is_from false (0, []) p ≡ true
 from_least (n, key) = by n key
   where
     front : (k : List ℕ) → not (is_gt (slice_cmp nat_cmp [] k)) ≡ true

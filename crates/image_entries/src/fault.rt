@@ -10,7 +10,8 @@ pub(crate) const PAGES_FORMED: u8 = 9;
 
 pub(crate) const KEYS_APART: u8 = 10;
 
-pub(crate) const DEFINITIONS_READ: u8 = 11;
+/// The rule of the image on definitions: their keys, their sizes and their texts.
+pub const DEFINITIONS_READ: u8 = 11;
 
 /// The bytes of a part's key: the object number in four, and its own in two.
 pub(crate) const PART_KEY: usize = 6;

@@ -12,6 +12,7 @@ mod read;
 mod stored;
 mod twice;
 
+pub use fault::DEFINITIONS_READ;
 pub use gather::gather_entries;
 pub use parts::Part;
 pub use read::read_parts;

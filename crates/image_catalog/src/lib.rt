@@ -1,0 +1,11 @@
+//! The definitions of an image whose parts were read, as a catalog: the rest of rule 11 of the image.
+//!
+//! The parts of each definition are joined to its text, which is read and bound beside the definitions before it. Nothing
+//! is written.
+#![tactic(auto)]
+
+mod defining;
+mod read;
+mod texts;
+
+pub use read::read_catalog;

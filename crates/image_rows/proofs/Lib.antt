@@ -1,0 +1,4 @@
+pub mod NumberBytes
+pub mod Entries
+pub mod Walking
+pub mod Rising
