@@ -6,5 +6,6 @@ pub mod Counts
 pub mod HeldKeys
 pub mod Walks
 pub mod Ways
+pub mod Marks
 pub mod Cycles
 pub mod Steps

@@ -69,7 +69,7 @@ low_before lock index key e b = sym (on_index lock index key e) ∙ less_true _ 
 low_not_before : (lock : Want) (index : ℕ) (key : List ℕ) → lock.index ≡ index → is_before (index ∷ key) lock ≡ false → is_lt (by_bytes lock.interval.low key) ≡ false
 low_not_before lock index key e b = sym (ap is_lt (on_index lock index key e)) ∙ b
 
-only_key : (interval : Interval) (key : List ℕ) → IsPoint interval → LiesIn key interval → key ≡ interval.low
+pub only_key : (interval : Interval) (key : List ℕ) → IsPoint interval → LiesIn key interval → key ≡ interval.low
 only_key interval key p lies =
     (alone interval.low key).0 (subst (λ (high : Option (List ℕ)). LiesIn key (record { low = interval.low; high = high })) p lies)
 

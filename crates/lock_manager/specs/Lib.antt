@@ -2,4 +2,4 @@ pub mod Table
 pub mod Order
 pub mod Points
 pub mod Law
-pub mod Marks
+pub mod Suspects

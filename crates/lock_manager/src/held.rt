@@ -1,7 +1,7 @@
 //! The locks that a session holds.
 ghost use Rattle.std.specs.Prelude.{◌≡◌, ◌+◌, ◌≤◌, ◌↔◌, [], ◌∷◌, IsTrue, OnOk};
 ghost use Rattle.std.specs.List.{Contains};
-ghost use Rattle.txn_machine.specs.Locks.{Conflict, Meet};
+ghost use Rattle.txn_machine.specs.Locks.{Conflict};
 ghost use Rattle.lock_manager.specs.Order.{AreInOrder, HasNoneBefore};
 ghost use Rattle.lock_manager.specs.Table.{Covers, HasSome, HasGained, AddAtMost, AreNew};
 
@@ -184,23 +184,11 @@ impl Held {
         self.ranges.clear();
     }
 
-    // Whether one of the locks conflicts with this one of another session.
-    fn meets_one(&self, want: &Want) -> bool
+    /// Whether one of the locks conflicts with this one of another session.
+    pub fn meets(&self, want: &Want) -> bool
         ensures { IsTrue result ↔ HasSome (λ lock. Conflict lock want.now) self.now.locks }
     {
         point_meets(&self.points, want) || range_meets(&self.ranges, want)
-    }
-
-    /// Whether one of the locks conflicts with one of these of another session.
-    pub fn meets(&self, wants: &[Want]) -> bool
-        ensures { IsTrue result ↔ Meet self.now.locks wants.now }
-    {
-        for want in wants {
-            if self.meets_one(want) {
-                return true;
-            }
-        }
-        false
     }
 
     /// Whether this very lock is among the locks.

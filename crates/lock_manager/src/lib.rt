@@ -16,6 +16,7 @@ mod modes;
 mod order;
 mod points;
 mod session_part;
+mod suspects;
 mod table;
 
 pub use answer::LockAnswer;

@@ -3,44 +3,65 @@ ghost use Rattle.std.specs.Prelude.{◌≡◌, ◌↔◌, length, IsTrue, IfOk, 
 ghost use Rattle.std.specs.List.{Contains};
 ghost use Rattle.iv_types.specs.declared.limit.TheConstants.{SEATS};
 ghost use Rattle.iv_meaning.specs.Escrow.{IsSession};
-ghost use Rattle.txn_machine.specs.Locks.{IsInTheWay, AreInTheWay};
+ghost use Rattle.txn_machine.specs.Locks.{AreInTheWay};
 ghost use Rattle.iv_types.specs.SessionSets.{IsSomebody};
-ghost use Rattle.lock_manager.specs.Marks.{AreMarked};
+ghost use Rattle.lock_manager.specs.Suspects.{AreMarked, IsFound, IsWith};
 ghost use Rattle.lock_manager.specs.Table.{Covers, HasSome, IsNew, IsFree, IsReserved, IsGranted, IsRecorded, IsCancelled, IsReleased, AddAtMost, OnGranted, IfBlocked, locks_of, waiting_of, room_of};
 
 use crate::LockAnswer;
 use crate::session_part::SessionPart;
+use crate::suspects::{Holders, SLOTS, mark, suspects, unmark};
 use iv_types::{LockMode, NOBODY, NoMemory, SEATS, Sessions, Want, WantList};
 use std::alloc::Global;
 use std::marker::Model;
 
-// Whether another session is in the way of these wants.
-fn is_in_the_way(
+// Whether another session, from 1 to 64, is a suspect that holds a lock in the way of one want.
+fn is_found(
     parts: &[SessionPart],
-    holders: &[bool],
+    suspects: Sessions,
     session: u32,
-    wants: &[Want],
+    want: &Want,
     other: u32,
 ) -> bool
     requires parts { length parts.now ≡ SEATS }
-    requires marked { AreMarked holders.now parts.now }
     requires other { IsSession other }
-    ensures { IsTrue result ↔ IsInTheWay (locks_of parts.now) session wants.now other }
+    ensures { IsTrue result ↔ IsFound suspects (locks_of parts.now) session want.now other }
 {
-    other != session && holders[other as usize] && parts[other as usize].held().meets(wants)
+    suspects.has(other) && other != session && parts[other as usize].held().meets(want)
+}
+
+// These sessions, and those of the suspects that hold a lock in the way of one want.
+fn with_those(
+    parts: &[SessionPart],
+    suspects: Sessions,
+    session: u32,
+    want: &Want,
+    found: Sessions,
+) -> Sessions
+    requires parts { length parts.now ≡ SEATS }
+    ensures { IsWith found (IsFound suspects (locks_of parts.now) session want.now) result }
+{
+    if !suspects.is_somebody() {
+        return found;
+    }
+    let mut sessions = found;
+    for other in 1..SEATS as u32 {
+        if is_found(parts, suspects, session, want, other) {
+            sessions = sessions.with(other);
+        }
+    }
+    sessions
 }
 
 // The sessions that are in the way of these wants.
-fn in_the_way(parts: &[SessionPart], holders: &[bool], session: u32, wants: &[Want]) -> Sessions
+fn in_the_way(parts: &[SessionPart], slots: &[Holders], session: u32, wants: &[Want]) -> Sessions
     requires parts { length parts.now ≡ SEATS }
-    requires marked { AreMarked holders.now parts.now }
+    requires marked { AreMarked slots.now parts.now }
     ensures { AreInTheWay (locks_of parts.now) session wants.now result }
 {
     let mut sessions = NOBODY;
-    for other in 1..SEATS as u32 {
-        if is_in_the_way(parts, holders, session, wants, other) {
-            sessions = sessions.with(other);
-        }
+    for want in wants {
+        sessions = with_those(parts, suspects(slots, want), session, want, sessions);
     }
     sessions
 }
@@ -48,20 +69,20 @@ fn in_the_way(parts: &[SessionPart], holders: &[bool], session: u32, wants: &[Wa
 /// The locks that sessions 1 to 64 hold on intervals of the keys of indexes, what each session waits for, and the room
 /// that was made for each.
 ///
-/// Each session's locks are kept in the order of their indexes and low ends, so that a request looks, of each session,
-/// only at locks of its own indexes that can overlap what it asks for.
+/// A request looks only into the locks of sessions with a mark of such a mode at its key's digest, or on a range. Each session's locks
+/// are kept in the order of their indexes and low ends, so that it looks at those of its own indexes that can overlap what it asks for.
 #[derive(Drop)]
 pub struct LockTable {
     alloc: Global,
     // Session k's part stands at place k.
     parts: Vec<SessionPart>,
-    // Whether session k may hold a lock, at place k. The others are passed over by requests.
-    holders: Vec<bool>,
+    // The sessions that may hold a lock of a digest and a mode. The others are passed over by requests.
+    slots: Vec<Holders>,
 }
 
 impl Model for LockTable {
     ghost use Rattle.std.specs.Coded.{coded_list};
-    ghost use Rattle.lock_manager.specs.Marks.{IsSound};
+    ghost use Rattle.lock_manager.specs.Suspects.{IsSound};
     ghost use Rattle.lock_manager.specs.Table.{Table, coded_session_locks};
 
     ghost Value = { Table };
@@ -82,7 +103,7 @@ impl LockTable {
     pub fn new(alloc: Global) -> Result<LockTable, NoMemory>
         ensures { IfOk result (λ table. IsNew table) }
     {
-        let holders = vec![in alloc; false; SEATS]?;
+        let slots = vec![in alloc; Holders::none(); SLOTS]?;
         let mut parts = Vec::new(alloc);
         for _ in 0..SEATS {
             parts.push(SessionPart::new(alloc))?;
@@ -90,7 +111,7 @@ impl LockTable {
         Ok(LockTable {
             alloc,
             parts,
-            holders,
+            slots,
         })
     }
 
@@ -140,8 +161,8 @@ impl LockTable {
         ensures { IsGranted self.old self.new session wants }
     {
         let alloc = self.alloc;
+        mark(&mut self.slots, session, wants.as_slice());
         self.parts[session as usize].grant(alloc, wants);
-        self.holders[session as usize] = true;
     }
 
     /// The session, 1 to 64, waits for these wants, and for nothing else.
@@ -157,7 +178,7 @@ impl LockTable {
         ensures in_the_way { AreInTheWay (locks_of self.now) session wants.now result }
         ensures free { ¬ IsSomebody result → IsFree (locks_of self.now) session wants.now }
     {
-        in_the_way(&self.parts, &self.holders, session, wants.as_slice())
+        in_the_way(&self.parts, &self.slots, session, wants.as_slice())
     }
 
     /// The sessions that are now in the way of what the session, 1 to 64, waits for: nobody where it waits for nothing.
@@ -166,7 +187,7 @@ impl LockTable {
         ensures { AreInTheWay (locks_of self.now) session (waiting_of self.now session) result }
     {
         let waiting = self.parts[session as usize].waiting();
-        in_the_way(&self.parts, &self.holders, session, waiting)
+        in_the_way(&self.parts, &self.slots, session, waiting)
     }
 
     /// Gives back what the session, 1 to 64, waits for. It waits for nothing then.
@@ -186,7 +207,7 @@ impl LockTable {
     {
         let alloc = self.alloc;
         self.parts[session as usize].release(alloc);
-        self.holders[session as usize] = false;
+        unmark(&mut self.slots, session);
     }
 
     /// Whether the session, 1 to 64, holds a lock of exactly this mode on this index whose interval has the key.
