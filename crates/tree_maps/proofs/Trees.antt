@@ -7,12 +7,11 @@ use Rattle.std.proofs.lemmas.List.{length-map}
 use Rattle.std.specs.List.{All, AllByRecursion}
 use Rattle.std.specs.Option.{option_map}
 use Rattle.std.specs.Ordering.{eq_by_cmp, is_ge, is_gt}
-use Rattle.std.specs.FinMap.{FinMap, empty, get, insert, remove, entries, from_sorted, find, is_sorted, contains_key, len}
+use Rattle.std.specs.FinMap.{empty, get, insert, remove, entries, from_sorted, find, is_sorted, len}
 use Rattle.std.specs.FinMap.{entries-from_sorted, entries_sorted, entries-insert, get-entries, get-insert, get-remove, same_map, len-insert, len-remove, len-entries, len-empty, same_entries_map}
-use Rattle.std.specs.FinMap.Entries.{where_key}
 use Rattle.std.specs.Cmp.Lexicographic.{nat_list_cmp_total}
 use Rattle.table_laws.specs.Place.{Place, place_cmp}
-use Rattle.table_laws.proofs.Place.{place_cmp_total, place_cmp-IsAntisymmetric}
+use Rattle.table_laws.proofs.Place.{place_cmp_total}
 use Rattle.spare_map.specs.Trees.{is_from, first_where, without}
 use Rattle.spare_map.proofs.Firsts.{some_where}
 use Rattle.spare_map.proofs.Maps as lists
@@ -21,7 +20,7 @@ use Rattle.iv_types.specs.Maps as maps
 use Rattle.table_store.specs.Lists.{largest_entry, most_of_list}
 use Rattle.table_store.proofs.Maps.{by_bytes, bytes_same, made_none}
 use Rattle.table_store.proofs.KeptLists.{IsSmall, kept_most}
-use Rattle.tree_maps.specs.Keyed.{Held, keyed, map_of, IsOwn, AreOwn}
+use Rattle.tree_maps.specs.Keyed.{Held, keyed, map_of, AreOwn}
 use Rattle.tree_maps.proofs.Own.{Own, find_keyed, sorted_keyed, own_put, own_where, from_at, from_after, first_keyed}
 
 -- ---- no entries

@@ -1,10 +1,9 @@
-use Rattle.std.proofs.Common.{◌≡◌, Option, Bool, true, Some, ◌∙◌, sym, ap}
+use Rattle.std.proofs.Common.{◌≡◌, true, Some, ◌∙◌, ap}
 use Rattle.std.specs.FinMap.{entries}
 use Rattle.std.specs.Option.{option_map}
 use Rattle.std.specs.Vec.{vec_len}
-use Rattle.table_laws.specs.Place.{Place}
 use Rattle.spare_map.specs.Trees.{first_where, is_from}
-use Rattle.iv_types.specs.Maps.{Entry, entry_after}
+use Rattle.iv_types.specs.Maps.{entry_after}
 use Rattle.table_store.specs.Lists.{Listed}
 use Rattle.tree_maps.specs.Keyed.{keyed}
 use Rattle.tree_maps.proofs.Trees.{after, told, told_none, told_never}

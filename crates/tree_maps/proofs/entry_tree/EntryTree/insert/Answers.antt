@@ -1,8 +1,7 @@
-use Rattle.std.proofs.Common.{ℕ, ◌≡◌, ◌+◌, ◌∙◌, sym, ap, subst, arith, None}
+use Rattle.std.proofs.Common.{◌≡◌, ◌+◌, ◌∙◌, sym, ap, subst, arith, None}
 use Rattle.std.specs.FinMap as map
 use Rattle.std.specs.Vec.{vec_len}
 use Rattle.table_store.specs.Lists.{Listed}
-use Rattle.iv_types.specs.Maps.{map_size}
 use Rattle.tree_maps.specs.Keyed.{Held, map_of, AreOwn}
 use Rattle.tree_maps.proofs.Trees.{got, own_new, put, most}
 use Rattle.tree_maps.proofs.entry_tree.EntryTree.insert.Goals as goal

@@ -1,5 +1,4 @@
 use Rattle.std.proofs.Common.{subst, sym}
-use Rattle.std.specs.Vec.{vec_len}
 use Rattle.tree_maps.specs.Keyed.{AreOwn}
 use Rattle.tree_maps.proofs.Trees.{own_none, map_of_none}
 use Rattle.tree_maps.proofs.entry_tree.EntryTree.new.Goals as goal

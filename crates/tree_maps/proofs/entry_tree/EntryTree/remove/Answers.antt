@@ -1,4 +1,4 @@
-use Rattle.std.proofs.Common.{◌≡◌, ◌+◌, ◌-◌, ◌≤◌, ◌<◌, ◌^◌, min, None, Some, is_some, ◌∙◌, sym, ap, subst, arith, IsSome}
+use Rattle.std.proofs.Common.{◌≡◌, ◌-◌, ◌^◌, min, None, is_some, ◌∙◌, sym, ap, subst, arith, IsSome}
 use mathlib.Core.Logic.{inl, inr}
 use Rattle.std.proofs.lemmas.Bool.{cases_lt}
 use Rattle.std.specs.FinMap as map
