@@ -127,6 +127,13 @@ impl Log {
         self.next
     }
 
+    /// Has the next record get this number.
+    pub fn number_from(&mut self, next: u64)
+        ensures { self.new ≡ record self.old { next = next } }
+    {
+        self.next = next;
+    }
+
     /// Reserves so many bytes more.
     ///
     /// # Errors
