@@ -1,14 +1,18 @@
 -- No clause of `run` rests on this module: it serves contracts between crates.
 --
 -- The journal of an engine without a disk.
-use Rattle.std.specs.Prelude.{ℕ, ◌<◌, ◌^◌, Option}
+use Rattle.std.specs.Prelude.{ℕ, ◌<◌, ◌^◌, List, Option}
 use Rattle.std.proofs.Common.{arith}
+use Rattle.log_records.specs.Area.{Entry}
 use Rattle.core_journal.specs.Records.{Records}
 use Rattle.core_journal.specs.declared.none.NoJournal.{NoJournal}
 
 -- it keeps nothing, so that whatever records were given are those that it has
 abbrev pub has_any : NoJournal → Records → Type 0
 has_any journal rs = Unit {0}
+
+abbrev pub carries_any : NoJournal → Records → List Entry → ℕ → Type 0
+carries_any journal rs es used = Unit {0}
 
 -- the limit that it was made with
 abbrev pub limit_of : NoJournal → Option ℕ

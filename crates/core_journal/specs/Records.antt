@@ -23,9 +23,15 @@ pub record Records : Type 0 where
   pub waiting : List Entry
   -- the bytes that they take of an area, with those that begin and end blocks
   pub used : ℕ
+  -- how many checkpoints were saved before them
+  pub saves : ℕ
+
+-- none, as a journal begins; of what its first block carries the bytes alone are counted
+abbrev pub begun : ℕ → Records
+begun used = record { flushed = []; waiting = []; used = used; saves = 0 }
 
 abbrev pub with_one : Schema → Numbered → Records → Records
-with_one objects r rs = record { flushed = rs.flushed; waiting = spelled objects r ∷ rs.waiting; used = rs.used + record_bytes objects r.of }
+with_one objects r rs = record rs { waiting = spelled objects r ∷ rs.waiting; used = rs.used + record_bytes objects r.of }
 
 abbrev pub with_perhaps : Schema → ℕ → Option Record → Records → Records
 with_perhaps objects number None rs = rs
@@ -33,11 +39,11 @@ with_perhaps objects number (Some r) rs = with_one objects (record { number = nu
 
 -- what waits is on the disk, in a block
 abbrev pub flushed_all : Records → Records
-flushed_all rs = record { flushed = rs.waiting ++ rs.flushed; waiting = []; used = rs.used + block_bytes }
+flushed_all rs = record rs { flushed = rs.waiting ++ rs.flushed; waiting = []; used = rs.used + block_bytes }
 
 -- none: a checkpoint has taken over what they say, and of what it carries the bytes alone are counted
-abbrev pub restarted : ℕ → Records
-restarted used = record { flushed = []; waiting = []; used = used }
+abbrev pub restarted : Records → ℕ → Records
+restarted rs used = record { flushed = []; waiting = []; used = used; saves = rs.saves + 1 }
 
 -- a commit and a definition are flushed
 abbrev pub flushed_after : Effect → Records → Records
@@ -60,5 +66,5 @@ abbrev pub records_after : State → ℕ → Act → Answer → List Effect → 
 records_after s session act.Commit (Refused DiskFault) es rs = with_perhaps (schema_of s.store) s.log.next (record_of s.store session act.Commit s.log Commits) rs
 records_after s session (act.Schema statement) (Refused DiskFault) es rs =
     with_one (schema_of s.store) (record { number = s.log.next; of = Definition ((committed s.store).number + 1) session (statement_text statement) }) rs
-records_after s session act.Checkpoint (Saved number) es rs = restarted (block_bytes + 1 + carried s.store)
+records_after s session act.Checkpoint (Saved number) es rs = restarted rs (block_bytes + 1 + carried s.store)
 records_after s session a said es rs = recorded_all s.store session a es s.log rs

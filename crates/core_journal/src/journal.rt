@@ -1,19 +1,23 @@
 //! Journals.
-ghost use Rattle.std.specs.Prelude.{◌≡◌, ◌+◌, ◌∷◌, ◌<◌, ◌^◌, ℕ, Option, length, OnOk, OnErr};
+ghost use Rattle.std.specs.Prelude.{◌≡◌, ◌+◌, ◌∷◌, ◌<◌, ◌^◌, ℕ, List, [], Option, length, OnOk, OnErr};
 ghost use Rattle.iv_types.specs.Faults.{Rose};
-ghost use Rattle.txn_machine.specs.Counts.{told_need};
 ghost use Rattle.txn_machine.specs.Log.{Within, block_bytes};
+ghost use Rattle.log_records.specs.Area.{Entry};
 ghost use Rattle.log_records.specs.Lent.{stands_for};
 ghost use Rattle.log_records.specs.Spelling.{IsShort, spelling};
 ghost use Rattle.core_journal.specs.Records.{Records, flushed_all, restarted};
 
-use iv_types::DiskFault;
+use iv_types::{Catalog, DiskFault, SortedMaps};
 use log_records::LentRecord;
 
 /// Where an engine gives the records of its steps.
 pub trait Journal {
     /// Whether it has these records.
     ghost has: { Self → Records → Type 0 };
+
+    /// Whether a checkpoint has begun, behind these records, that carries these, the latest first, which take so many bytes of
+    /// the area with those that begin and end their block.
+    ghost carries: { Self → Records → List Entry → ℕ → Type 0 };
 
     /// The bytes of an area of its log, where there is such a limit.
     ghost limit: { Self → Option ℕ };
@@ -26,7 +30,7 @@ pub trait Journal {
         requires short { IsShort (stands_for lent) }
         requires number { number < 2 ^ 63 }
         requires room { (rs : Records) × has self.old rs × Within (limit self.old) (rs.used + length (spelling number (stands_for lent))) }
-        ensures has { (rs : Records) → has self.old rs → has self.new (record { flushed = rs.flushed; waiting = record { number = number; entry = stands_for lent.entry } ∷ rs.waiting; used = rs.used + length (spelling number (stands_for lent.entry)) }) }
+        ensures has { (rs : Records) → has self.old rs → has self.new (record rs { waiting = record { number = number; entry = stands_for lent.entry } ∷ rs.waiting; used = rs.used + length (spelling number (stands_for lent.entry)) }) }
         ensures limit { limit self.new ≡ limit self.old }
         ensures faults { faults self.new ≡ faults self.old };
 
@@ -38,17 +42,44 @@ pub trait Journal {
     fn flush(&mut self) -> Result<(), DiskFault>
         requires { (rs : Records) × has self.old rs × Within (limit self.old) (rs.used + block_bytes) }
         ensures ok { OnOk result (((rs : Records) → has self.old rs → has self.new (flushed_all rs)) × (faults self.new ≡ faults self.old)) }
-        ensures err { OnErr result (((rs : Records) → has self.old rs → has self.new rs) × Rose (faults self.old) (faults self.new)) }
+        ensures err { OnErr result (Rose (faults self.old) (faults self.new)) }
         ensures limit { limit self.new ≡ limit self.old };
 
-    /// Begins anew, once a checkpoint has taken over all that its records say: with the records that this carries, which take so many
-    /// bytes of the area with those of their block. Bytes past the end of a `u64` count as that end.
-    fn restart(&mut self, used: u64)
-        requires { Within (limit self.old) used }
-        ensures has { (rs : Records) (bytes : ℕ) → used ≡ told_need bytes → has self.old rs → has self.new (restarted bytes) }
+    /// Begins a checkpoint, which is to take over all that its records say. It carries none yet.
+    fn begin_checkpoint(&mut self, next: u64)
+        requires few { (rs : Records) × has self.old rs × (rs.saves < 2 ^ 62) × Within (limit self.old) (block_bytes + 1) }
+        ensures carries { (rs : Records) → has self.old rs → carries self.new rs [] (block_bytes + 1) }
+        ensures limit { limit self.new ≡ limit self.old }
+        ensures faults { faults self.new ≡ faults self.old };
+
+    /// Carries a record under its number, for which the area has room.
+    fn carry(&mut self, number: u64, lent: LentRecord<'_>)
+        requires short { IsShort (stands_for lent) }
+        requires room { (rs : Records) × (es : List Entry) × (used : ℕ) × carries self.old rs es used × Within (limit self.old) (used + length (spelling number (stands_for lent))) }
+        ensures carries { (rs : Records) (es : List Entry) (used : ℕ) → carries self.old rs es used
+            → carries self.new rs (record { number = number; entry = stands_for lent.entry } ∷ es) (used + length (spelling number (stands_for lent.entry))) }
         ensures limit { limit self.new ≡ limit self.old }
         ensures faults { faults self.new ≡ faults self.old };
 
     /// The count of faults is a `u64`.
     ghost counts_in: { (journal : Self) → faults journal < 2 ^ 64 };
+}
+
+/// A journal that saves checkpoints of an engine over such maps. A checkpoint is begun, each record of it is carried, and then it
+/// is saved.
+pub trait Checkpoints<M: SortedMaps>: Journal {
+    /// Saves the checkpoint: what the maps have of these definitions, with their greatest commit number. It has then no record but
+    /// those that it carries.
+    ///
+    /// # Errors
+    ///
+    /// Where the disk fails. It may have the checkpoint or not.
+    fn save(&mut self, maps: &mut M, catalog: &Catalog, commits: u64) -> Result<(), DiskFault>
+        requires { (rs : Records) × (es : List Entry) × (used : ℕ) × Self.carries self.old rs es used }
+        ensures ok { OnOk result (((rs : Records) (es : List Entry) (used : ℕ) → Self.carries self.old rs es used → Self.has self.new (restarted rs used)) × (Self.faults self.new ≡ Self.faults self.old)) }
+        ensures err { OnErr result (Rose (Self.faults self.old) (Self.faults self.new)) }
+        ensures maps { M.maps maps.new ≡ M.maps maps.old }
+        ensures spare { M.spare maps.new ≡ M.spare maps.old }
+        ensures data_limit { M.limit maps.new ≡ M.limit maps.old }
+        ensures limit { Self.limit self.new ≡ Self.limit self.old };
 }

@@ -7,5 +7,5 @@
 mod journal;
 mod none;
 
-pub use journal::Journal;
+pub use journal::{Checkpoints, Journal};
 pub use none::NoJournal;

@@ -1,8 +1,8 @@
 //! The journal of an engine without a disk.
-ghost use Rattle.core_journal.specs.NoJournal.{has_any, limit_of, none_below};
+ghost use Rattle.core_journal.specs.NoJournal.{has_any, carries_any, limit_of, none_below};
 
-use crate::journal::Journal;
-use iv_types::DiskFault;
+use crate::journal::{Checkpoints, Journal};
+use iv_types::{Catalog, DiskFault, SortedMaps};
 use log_records::LentRecord;
 
 /// A journal that keeps nothing: its engine's database lies in memory alone. What its records would take is counted against a limit
@@ -15,6 +15,8 @@ pub struct NoJournal {
 
 impl Journal for NoJournal {
     ghost has = { has_any };
+
+    ghost carries = { carries_any };
 
     ghost limit = { limit_of };
 
@@ -31,7 +33,21 @@ impl Journal for NoJournal {
         Ok(())
     }
 
-    fn restart(&mut self, used: u64) {
-        let _used = used;
+    fn begin_checkpoint(&mut self, next: u64) {
+        let _next = next;
+    }
+
+    fn carry(&mut self, number: u64, lent: LentRecord<'_>) {
+        let _number = number;
+        let _lent = lent;
+    }
+}
+
+impl<M: SortedMaps> Checkpoints<M> for NoJournal {
+    fn save(&mut self, maps: &mut M, catalog: &Catalog, commits: u64) -> Result<(), DiskFault> {
+        let _maps = maps;
+        let _catalog = catalog;
+        let _commits = commits;
+        Ok(())
     }
 }

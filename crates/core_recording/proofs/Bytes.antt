@@ -27,5 +27,5 @@ module _ (objects : Schema) (r : Record) (number given : ℕ) (lent : bytes.Reco
     room = subst (λ n. Within most (rs.used + n)) (sym long) can.room
 
   -- the journal has it then
-  pub given_one : (rs : Records) → (record { flushed = rs.flushed; waiting = record { number = given; entry = lent } ∷ rs.waiting; used = rs.used + length (spelling given lent) }) ≡ with_one objects (record { number = number; of = r }) rs
-  given_one rs = λ x. record { flushed = rs.flushed; waiting = record { number = numbered x; entry = is x } ∷ rs.waiting; used = rs.used + long x }
+  pub given_one : (rs : Records) → (record rs { waiting = record { number = given; entry = lent } ∷ rs.waiting; used = rs.used + length (spelling given lent) }) ≡ with_one objects (record { number = number; of = r }) rs
+  given_one rs = λ x. record rs { waiting = record { number = numbered x; entry = is x } ∷ rs.waiting; used = rs.used + long x }

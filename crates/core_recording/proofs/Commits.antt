@@ -140,12 +140,7 @@ module _ {M J : Type 0} (maps : M → ℕ → Map) (spare : M → ℕ → ℕ) (
     same_limit = same;
   }
 
-  -- or it waits, and nothing is done
-  pub gave_up : (after : J) → ((rs : Records) → has journal rs → has after (with_one (schema_of s.store) (record { number = core.next; of = its_record }) rs)) → area after ≡ area journal
+  -- or the disk failed, and nothing is done
+  pub gave_up : (after : J) → area after ≡ area journal
       → GaveUp maps spare limit has area s i act.Commit (answer.Refused refusal.DiskFault) core journal core after
-  gave_up after given same = record {
-    said_is = refl;
-    failed = record { began = began; says = (refl, some); appends = refl };
-    gave = λ rs behind. subst (λ n. has after (with_one (schema_of s.store) (record { number = n; of = its_record }) rs)) began.holds.next (given rs behind.has_them);
-    same_limit = same;
-  }
+  gave_up after same = record { said_is = refl; failed = record { began = began; says = (refl, some); appends = refl }; same_limit = same }

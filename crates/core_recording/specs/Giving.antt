@@ -1,7 +1,7 @@
 -- No clause of `run` rests on this module: it serves contracts between crates.
 --
 -- What an act gives to the journal.
-use Rattle.std.specs.Prelude.{◌≡◌, ◌⊎◌, ℕ, [], Option}
+use Rattle.std.specs.Prelude.{◌≡◌, ◌⊎◌, ℕ, ◌<◌, ◌^◌, Option}
 use Rattle.iv_types.specs.Maps.{Map}
 use Rattle.iv_types.specs.declared.refusal.EngineRefusal.TheVariants.{DiskFault}
 use Rattle.txn_machine.specs.Acts.{Act}
@@ -27,6 +27,8 @@ module _ {M J : Type 0} (maps : M → ℕ → Map) (spare : M → ℕ → ℕ) (
     pub may : MayAct state.store session a
     pub records : Records
     pub behind : IsBehind core journal state.log records
+    -- a step saves one checkpoint at most
+    pub few : records.saves < 2 ^ 62
 
   -- what is told of an act, of whose effects the journal has no records yet
   pub record IsUngiven (core : CoreState M) (journal : J) (session : ℕ) (a : Act) (said : Answer) : Type 0 where
@@ -43,11 +45,10 @@ module _ {M J : Type 0} (maps : M → ℕ → Map) (spare : M → ℕ → ℕ) (
     pub gave : (rs : Records) → IsBehind core journal s.log rs → has after (records_after s session a said told.effects rs)
     pub same_limit : area after ≡ area journal
 
-  -- the disk failed: nothing is changed, and the record of what was to be done waits
+  -- the disk failed: nothing is changed, and what the journal has is not told
   pub record GaveUp (s : State) (session : ℕ) (a : Act) (said : Answer) (core : CoreState M) (journal : J) (then : CoreState M) (after : J) : Type 0 where
     pub said_is : said ≡ Refused DiskFault
     pub failed : Failed maps spare limit s session a then
-    pub gave : (rs : Records) → IsBehind core journal s.log rs → has after (records_after s session a (Refused DiskFault) [] rs)
     pub same_limit : area after ≡ area journal
 
   -- one or the other

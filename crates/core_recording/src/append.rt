@@ -42,7 +42,7 @@ pub(crate) fn give_abort<J: Journal>(journal: &mut J, wrote: bool, number: u64, 
 ///
 /// # Errors
 ///
-/// Where the disk fails. The record waits then.
+/// Where the disk fails. The records that waited may be on it or not.
 #[tactic(none)]
 pub fn give_and_flush<J: Journal>(
     journal: &mut J,
@@ -51,7 +51,7 @@ pub fn give_and_flush<J: Journal>(
 ) -> Result<(), DiskFault>
     requires { (objects : Schema) × (r : Record) × (rs : Records) × (stands_for lent ≡ in_bytes objects r) × J.has journal.old rs × CanAppend (J.limit journal.old) objects number r rs × Within (J.limit journal.old) (rs.used + record_bytes objects r + block_bytes) }
     ensures ok { OnOk result (((objects : Schema) (r : Record) (rs : Records) → stands_for lent.entry ≡ in_bytes objects r → J.has journal.old rs → J.has journal.new (flushed_all (with_one objects (record { number = number; of = r }) rs))) × (J.faults journal.new ≡ J.faults journal.old)) }
-    ensures err { OnErr result (((objects : Schema) (r : Record) (rs : Records) → stands_for lent.entry ≡ in_bytes objects r → J.has journal.old rs → J.has journal.new (with_one objects (record { number = number; of = r }) rs)) × Rose (J.faults journal.old) (J.faults journal.new)) }
+    ensures err { OnErr result (Rose (J.faults journal.old) (J.faults journal.new)) }
     ensures limit { J.limit journal.new ≡ J.limit journal.old }
 {
     give(journal, number, lent);

@@ -110,13 +110,11 @@ module _ {M J : Type 0} (maps : M → ℕ → Map) (spare : M → ℕ → ℕ) (
           same_limit = same;
         }
 
-    -- or it waits, and nothing is defined
-    pub gave_up : (then : CoreState M) (after : J) → Began maps spare limit then s i
-        → ((rs : Records) → has journal rs → has after (with_one (schema_of s.store) (record { number = core.next; of = its_record }) rs)) → area after ≡ area journal
+    -- or the disk failed, and nothing is defined
+    pub gave_up : (then : CoreState M) (after : J) → Began maps spare limit then s i → area after ≡ area journal
         → GaveUp maps spare limit has area s i (act.Schema statement) (answer.Refused refusal.DiskFault) core journal then after
-    gave_up then after began given same = record {
+    gave_up then after began same = record {
       said_is = refl;
       failed = record { began = began; says = (refl, (committed s.store).number + 1, Defines (object_of d) ∷ [], defines_it maps spare limit s i statement d first text need core m ((committed s.store).number + 1) refl); appends = refl };
-      gave = λ rs behind. subst (λ n. has after (with_one (schema_of s.store) (record { number = n; of = its_record }) rs)) m.may.began.holds.next (given rs behind.has_them);
       same_limit = same;
     }

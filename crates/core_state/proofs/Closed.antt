@@ -33,7 +33,7 @@ use Rattle.txn_book.specs.Acts.{answer_of}
 use Rattle.txn_book.specs.declared.step.Answer.{Answer as Said}
 use Rattle.txn_book.specs.declared.step.Answer.TheVariants as said
 use Rattle.core_state.specs.Seats.{machine_seat, machine_cleaner, seat_at, refusal_in, tells, told, cleaned}
-use Rattle.core_state.specs.Stands.{Stands, Began, Told, Failed, Moved, is_blocked, Holds, Reserves, Counts, IsOpening}
+use Rattle.core_state.specs.Stands.{Stands, Began, Told, Failed, Moved, waiting_after, is_blocked, Holds, Reserves, Counts, IsOpening}
 use Rattle.core_state.proofs.Data.{steps_on}
 use Rattle.core_state.specs.declared.seat.Seat.{Seat}
 use Rattle.core_state.specs.declared.seat.Cleaner.{Cleaner}
@@ -307,12 +307,12 @@ module _ {M : Type 0} (maps : M → ℕ → Map) (spare : M → ℕ → ℕ) (li
 
 -- ---- a step that the disk failed
 
--- its record waits
-failed_log : (s : State) (i : ℕ) (a : Act) → Says s i a (answer.Refused refused.DiskFault) [] → (log_after s i a (answer.Refused refused.DiskFault) []).next ≡ s.log.next + 1
-    → (used : ℕ) × (log_after s i a (answer.Refused refused.DiskFault) [] ≡ record s.log { next = s.log.next + 1; used = used }) × (definitions_after s.definitions a (answer.Refused refused.DiskFault) ≡ s.definitions)
+-- its record waits, if it has one
+failed_log : (s : State) (i : ℕ) (a : Act) → Says s i a (answer.Refused refused.DiskFault) [] → (log_after s i a (answer.Refused refused.DiskFault) []).next ≡ s.log.next + waiting_after a
+    → (used : ℕ) × (log_after s i a (answer.Refused refused.DiskFault) [] ≡ record s.log { next = s.log.next + waiting_after a; used = used }) × (definitions_after s.definitions a (answer.Refused refused.DiskFault) ≡ s.definitions)
 failed_log s i act.Commit h n = (_, refl, refl)
 failed_log s i (act.Schema statement) h n = (_, refl, refl)
-failed_log s i act.Checkpoint h n = absurd (let bad : s.log.next ≡ s.log.next + 1 = n in omega (arith, bad))
+failed_log s i act.Checkpoint h n = (s.log.used, ap (λ k. record s.log { next = k; used = s.log.used }) n, refl)
 failed_log s i (act.Begin mode) h n = absurd h
 failed_log s i act.Defs h n = absurd h
 failed_log s i (act.Fetch number interval mode) h n = absurd h
@@ -326,8 +326,26 @@ failed_log s i act.Clean h n = absurd h
 failed_log s i act.Prune h n = absurd h
 failed_log s i act.Cancel h n = absurd h
 
+-- one record at most waits
+one_waits : (a : Act) → waiting_after a ≤ 1
+one_waits act.Checkpoint = omega arith
+one_waits act.Commit = omega arith
+one_waits (act.Schema statement) = omega arith
+one_waits (act.Begin mode) = omega arith
+one_waits act.Defs = omega arith
+one_waits (act.Fetch number interval mode) = omega arith
+one_waits (act.Peek number interval) = omega arith
+one_waits (act.Put number key new) = omega arith
+one_waits act.Pay = omega arith
+one_waits act.Ghost = omega arith
+one_waits act.UndoOne = omega arith
+one_waits act.End = omega arith
+one_waits act.Clean = omega arith
+one_waits act.Prune = omega arith
+one_waits act.Cancel = omega arith
+
 pub fault_closed : {M : Type 0} (maps : M → ℕ → Map) (spare : M → ℕ → ℕ) (limit : M → Option ℕ) (core : CoreState M) (s : State) (i : ℕ) (a : Act) → May s i a → i ≤ 64 → Failed maps spare limit s i a core
-    → (steps next : ℕ) (seats : List Seat) (stop : Option ℕ) → steps ≡ core.steps + 1 → next ≡ core.next + 1 → seat_at seats i ≡ told (seat_at core.seats i) steps (Some refused.DiskFault) → ((j : ℕ) → j ≢ i → seat_at seats j ≡ seat_at core.seats j)
+    → (steps next : ℕ) (seats : List Seat) (stop : Option ℕ) → steps ≡ core.steps + 1 → next ≡ core.next + waiting_after a → seat_at seats i ≡ told (seat_at core.seats i) steps (Some refused.DiskFault) → ((j : ℕ) → j ≢ i → seat_at seats j ≡ seat_at core.seats j)
     → stop ≡ Some steps → Moved maps spare limit s i a (answer.Refused refused.DiskFault) [] (record core { steps = steps; next = next; seats = seats; stop = stop })
 fault_closed maps spare limit core s i a may within f steps next seats stop more appends own others stops =
     let h : Began maps spare limit core s i = f.began in
@@ -345,7 +363,7 @@ fault_closed maps spare limit core s i a may within f steps next seats stop more
             book = h.holds.book;
             locks = h.holds.locks;
             begun = h.holds.begun;
-            next = appends ∙ ap (λ n. n + 1) h.holds.next;
+            next = appends ∙ ap (λ n. n + waiting_after a) h.holds.next;
             row_mark = h.holds.row_mark;
             delta_mark = h.holds.delta_mark;
             past = h.holds.past;
@@ -358,7 +376,7 @@ fault_closed maps spare limit core s i a may within f steps next seats stop more
       waiting = h.waiting;
       counts = record { steps = h.counts.steps; seats = h.counts.seats; few = h.counts.few; cleaner = h.counts.cleaner; removed = h.counts.removed; running = h.counts.running; begun = h.counts.begun; next = h.counts.next; stop = h.counts.stop };
       begins_one = subst (λ (l : Log). l.begun ≤ s.log.begun + 1) (sym log.1) (omega arith);
-      appends_one = subst (λ (l : Log). l.next ≤ s.log.next + 1) (sym log.1) (omega arith);
+      appends_one = subst (λ (l : Log). l.next ≤ s.log.next + 1) (sym log.1) (let few = one_waits a in omega (arith, few));
     })
     (λ none. absurd (let bad : Some (record { step = s.steps + 1; act = a }) ≡ None = none in cc)) steps seats core.cleaner stop more own others refl stops (h.counts.running h.runs)
 

@@ -9,6 +9,7 @@ use Rattle.iv_types.specs.declared.session.Sessions.{Sessions}
 use Rattle.iv_meaning.specs.Escrow.{IsSession}
 use Rattle.lock_manager.specs.Table as table
 use Rattle.lock_desk.specs.Asking.{HasLocks}
+use Rattle.txn_machine.specs.Acts as act
 use Rattle.txn_machine.specs.Acts.{Act}
 use Rattle.txn_machine.specs.Answers.{Answer, Blocked, Refused}
 use Rattle.txn_machine.specs.Counts.{definition_sizes}
@@ -51,6 +52,11 @@ pub record IsOpening (log most : Option ℕ) (s : State) : Type 0 where
 pub record AreKept (of_data : DataRoom) (of_log : LogRoom) (store : Store) (log : Log) (definitions : List (List ℕ)) : Type 0 where
   pub data_room : IsReserved of_data (schema_of store) store.open_of log.logged definitions
   pub log_room : IsRoomOf of_log store log
+
+-- how many records wait where the disk failed an act: a checkpoint has none of its own
+abbrev pub waiting_after : Act → ℕ
+waiting_after act.Checkpoint = 0
+waiting_after _ = 1
 
 -- the session waits
 abbrev pub is_blocked : Answer → Bool
@@ -131,11 +137,11 @@ module _ {M : Type 0} (maps : M → ℕ → Map) (spare : M → ℕ → ℕ) (li
     pub begins_one : (log_after s session a said effects).begun ≤ s.log.begun + 1
     pub appends_one : (log_after s session a said effects).next ≤ s.log.next + 1
 
-  -- the disk failed an act, which has changed nothing: its record waits
+  -- the disk failed an act, which has changed nothing: its record waits, if it has one
   pub record Failed (s : State) (session : ℕ) (a : Act) (core : CoreState M) : Type 0 where
     pub began : Began core s session
     pub says : Says s session a (Refused DiskFault) []
-    pub appends : (log_after s session a (Refused DiskFault) []).next ≡ s.log.next + 1
+    pub appends : (log_after s session a (Refused DiskFault) []).next ≡ s.log.next + waiting_after a
 
   -- a step was answered so by these effects, and led to the state in which the core is
   pub record Moved (s : State) (session : ℕ) (a : Act) (said : Answer) (effects : List Effect) (core : CoreState M) : Type 0 where

@@ -8,7 +8,7 @@ ghost use Rattle.txn_machine.specs.Acts.{Act};
 ghost use Rattle.txn_machine.specs.May.{May};
 ghost use Rattle.txn_book.specs.Acts.{answer_of};
 ghost use Rattle.core_state.specs.Seats.{seat_at, cleaned};
-ghost use Rattle.core_state.specs.Stands.{Stands, Began, Told, Failed, Moved};
+ghost use Rattle.core_state.specs.Stands.{Stands, Began, Told, Failed, Moved, waiting_after};
 
 use crate::seat::Cleaner;
 use crate::state::CoreState;
@@ -64,17 +64,19 @@ impl<M: SortedMaps> CoreState<M> {
         }
     }
 
-    /// Counts a step of a session of a core that is not stopped, at which the disk failed: its record waits, and the core is stopped.
-    pub fn fail_step(&mut self, session: u32)
+    /// Counts a step of a session of a core that is not stopped, at which the disk failed: so many records of it wait, one or
+    /// none, and the core is stopped.
+    pub fn fail_step(&mut self, session: u32, waiting: u64)
         requires session { session ≤ MOST_SESSIONS }
         requires steps { self.old.steps < 2 ^ 62 }
         requires next { self.old.next < 2 ^ 63 }
+        requires one { waiting ≤ 1 }
         requires few { (seat_at self.old.seats session).steps < 2 ^ 62 }
-        ensures { (s : State) (a : Act) → May s session a → Failed M.maps M.spare M.limit s session a self.old → Moved M.maps M.spare M.limit s session a (answer.Refused refusal.DiskFault) [] self.new }
+        ensures { (s : State) (a : Act) → May s session a → waiting ≡ waiting_after a → Failed M.maps M.spare M.limit s session a self.old → Moved M.maps M.spare M.limit s session a (answer.Refused refusal.DiskFault) [] self.new }
     {
         let number = self.steps + 1;
         self.steps = number;
-        self.next += 1;
+        self.next += waiting;
         self.seats.fail(session, number);
         self.stop = Some(number);
     }

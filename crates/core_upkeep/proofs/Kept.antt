@@ -1,5 +1,5 @@
--- What is told of a Prune and of a Checkpoint.
-use Rattle.std.specs.Prelude.{◌≡◌, ℕ, ◌+◌, ◌-◌, ◌^◌, ◌≤◌, min, max, List, [], ◌∷◌, Option, None, Some, refl}
+-- What is told of a Prune.
+use Rattle.std.specs.Prelude.{◌≡◌, ℕ, ◌≤◌, max, List, [], ◌∷◌, Option, refl}
 use mathlib.Core.Path.{sym, ap, subst, ◌∙◌}
 use Rattle.std.proofs.Common.{arith}
 use Rattle.iv_types.specs.Maps.{Map}
@@ -7,9 +7,8 @@ use Rattle.txn_machine.specs.Acts as act
 use Rattle.txn_machine.specs.Answers as answer
 use Rattle.txn_machine.specs.Ghosts.{the_views}
 use Rattle.txn_machine.specs.Store.{Prunes, does, schema_of, committed, least_snapshot}
-use Rattle.txn_machine.specs.Counts.{definition_sizes, told_need}
+use Rattle.txn_machine.specs.Counts.{definition_sizes}
 use Rattle.txn_machine.specs.Locks.{with_one}
-use Rattle.txn_machine.specs.Log.{Log, Within, block_bytes, carried}
 use Rattle.table_laws.proofs.Stored.{by_session}
 use Rattle.txn_machine.specs.State.{State}
 use Rattle.txn_machine.proofs.Basics.{one_same, one_other}
@@ -26,23 +25,12 @@ use Rattle.data_past.proofs.Aheads.{ahead_prunes}
 use Rattle.data_past.proofs.Effects.{past_prunes}
 use Rattle.version_chain.specs.declared.deltas.Delta.{Delta}
 use Rattle.data_room.specs.Reserved.{IsReserved}
-use Rattle.log_room.specs.Rooms.{IsRoomOf, SameRoomLaw}
-use Rattle.log_room.specs.declared.room.LogRoom.{LogRoom}
+use Rattle.log_room.specs.Rooms.{SameRoomLaw}
 use Rattle.core_state.specs.Stands.{Began, Told}
 use Rattle.core_state.specs.declared.state.CoreState.{CoreState}
-use Rattle.core_effects.proofs.Done.{done_told}
-use Rattle.core_recording.proofs.Used.{used_within}
 
 max_above : (a b : ℕ) → a ≤ b → max a b ≡ b
 max_above a b le = omega (arith, le)
-
--- what is carried is told with the block's gates
-pub told_more : (bytes all carried_bytes : ℕ) → bytes ≡ told_need carried_bytes → all ≡ min (bytes + 6) (2 ^ 64 - 1) → all ≡ told_need (block_bytes + 1 + carried_bytes)
-told_more bytes all carried_bytes is sum = omega (arith, is, sum)
-
-told_less : (most : Option ℕ) (bytes : ℕ) → Within most bytes → Within most (told_need bytes)
-told_less None bytes fits = tt
-told_less (Some most) bytes fits = omega (arith, fits)
 
 module _ {M : Type 0} (maps : M → ℕ → Map) (spare : M → ℕ → ℕ) (limit : M → Option ℕ) (core : CoreState M) (s : State) (h : Began maps spare limit core s 0) where
   abbrev oldest : ℕ
@@ -107,33 +95,3 @@ module _ {M : Type 0} (maps : M → ℕ → Map) (spare : M → ℕ → ℕ) (li
 
       same_logged : with_one s.log.logged 0 (s.log.logged 0) ≡ s.log.logged
       same_logged = λ k j. as_logged j k
-
-  -- the log has what is carried alone
-  abbrev pub saved_log : Log
-  saved_log = record s.log { used = block_bytes + 1 + carried s.store }
-
-  pub saved_told : (number : ℕ) → number ≡ number_of core.book → (room : LogRoom) → room.limit ≡ core.log_room.limit → IsRoomOf room s.store saved_log → Told maps spare limit s 0 act.Checkpoint (answer.Saved number) (record core { log_room = room })
-  saved_told number is room same_limit logged =
-      done_told maps spare limit core (record core { log_room = room }) s 0 h act.Checkpoint (answer.Saved number) [] (refl, is ∙ h.holds.book.number)
-      (record {
-        stored = h.holds.stored;
-        book = h.holds.book;
-        locks = h.holds.locks;
-        begun = h.holds.begun;
-        next = h.holds.next;
-        row_mark = h.holds.row_mark;
-        delta_mark = h.holds.delta_mark;
-        most = h.holds.most;
-        past = h.holds.past;
-        ahead = h.holds.ahead;
-        rooms = h.holds.rooms;
-      })
-      (record { data_room = h.reserves.data_room; log_room = logged })
-      (record { steps = refl; seats = refl; cleaner = refl; stop = refl; limit = refl; log_limit = same_limit })
-      h.own (λ j js n. h.waiting j js n) refl refl (omega arith) (omega arith)
-
-  -- a journal with the log's limit has room for what is carried
-  pub saved_within : (room : LogRoom) → room.limit ≡ core.log_room.limit → IsRoomOf room s.store saved_log → (most : Option ℕ) → most ≡ core.log_room.limit → Within most (told_need (block_bytes + 1 + carried s.store))
-  saved_within room same_limit logged most same =
-      subst (λ m. Within m (told_need (block_bytes + 1 + carried s.store))) (sym (same ∙ sym same_limit))
-      (told_less room.limit (block_bytes + 1 + carried s.store) (used_within room.limit room.used room.reserved s.store saved_log logged))

@@ -3,4 +3,3 @@ pub mod Cleanable
 pub mod Cleaned
 pub mod Removed
 pub mod Candidates
-pub mod Carried

@@ -1,3 +1,2 @@
 pub mod Oldest
 pub mod Cleaning
-pub mod Carrying

@@ -1,12 +1,8 @@
-//! Acts that keep the core small: Clean, with the record that it gives to the journal, Prune, and Checkpoint of a core without a disk,
-//! with which the journal begins anew.
+//! Acts that keep the core small: Clean, with the record that it gives to the journal, and Prune.
 #![tactic(auto)]
 
-mod carrying;
 mod cleaning;
 mod pruning;
-mod saving;
 
 pub use cleaning::clean;
 pub use pruning::prune;
-pub use saving::save;

@@ -1,18 +1,22 @@
 -- A step is counted, and its journal has its records.
-use Rattle.std.specs.Prelude.{◌≡◌, ℕ, ◌+◌, ◌<◌, ◌≤◌, ◌^◌, true, false, List, [], Option, Some, None, IsSome}
+use Rattle.std.specs.Prelude.{◌∷◌, ◌≡◌, ℕ, ◌+◌, ◌<◌, ◌≤◌, ◌^◌, true, false, List, [], Option, Some, None, IsSome}
 use mathlib.Core.Path.{refl, sym, ap, subst, ◌∙◌}
 use mathlib.Core.Logic.{inl, inr}
 use Rattle.std.proofs.Common.{arith}
 use Rattle.iv_types.specs.Maps.{Map}
 use Rattle.iv_types.specs.declared.refusal.EngineRefusal.TheVariants as refusal
+use Rattle.iv_meaning.specs.Schema.{Schema}
+use Rattle.txn_machine.specs.Acts as act
 use Rattle.txn_machine.specs.Acts.{Act}
 use Rattle.txn_machine.specs.Answers as answer
 use Rattle.txn_machine.specs.Answers.{Answer}
-use Rattle.txn_machine.specs.Log.{Log, Opening}
+use Rattle.txn_machine.specs.Ghosts.{the_views}
+use Rattle.txn_machine.specs.Log.{Log, Opening, logs, record_of}
+use Rattle.txn_machine.specs.Records.{Record}
 use Rattle.txn_machine.specs.State.{State, Stop, Seat, Cleaner, is_fault, most_steps}
 use Rattle.txn_machine.specs.Steps.{Step}
-use Rattle.txn_machine.specs.Store.{Effect}
-use Rattle.core_journal.specs.Records.{Records}
+use Rattle.txn_machine.specs.Store.{Store, Effect, Commits, Defines, schema_of, does}
+use Rattle.core_journal.specs.Records.{Records, with_perhaps, flushed_after, recorded, recorded_all, records_after}
 use Rattle.core_recording.specs.Giving.{Did, IsBehind}
 use Rattle.core_recording.proofs.Used.{used_after}
 use Rattle.core_state.specs.Seats.{seat_at}
@@ -44,8 +48,59 @@ module _ {M : Type 0} (maps : M → ℕ → Map) (spare : M → ℕ → ℕ) (li
       let lt = few in
       omega (arith, same, le, lt)
 
+  pub few_saves : (saves : ℕ) → saves ≤ s.steps → saves < 2 ^ 62
+  few_saves saves le = let lt = few in omega (arith, le, lt)
+
   pub few_records : core.next ≡ s.log.next → core.next < 2 ^ 63
   few_records same = let le : s.log.next ≤ s.steps + 1 = counts.next in let lt = few in omega (arith, same, le, lt)
+
+-- ---- checkpoints are counted
+
+with_saves : (objects : Schema) (number : ℕ) (r : Option Record) (rs : Records) → (with_perhaps objects number r rs).saves ≡ rs.saves
+with_saves objects number None rs = refl
+with_saves objects number (Some r) rs = refl
+
+flushed_saves : (e : Effect) (rs : Records) → (flushed_after e rs).saves ≡ rs.saves
+flushed_saves Commits rs = refl
+flushed_saves (Defines object) rs = refl
+flushed_saves e rs = refl
+
+all_saves : (s : Store) (i : ℕ) (a : Act) (es : List Effect) (l : Log) (rs : Records) → (recorded_all s i a es l rs).saves ≡ rs.saves
+all_saves s i a [] l rs = refl
+all_saves s i a (e ∷ es) l rs =
+    all_saves (does the_views s i e) i a es (logs s i a e l) (recorded s i a e l rs)
+    ∙ (flushed_saves e (with_perhaps (schema_of s) l.next (record_of s i a l e) rs) ∙ with_saves (schema_of s) l.next (record_of s i a l e) rs)
+
+-- a step saves one at most
+saves_after : (s : State) (i : ℕ) (a : Act) (said : Answer) (es : List Effect) (rs : Records) → (records_after s i a said es rs).saves ≤ rs.saves + 1
+saves_after s i act.Checkpoint (answer.Saved number) es rs = omega arith
+saves_after s i act.Commit (answer.Refused refusal.DiskFault) es rs = let same = with_saves (schema_of s.store) s.log.next (record_of s.store i act.Commit s.log Commits) rs in omega (arith, same)
+saves_after s i (act.Schema statement) (answer.Refused refusal.DiskFault) es rs = omega arith
+saves_after s i a said es rs = let same = all_saves s.store i a es s.log rs in omega (arith, same)
+
+-- a step of a core that runs is counted
+steps_more : (s : State) (i : ℕ) (a : Act) (said : Answer) (after : State) → s.stop ≡ None → Step s i a said after → after.steps ≡ s.steps + 1
+steps_more s i a said after runs step = elim step.does [ inl d ↦ ap (λ (x : State). x.steps) d.left | inr t ↦ absurd (let bad : Some t.stop ≡ None = sym t.stopped ∙ runs in cc) ]
+
+few_after : (s : State) (i : ℕ) (a : Act) (said : Answer) (es : List Effect) (rs : Records) (after : State) → s.stop ≡ None → Step s i a said after → rs.saves ≤ s.steps
+    → (records_after s i a said es rs).saves ≤ after.steps
+few_after s i a said es rs after runs step few = let one = saves_after s i a said es rs in let more = steps_more s i a said after runs step in omega (arith, one, more, few)
+
+-- a fault stops the core
+fault_stops : (s : State) (i : ℕ) (a : Act) (after : State) → s.stop ≡ None → Step s i a (answer.Refused refusal.DiskFault) after → after.stop ≡ None → ⊥
+fault_stops s i a after runs step none =
+    elim step.does [
+      | inl d ↦ let bad : Some (record { step = s.steps + 1; act = a }) ≡ None = sym (ap (λ (x : State). x.stop) d.left) ∙ none in cc
+      | inr t ↦ let bad : Some t.stop ≡ None = sym t.stopped ∙ runs in cc
+    ]
+
+-- one that is stopped stays so, and counts nothing
+stays_stopped : (s : State) (i : ℕ) (a : Act) (said : Answer) (after : State) (stop : Stop) → s.stop ≡ Some stop → Step s i a said after → (after.stop ≡ Some stop) × (after.steps ≡ s.steps)
+stays_stopped s i a said after stop stopped step =
+    elim step.does [
+      | inl d ↦ absurd (let bad : Some stop ≡ None = sym stopped ∙ d.runs in cc)
+      | inr t ↦ (ap (λ (x : State). x.stop) t.left ∙ stopped, ap (λ (x : State). x.steps) t.left)
+    ]
 
 -- ---- the limit of the log stays
 
@@ -84,11 +139,12 @@ module _ {M J : Type 0} (maps : M → ℕ → Map) (spare : M → ℕ → ℕ) (
             effects = gave.told.effects;
             says = inl gave.told.says;
             moved = moved;
-            behind = record {
+            behind = λ _. record {
               has_them = gave.gave rs behind;
               used = used_after s i a said gave.told.effects rs behind.used ∙ sym (ap (λ (l : Log). l.used) moved.logged);
               same_limit = gave.same_limit ∙ (behind.same_limit ∙ moved_limit maps spare limit s i a said gave.told.effects new core.log_room.limit (ap (λ (x : Opening). x.log_limit) began.opening.is) moved);
             };
+            few = few_after s i a said gave.told.effects rs moved.after began.runs moved.does;
           }
       recorded_told (inr up) fine closes = absurd (let no : false ≡ true = sym fine ∙ ap is_fault up.said_is in cc)
 
@@ -102,24 +158,24 @@ module _ {M J : Type 0} (maps : M → ℕ → Map) (spare : M → ℕ → ℕ) (
             effects = [];
             says = inl up.failed.says;
             moved = moved;
-            behind = record {
-              has_them = up.gave rs behind;
-              used = used_after s i a (answer.Refused refusal.DiskFault) [] rs behind.used ∙ sym (ap (λ (l : Log). l.used) moved.logged);
-              same_limit = up.same_limit ∙ (behind.same_limit ∙ moved_limit maps spare limit s i a (answer.Refused refusal.DiskFault) [] new core.log_room.limit (ap (λ (x : Opening). x.log_limit) began.opening.is) moved);
-            };
+            behind = λ none. absurd (fault_stops s i a moved.after began.runs moved.does none);
+            few = few_after s i a (answer.Refused refusal.DiskFault) [] rs moved.after began.runs moved.does;
           })
 
 -- a session is told of a stop
 pub recorded_stop : {M J : Type 0} (maps : M → ℕ → Map) (spare : M → ℕ → ℕ) (limit : M → Option ℕ) (has : J → Records → Type 0) (area : J → Option ℕ) (s : State) (i : ℕ) (a : Act) (stop : Stop) (core : CoreState M) (journal : J) (rs : Records)
-    → Stands maps spare limit core s → IsBehind maps spare limit has area core journal s.log rs → s.stop ≡ Some stop → (new : CoreState M) → Moved maps spare limit s i a (answer.Refused (refusal.Stopped stop.step)) [] new
+    → s.stop ≡ Some stop → (new : CoreState M) → Moved maps spare limit s i a (answer.Refused (refusal.Stopped stop.step)) [] new
     → Recorded maps spare limit has area s i a (answer.Refused (refusal.Stopped stop.step)) rs new journal
-recorded_stop maps spare limit has area s i a stop core journal rs stands behind stopped new moved = record {
+recorded_stop maps spare limit has area s i a stop core journal rs stopped new moved = record {
   effects = [];
   says = inr (subst IsSome (sym stopped) refl, refl);
   moved = moved;
-  behind = record {
-    has_them = subst (has journal) (sym (stopped_records s i rs a stop.step)) behind.has_them;
-    used = used_after s i a (answer.Refused (refusal.Stopped stop.step)) [] rs behind.used ∙ sym (ap (λ (l : Log). l.used) moved.logged);
-    same_limit = behind.same_limit ∙ moved_limit maps spare limit s i a (answer.Refused (refusal.Stopped stop.step)) [] new core.log_room.limit (ap (λ (x : Opening). x.log_limit) stands.opening.is) moved;
-  };
+  behind = λ none. absurd (let bad : Some stop ≡ None = sym (stays moved).0 ∙ none in cc);
+  few = λ few.
+      let same : (records_after s i a (answer.Refused (refusal.Stopped stop.step)) [] rs).saves ≡ rs.saves = ap (λ (x : Records). x.saves) (stopped_records s i rs a stop.step) in
+      let still = (stays moved).1 in
+      omega (arith, few, same, still);
 }
+  where
+    stays : (m : Moved maps spare limit s i a (answer.Refused (refusal.Stopped stop.step)) [] new) → (m.after.stop ≡ Some stop) × (m.after.steps ≡ s.steps)
+    stays m = stays_stopped s i a (answer.Refused (refusal.Stopped stop.step)) m.after stop stopped m.does

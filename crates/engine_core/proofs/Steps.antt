@@ -1,5 +1,5 @@
 -- What is told of a step, and how many steps an open transaction keeps.
-use Rattle.std.specs.Prelude.{◌≡◌, ℕ, length, Option, None, Some, refl}
+use Rattle.std.specs.Prelude.{◌≡◌, ℕ, ◌≤◌, length, Option, None, Some, refl}
 use Rattle.std.specs.Option.{option_map}
 use mathlib.Core.Path.{sym, ap, ◌∙◌}
 use Rattle.std.proofs.lemmas.List.{length-reverse}
@@ -27,19 +27,19 @@ use Rattle.engine_core.specs.Standing.{IsIn, IsInMemory}
 use Rattle.engine_core.specs.declared.engine.Core.{Core}
 
 -- a core without a disk moves as its state does
-pub moves_as : {M J : Type 0} (maps : M → ℕ → Map) (spare : M → ℕ → ℕ) (limit : M → Option ℕ) (has : J → Records → Type 0) (area : J → Option ℕ) (core : Core M J) (s : State) (step : Step) (said : Answer) (rs : Records)
+pub moves_as : {M J : Type 0} (maps : M → ℕ → Map) (spare : M → ℕ → ℕ) (limit : M → Option ℕ) (has : J → Records → Type 0) (area : J → Option ℕ) (core : Core M J) (s : State) (step : Step) (said : Answer) (rs : Records) → rs.saves ≤ s.steps
     → Recorded maps spare limit has area s step.session (act_of step.act) (answer_of said) rs core.state core.journal → Moves (IsIn maps spare limit has area core) (λ db. ⊥) s step said
-moves_as maps spare limit has area core s step said rs r = record {
+moves_as maps spare limit has area core s step said rs few r = record {
   after = r.moved.after;
   does = r.moved.does;
-  stands = record { stands = r.moved.stands; records = _; behind = r.behind };
+  stands = record { stands = r.moved.stands; records = _; behind = r.behind; few = r.few few };
   durable = λ runs fine db no. absurd no;
 }
 
 -- a step that may be asked for may be done
 pub may_be_done : (core : Core Tree NoJournal) (step : Step) → IsAskable (IsInMemory core) step
-    → (s : State) × (rs : Records) × Stands map_of spare_of limit_of core.state s × IsBehind map_of spare_of limit_of no_journal.has_any no_journal.limit_of core.state core.journal s.log rs × IsAsked s step
-may_be_done core step q = (q.state, q.stands.records, q.stands.stands, q.stands.behind, q.asked)
+    → (s : State) × (rs : Records) × Stands map_of spare_of limit_of core.state s × (s.stop ≡ None → IsBehind map_of spare_of limit_of no_journal.has_any no_journal.limit_of core.state core.journal s.log rs) × IsAsked s step × (rs.saves ≤ s.steps)
+may_be_done core step q = (q.state, q.stands.records, q.stands.stands, q.stands.behind, q.asked, q.stands.few)
 
 -- as many are kept in the book
 pub kept_as : (objects : Schema) (o : Option BookOpen) (m : Option Open) (l : Logged) → IsSame objects o m l → option_map (λ (t : BookOpen). length t.kept.items) o ≡ option_map kept_count m

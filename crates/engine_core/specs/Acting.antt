@@ -1,7 +1,7 @@
 -- No clause of `run` rests on this module: it serves contracts between crates.
 --
 -- What an act leaves for which there was no memory, and what a step leaves with its records.
-use Rattle.std.specs.Prelude.{◌≡◌, ◌⊎◌, ℕ, List, [], Option, IsSome}
+use Rattle.std.specs.Prelude.{◌≡◌, ◌⊎◌, ℕ, ◌≤◌, List, [], Option, None, IsSome}
 use Rattle.iv_types.specs.Maps.{Map}
 use Rattle.txn_machine.specs.Acts.{Act}
 use Rattle.txn_machine.specs.Answers.{Answer}
@@ -21,9 +21,11 @@ module _ {M : Type 0} (maps : M → ℕ → Map) (spare : M → ℕ → ℕ) (li
 
 module _ {M J : Type 0} (maps : M → ℕ → Map) (spare : M → ℕ → ℕ) (limit : M → Option ℕ) (has : J → Records → Type 0) (area : J → Option ℕ) where
   -- A step was answered so, and led to the state in which the core is; its journal has the records of these effects beside those that
-  -- it had. They are the effects of the answer; a core that is stopped tells so, and does nothing.
+  -- it had, unless it is stopped now. They are the effects of the answer; a core that is stopped tells so, and does nothing.
   pub record Recorded (s : State) (session : ℕ) (a : Act) (said : Answer) (rs : Records) (core : CoreState M) (journal : J) : Type 0 where
     pub effects : List Effect
     pub says : Says s session a said effects ⊎ (IsSome s.stop × (effects ≡ []))
     pub moved : Moved maps spare limit s session a said effects core
-    pub behind : IsBehind maps spare limit has area core journal moved.after.log (records_after s session a said effects rs)
+    pub behind : moved.after.stop ≡ None → IsBehind maps spare limit has area core journal moved.after.log (records_after s session a said effects rs)
+    -- a step saves one checkpoint at most
+    pub few : rs.saves ≤ s.steps → (records_after s session a said effects rs).saves ≤ moved.after.steps

@@ -1,7 +1,7 @@
 -- No clause of `run` rests on this module: it serves contracts between crates.
 --
 -- In which states of the machine a core is.
-use Rattle.std.specs.Prelude.{ℕ, ◌<◌, ◌^◌, Option}
+use Rattle.std.specs.Prelude.{◌≡◌, ℕ, ◌<◌, ◌≤◌, ◌^◌, Option, None}
 use Rattle.std.proofs.Common.{arith}
 use Rattle.iv_types.specs.Maps.{Map}
 use Rattle.txn_machine.specs.State.{State}
@@ -14,11 +14,13 @@ use Rattle.core_state.specs.Stands.{Stands}
 use Rattle.engine_core.specs.declared.engine.Core.{Core}
 
 module _ {M J : Type 0} (maps : M → ℕ → Map) (spare : M → ℕ → ℕ) (limit : M → Option ℕ) (has : J → Records → Type 0) (area : J → Option ℕ) where
-  -- that of what it holds, of whose log its journal has the records
+  -- that of what it holds, of whose log its journal has the records, unless it is stopped
   pub record IsIn (core : Core M J) (s : State) : Type 0 where
     pub stands : Stands maps spare limit core.state s
     pub records : Records
-    pub behind : IsBehind maps spare limit has area core.state core.journal s.log records
+    pub behind : s.stop ≡ None → IsBehind maps spare limit has area core.state core.journal s.log records
+    -- a step saves one checkpoint at most
+    pub few : records.saves ≤ s.steps
 
 -- the same of a core without a disk, whose maps are trees of pages
 abbrev pub IsInMemory : Core Tree NoJournal → State → Type 0

@@ -1,25 +1,26 @@
 //! What a step does: its act.
-ghost use Rattle.std.specs.Prelude.{◌≡◌, None, IfOk, OnErr};
+ghost use Rattle.std.specs.Prelude.{◌≡◌, ◌≤◌, None, IfOk, OnErr};
 ghost use Rattle.txn_machine.specs.State.{State, is_fault};
 ghost use Rattle.txn_book.specs.Acts.{act_of, answer_of};
 ghost use Rattle.txn_book.specs.Moves.{CountsFault, IsAsked};
 ghost use Rattle.core_journal.specs.Records.{Records};
 ghost use Rattle.core_recording.specs.Giving.{CanGive, IsBehind, MayGiveUp};
-ghost use Rattle.core_state.specs.Stands.{Stands};
+ghost use Rattle.core_state.specs.Stands.{Stands, waiting_after};
 ghost use Rattle.engine_core.specs.Acting.{LacksMemory, Recorded};
 
+use core_checkpoints::save;
 use core_ends::{begin, cancel};
-use core_journal::Journal;
+use core_journal::Checkpoints;
 use core_reads::{defs, fetch, peek};
 use core_recording::{commit, end, make_ghost, pay, put, undo_one};
 use core_schema::define;
 use core_state::CoreState;
-use core_upkeep::{clean, prune, save};
+use core_upkeep::{clean, prune};
 use iv_types::{EngineRefusal, NoMemory, SortedMaps};
 use txn_book::{Act, Answer, Step};
 
 // Does an act, and gives its records to the journal. It fails only where it takes memory and there is none, and nothing is changed then but room.
-fn act<M: SortedMaps, J: Journal>(
+fn act<M: SortedMaps, J: Checkpoints<M>>(
     core: &mut CoreState<M>,
     journal: &mut J,
     session: u32,
@@ -55,7 +56,7 @@ fn act<M: SortedMaps, J: Journal>(
 }
 
 // Does an act, and answers it; a want of memory is an answer too.
-fn answer<M: SortedMaps, J: Journal>(
+fn answer<M: SortedMaps, J: Checkpoints<M>>(
     core: &mut CoreState<M>,
     journal: &mut J,
     session: u32,
@@ -78,10 +79,25 @@ fn tells_fault(said: &Answer) -> bool
     matches!(said, Answer::Refused(EngineRefusal::DiskFault))
 }
 
+// How many records wait where the disk fails an act: a checkpoint has none of its own.
+fn waiting_of(act: &Act) -> u64
+    ensures counts { result ≡ waiting_after (act_of act.now) }
+    ensures one { result ≤ 1 }
+{
+    match act {
+        Act::Checkpoint => 0,
+        _ => 1,
+    }
+}
+
 // Does a step of a core that is not stopped: the session waits for nothing any more, the act is answered, and the step counted. A
 // step at which the disk failed stops the core.
-fn run<M: SortedMaps, J: Journal>(core: &mut CoreState<M>, journal: &mut J, step: &Step) -> Answer
-    requires { (s : State) × (rs : Records) × Stands M.maps M.spare M.limit core.old s × IsBehind M.maps M.spare M.limit J.has J.limit core.old journal.old s.log rs × (s.stop ≡ None) × IsAsked s step.now }
+fn run<M: SortedMaps, J: Checkpoints<M>>(
+    core: &mut CoreState<M>,
+    journal: &mut J,
+    step: &Step,
+) -> Answer
+    requires { (s : State) × (rs : Records) × Stands M.maps M.spare M.limit core.old s × IsBehind M.maps M.spare M.limit J.has J.limit core.old journal.old s.log rs × (s.stop ≡ None) × IsAsked s step.now × (rs.saves ≤ s.steps) }
     ensures recorded { (s : State) (rs : Records) → Stands M.maps M.spare M.limit core.old s → IsBehind M.maps M.spare M.limit J.has J.limit core.old journal.old s.log rs → s.stop ≡ None → IsAsked s step.now
         → Recorded M.maps M.spare M.limit J.has J.limit s step.now.session (act_of step.now.act) (answer_of result) rs core.new journal.new }
     ensures faults { CountsFault result (J.faults journal.old) (J.faults journal.new) }
@@ -89,7 +105,7 @@ fn run<M: SortedMaps, J: Journal>(core: &mut CoreState<M>, journal: &mut J, step
     core.open_step(step.session);
     let said = answer(core, journal, step.session, &step.act);
     if tells_fault(&said) {
-        core.fail_step(step.session);
+        core.fail_step(step.session, waiting_of(&step.act));
     } else {
         core.close_step(step.session, &said);
     }
@@ -97,13 +113,13 @@ fn run<M: SortedMaps, J: Journal>(core: &mut CoreState<M>, journal: &mut J, step
 }
 
 /// Does a step, and gives its records to the journal: of a core that is stopped the session is told so.
-pub fn do_one<M: SortedMaps, J: Journal>(
+pub fn do_one<M: SortedMaps, J: Checkpoints<M>>(
     core: &mut CoreState<M>,
     journal: &mut J,
     step: &Step,
 ) -> Answer
-    requires { (s : State) × (rs : Records) × Stands M.maps M.spare M.limit core.old s × IsBehind M.maps M.spare M.limit J.has J.limit core.old journal.old s.log rs × IsAsked s step.now }
-    ensures recorded { (s : State) (rs : Records) → Stands M.maps M.spare M.limit core.old s → IsBehind M.maps M.spare M.limit J.has J.limit core.old journal.old s.log rs → IsAsked s step.now
+    requires { (s : State) × (rs : Records) × Stands M.maps M.spare M.limit core.old s × (s.stop ≡ None → IsBehind M.maps M.spare M.limit J.has J.limit core.old journal.old s.log rs) × IsAsked s step.now × (rs.saves ≤ s.steps) }
+    ensures recorded { (s : State) (rs : Records) → Stands M.maps M.spare M.limit core.old s → (s.stop ≡ None → IsBehind M.maps M.spare M.limit J.has J.limit core.old journal.old s.log rs) → IsAsked s step.now
         → Recorded M.maps M.spare M.limit J.has J.limit s step.now.session (act_of step.now.act) (answer_of result) rs core.new journal.new }
     ensures faults { CountsFault result (J.faults journal.old) (J.faults journal.new) }
 {

@@ -2,7 +2,7 @@
 ghost use Rattle.std.specs.Prelude.{◌≡◌, ◌+◌, ◌<◌, ◌^◌, [], Some, IfOk};
 ghost use mathlib.Core.Path.{sym, ap};
 ghost use Rattle.std.specs.FinMap.{empty};
-ghost use Rattle.core_journal.specs.Records.{restarted};
+ghost use Rattle.core_journal.specs.Records.{begun};
 ghost use Rattle.core_state.specs.Stands.{limited};
 ghost use Rattle.data_store.specs.Held.{AreEmpty};
 ghost use Rattle.txn_machine.specs.Log.{Within, block_bytes};
@@ -43,7 +43,7 @@ impl<M: SortedMaps, J: Journal + Drop> Core<M, J> {
         number: u64,
     ) -> Result<Self, NoMemory>
         requires empty { AreEmpty (M.maps maps) }
-        requires unrecorded { J.has journal (restarted (block_bytes + 1)) }
+        requires unrecorded { J.has journal (begun (block_bytes + 1)) }
         requires log { J.limit journal ≡ log }
         requires least { Within log (block_bytes + 1) }
         requires data { M.limit maps ≡ Some most }

@@ -20,7 +20,7 @@ returns-clause-ok g c =
 
 pub returns-clause-err : goal.returns-clause-err
 returns-clause-err g c =
-    on_err_as c.flush.result (λ p. (λ objects r rs is has. p.0 (with_one objects (record { number = c.args.number; of = r }) rs) (c.give.ensures.has objects r rs is has), subst (λ n. Rose n (g.J.Journal.faults c.flush.new.self)) c.give.ensures.faults p.1)) c.flush.ensures.err
+    on_err_as c.flush.result (λ rose. subst (λ n. Rose n (g.J.Journal.faults c.flush.new.self)) c.give.ensures.faults rose) c.flush.ensures.err
 
 pub returns-clause-limit : goal.returns-clause-limit
 returns-clause-limit g c = c.flush.ensures.limit ∙ c.give.ensures.limit

@@ -60,16 +60,10 @@ returns-in-Ok-clause-rose g c = λ bad.
 
 pub returns-in-Err-clause-gives : goal.returns-in-Err-clause-gives
 returns-in-Err-clause-gives g c = λ s began may some.
-    let i = c.args.session in
-    let o = open_to_commit g.M.SortedMaps.maps g.M.SortedMaps.spare g.M.SortedMaps.limit c.args.core.now s i began may in
-    let id = id_is g.M.SortedMaps.maps g.M.SortedMaps.spare g.M.SortedMaps.limit c.args.core.now s i began o c.open_of-txn.result.now c.open_of-txn.ensures in
-    let number = c.next_commit-commit.ensures s i began in
-    inr (gave_up g.M.SortedMaps.maps g.M.SortedMaps.spare g.M.SortedMaps.limit g.J.Journal.has g.J.Journal.limit c.args.core.now c.args.journal.now s i began may some c.give_and_flush.new.journal
-    (λ rs has. c.in-Err.ensures.err.0 (schema_of s.store) (Commit (s.log.logged i).transaction ((committed s.store).number + 1) i) rs (c.commit_of.ensures (schema_of s.store) ∙ (λ x. in_bytes (schema_of s.store) (Commit (id x) (number x) i))) has)
-    c.in-Err.ensures.limit)
+    inr (gave_up g.M.SortedMaps.maps g.M.SortedMaps.spare g.M.SortedMaps.limit g.J.Journal.has g.J.Journal.limit c.args.core.now c.args.journal.now s c.args.session began may some c.give_and_flush.new.journal c.in-Err.ensures.limit)
 
 pub returns-in-Err-clause-faults : goal.returns-in-Err-clause-faults
 returns-in-Err-clause-faults g c = λ fine. let no : true ≡ false = fine in absurd cc
 
 pub returns-in-Err-clause-rose : goal.returns-in-Err-clause-rose
-returns-in-Err-clause-rose g c = λ bad. c.in-Err.ensures.err.1
+returns-in-Err-clause-rose g c = λ bad. c.in-Err.ensures.err

@@ -72,16 +72,13 @@ pub returns-in-Err-clause-did : goal.returns-in-Err-clause-did
 returns-in-Err-clause-did g c = λ s statement m.
     let i = c.args.session in
     let r = c.in_ok-changes.ensures.ready s i statement c.args.need m in
-    let number = c.next_commit-commit.ensures s i m.may.began in
-    let text = c.text_of.ensures r.text r.texts ∙ r.may.text_is in
     inr (gave_up g.M.SortedMaps.maps g.M.SortedMaps.spare g.M.SortedMaps.limit g.J.Journal.has g.J.Journal.limit c.args.core.now c.args.journal.now s i statement c.args.definition c.args.first c.args.text c.args.need m
     c.take_back.new.core c.give_and_flush.new.journal
     (subst (λ (x : CoreState g.row.M.Denot). Began g.M.SortedMaps.maps g.M.SortedMaps.spare g.M.SortedMaps.limit x s i) (sym (c.take_back.ensures r.before r.definition r.last.are)) r.may.may.began)
-    (λ rs has. c.in-Err.ensures.err.0 (schema_of s.store) (Definition ((committed s.store).number + 1) i (statement_text statement)) rs (c.definition_of-lent.ensures (schema_of s.store) ∙ (λ x. in_bytes (schema_of s.store) (Definition (number x) i (text x)))) has)
     c.in-Err.ensures.limit)
 
 pub returns-in-Err-clause-faults : goal.returns-in-Err-clause-faults
 returns-in-Err-clause-faults g c = λ fine. absurd (let no : true ≡ false = fine in cc)
 
 pub returns-in-Err-clause-rose : goal.returns-in-Err-clause-rose
-returns-in-Err-clause-rose g c = λ bad. c.in-Err.ensures.err.1
+returns-in-Err-clause-rose g c = λ bad. c.in-Err.ensures.err

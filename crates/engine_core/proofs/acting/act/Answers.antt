@@ -173,13 +173,11 @@ pub returns-in-Checkpoint-clause-gives : goal.returns-in-Checkpoint-clause-gives
 returns-in-Checkpoint-clause-gives g c =
     subst (λ (a : Act). MayGiveUp g.M.SortedMaps.maps g.M.SortedMaps.spare g.M.SortedMaps.limit g.J.Journal.has g.J.Journal.limit c.args.core.now c.args.journal.now c.args.session (act_of a) (answer_of c.save.result) c.save.new.core c.save.new.journal) (sym c.in-Checkpoint.is)
     (let q = can_give g.M.SortedMaps.maps g.M.SortedMaps.spare g.M.SortedMaps.limit g.J.Journal.has g.J.Journal.limit c.args.core.now c.args.journal.now c.args.session _ _ c.in-Checkpoint.is c.requires in
-    subst (λ i. MayGiveUp g.M.SortedMaps.maps g.M.SortedMaps.spare g.M.SortedMaps.limit g.J.Journal.has g.J.Journal.limit c.args.core.now c.args.journal.now i machine.Checkpoint (answer_of c.save.result) c.save.new.core c.save.new.journal) (sym q.may) (gives_did g.M.SortedMaps.maps g.M.SortedMaps.spare g.M.SortedMaps.limit g.J.Journal.has g.J.Journal.limit c.args.core.now c.args.journal.now 0 machine.Checkpoint (answer_of c.save.result) c.save.new.core c.save.new.journal c.save.ensures.gives))
+    subst (λ i. MayGiveUp g.M.SortedMaps.maps g.M.SortedMaps.spare g.M.SortedMaps.limit g.J.Journal.has g.J.Journal.limit c.args.core.now c.args.journal.now i machine.Checkpoint (answer_of c.save.result) c.save.new.core c.save.new.journal) (sym q.may) c.save.ensures.gives)
 
 pub returns-in-Checkpoint-clause-faults : goal.returns-in-Checkpoint-clause-faults
 returns-in-Checkpoint-clause-faults g c =
-    let q = can_give g.M.SortedMaps.maps g.M.SortedMaps.spare g.M.SortedMaps.limit g.J.Journal.has g.J.Journal.limit c.args.core.now c.args.journal.now c.args.session _ _ c.in-Checkpoint.is c.requires in
-    let r = subst (λ i. CanGive g.M.SortedMaps.maps g.M.SortedMaps.spare g.M.SortedMaps.limit g.J.Journal.has g.J.Journal.limit c.args.core.now c.args.journal.now i machine.Checkpoint) q.may q in
-    fine_counts c.save.result _ _ (c.save.ensures.gives r.state r.began r.may).told.no_fault c.save.ensures.faults
+    record { rises = c.save.ensures.rose; stays = c.save.ensures.faults }
 
 pub returns-in-Prune-clause-gives : goal.returns-in-Prune-clause-gives
 returns-in-Prune-clause-gives g c =
