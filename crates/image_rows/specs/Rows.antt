@@ -5,13 +5,13 @@ use Rattle.std.specs.Prelude.{◌≡◌, ◌⊎◌, ℕ, suc, ◌≤◌, min, �
 use Rattle.std.specs.List.{All}
 use Rattle.std.specs.FinMap.{FinMap, get}
 use Rattle.iv_types.specs.declared.catalog.TableDef.{TableDef}
-use Rattle.iv_types.specs.declared.value.Kind.{Kind}
 use Rattle.iv_types.specs.declared.value.Kind.TheVariants.{Huge}
 use Rattle.iv_types.specs.declared.value.Value.TheVariants.{Number}
-use Rattle.iv_types.specs.Encoding.{IsHuge, FitAll, kinds_of, value_bytes, row_bytes, key_bytes}
+use Rattle.iv_types.specs.Encoding.{IsHuge, FitAll, kinds_of, value_bytes, row_bytes}
 use Rattle.table_laws.specs.Place.{Place, place_cmp}
-use Rattle.iv_meaning.specs.Schema.{Schema, ViewTree, group_kinds}
+use Rattle.iv_meaning.specs.Schema.{Schema}
 use Rattle.iv_meaning.specs.Database.{Row, key_of}
+use Rattle.txn_log.specs.Fitting.{IsGroup}
 use Rattle.txn_log.specs.Stored.{total_bytes}
 use Rattle.txn_log.specs.Damaged.{EntryStands}
 use Rattle.image_finding.specs.declared.fault.BadImage.{BadImage}
@@ -25,12 +25,6 @@ pub record IsRowUnder (t : TableDef) (key value : List ℕ) : Type 0 where
   pub fits : FitAll (kinds_of t) row
   pub bytes : value ≡ row_bytes (kinds_of t) row
   pub key_is : key ≡ key_of t row
-
--- the key of some values of these columns
-pub record IsKeyOf (kinds : List Kind) (key : List ℕ) : Type 0 where
-  pub values : Row
-  pub fits : FitAll kinds values
-  pub is : key ≡ key_bytes kinds values
 
 -- bytes with a number of the HUGE range before these
 pub record HasNumber (bytes rest : List ℕ) : Type 0 where
@@ -48,10 +42,10 @@ pub record AreNumbers (many : ℕ) (value : List ℕ) : Type 0 where
   pub in_range : All IsHuge numbers
   pub bytes : value ≡ total_bytes numbers
 
--- the count and the sums of a group of the view, under its key
-pub record IsGroupUnder (objects : Schema) (v : ViewTree) (key value : List ℕ) : Type 0 where
-  pub group : IsKeyOf (group_kinds objects v) key
-  pub numbers : AreNumbers (suc (length v.sums)) value
+-- the count and the sums of a group of a view, under its key
+pub record IsGroupEntry (objects : Schema) (place : Place) (value : List ℕ) : Type 0 where
+  pub group : IsGroup objects place
+  pub numbers : AreNumbers (suc (length group.of.sums)) value
 
 -- ---- all entries
 

@@ -6,7 +6,7 @@ use Rattle.iv_types.specs.Encoding.{FitAll, kinds_of, key_bytes}
 use Rattle.iv_meaning.specs.Schema.{items_at, key_kinds}
 use Rattle.iv_meaning.specs.Database.{key_of}
 use Rattle.table_store.proofs.IndexKeys.{items_fit}
-use Rattle.image_rows.proofs.entry.is_key_of.Goals as goal
+use Rattle.record_reading.proofs.key_of_row.is_key_of.Goals as goal
 
 pub encode_key-requires : goal.encode_key-requires
 encode_key-requires c =

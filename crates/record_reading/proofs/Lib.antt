@@ -1,0 +1,4 @@
+pub mod Completing
+pub mod Grouping
+pub mod Changing
+pub mod Spelling

@@ -1,0 +1,4 @@
+pub mod Completed
+pub mod Groups
+pub mod Changes
+pub mod Laws
