@@ -1,0 +1,5 @@
+mod Made
+mod Holding
+mod Entries
+mod Putting
+mod Taking
