@@ -1,6 +1,4 @@
--- How a run of disk calls goes on. A law of a bound `D: Disk` is cited in an answer as
--- `(g.met.D.Disk g.world.𝓛 g.world.𝓜 g.world.𝓡 ((λ s x. x), (λ x. x), (λ x. x), λ x. x)).has_size`,
--- since a disk may go to another thread.
+-- How a run of disk calls goes on. A law of a bound `D: Disk` is cited in an answer as `g.met.D.Disk.has_size`.
 use Rattle.std.proofs.Common.{inl, inr, ⊎_elim, ℕ, List, arith, subst, sym}
 use Rattle.disk_io.specs.Disk.{AreBytes, Elapses, LeavesOnly, Only, Torn, Follows}
 use Rattle.disk_io.specs.Bytes.{torn_none}

@@ -6,7 +6,7 @@ use iv_types::Failed;
 
 /// A disk of a fixed size. Each call answers `Failed` only where its count of faults rises, and a call that answers
 /// `Ok` leaves that count. What a read gives and what a crash may leave are told or untold, by the disk's type.
-pub trait Disk: Drop + Send + Sync {
+pub trait Disk: Drop {
     /// Holds where the disk tells what a read gives.
     ghost is_told: { Type 0 };
 

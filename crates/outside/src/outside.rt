@@ -8,7 +8,7 @@ use std::alloc::Global;
 
 /// What a program meets outside itself. Of its disks it tells by name which one lies where, or leaves it untold, by its type.
 pub trait Outside {
-    /// A disk that it gives. It can be dropped, moved to threads and shared by them.
+    /// A disk that it gives.
     type Disk: Disk;
 
     /// Holds where the outside tells which disk lies under a name.

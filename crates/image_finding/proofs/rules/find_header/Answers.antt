@@ -10,14 +10,14 @@ returns-in_default-clause-refused g c told =
 
 pub returns-in-Ok-clause-stands : goal.returns-in-Ok-clause-stands
 returns-in-Ok-clause-stands g c told =
-    let laws = g.met.D.Disk g.world.𝓛 g.world.𝓜 g.world.𝓡 ((λ s x. x), (λ x. x), (λ x. x), λ x. x) in
+    let laws = g.met.D.Disk in
     let s = g.D.Disk.seen c.args.disk.now in
     c.in-Ok.ensures.stands s (laws.has_size told c.args.disk.now ∙ sym c.size-bytes.ensures)
     (one_lives s (as_header c.in-Some.header) (subst (λ o. IsLiveIf s o) c.in-Some.is (c.in_ok-found.ensures.live told)))
 
 pub returns-in-Err-clause-refused : goal.returns-in-Err-clause-refused
 returns-in-Err-clause-refused g c told =
-    let laws = g.met.D.Disk g.world.𝓛 g.world.𝓜 g.world.𝓡 ((λ s x. x), (λ x. x), (λ x. x), λ x. x) in
+    let laws = g.met.D.Disk in
     let s = g.D.Disk.seen c.args.disk.now in
     c.in-Err.ensures.refused s (laws.has_size told c.args.disk.now ∙ sym c.size-bytes.ensures)
     (one_lives s (as_header c.in-Some.header) (subst (λ o. IsLiveIf s o) c.in-Some.is (c.in_ok-found.ensures.live told)))

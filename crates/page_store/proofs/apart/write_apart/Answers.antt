@@ -7,7 +7,7 @@ use Rattle.page_store.proofs.apart.write_apart.Goals as goal
 
 pub returns-clause-old : goal.returns-clause-old
 returns-clause-old g c told room pages k s free old =
-    let laws = g.met.D.Disk g.world.𝓛 g.world.𝓜 g.world.𝓡 ((λ s x. x), (λ x. x), (λ x. x), λ x. x) in
+    let laws = g.met.D.Disk in
     let before = g.D.Disk.seen c.args.disk.now in
     ok_map _ _ c.write_at.result (λ is. subst (IsOld room pages k s) (sym is)
     (old_outside room pages k s before _ c.args.at (length c.args.from.now) old (outside_splice c.args.at c.args.from.now before (omega (arith, laws.has_size told c.args.disk.now, c.requires))) free))
@@ -15,7 +15,7 @@ returns-clause-old g c told room pages k s free old =
 
 pub returns-clause-crash : goal.returns-clause-crash
 returns-clause-crash g c room pages k s free guards =
-    let laws = g.met.D.Disk g.world.𝓛 g.world.𝓜 g.world.𝓡 ((λ s x. x), (λ x. x), (λ x. x), λ x. x) in
+    let laws = g.met.D.Disk in
     let P = IsOld room pages k s in
     let after = λ (f : List ℕ) (left : g.D.Disk.may_leave c.write_at.new.self f). (let from = c.write_at.ensures.crash f left in old_outside room pages k s from.0 f c.args.at (length c.args.from.now) (guards from.0 from.1) (outside_torn _ _ _ _ from.2) free) in
     record {

@@ -27,14 +27,14 @@ returns-clause-gate g c told =
 
 pub returns-in_err-first-clause-any_moment : goal.returns-in_err-first-clause-any_moment
 returns-in_err-first-clause-any_moment g c s only =
-    let laws = g.met.D.Disk g.world.𝓛 g.world.𝓜 g.world.𝓡 ((λ s x. x), (λ x. x), (λ x. x), λ x. x) in
+    let laws = g.met.D.Disk in
     let d = c.args.disk.now in
     reads_on g.D.Disk.moment g.D.Disk.left_since g.D.Disk.may_leave laws.only_now s d d c.read_start.new.disk
     (reads_none g.D.Disk.moment g.D.Disk.left_since g.D.Disk.may_leave laws.only_now s d only) only c.read_start.ensures.crash c.read_start.ensures.time
 
 pub returns-in_err-second-clause-any_moment : goal.returns-in_err-second-clause-any_moment
 returns-in_err-second-clause-any_moment g c s only =
-    let laws = g.met.D.Disk g.world.𝓛 g.world.𝓜 g.world.𝓡 ((λ s x. x), (λ x. x), (λ x. x), λ x. x) in
+    let laws = g.met.D.Disk in
     let d = c.args.disk.now in
     let one = reads_on g.D.Disk.moment g.D.Disk.left_since g.D.Disk.may_leave laws.only_now s d d c.read_start.new.disk
     (reads_none g.D.Disk.moment g.D.Disk.left_since g.D.Disk.may_leave laws.only_now s d only) only c.read_start.ensures.crash c.read_start.ensures.time in
@@ -43,7 +43,7 @@ returns-in_err-second-clause-any_moment g c s only =
 
 pub returns-clause-any_moment : goal.returns-clause-any_moment
 returns-clause-any_moment g c s only =
-    let laws = g.met.D.Disk g.world.𝓛 g.world.𝓜 g.world.𝓡 ((λ s x. x), (λ x. x), (λ x. x), λ x. x) in
+    let laws = g.met.D.Disk in
     let d = c.args.disk.now in
     let one = reads_on g.D.Disk.moment g.D.Disk.left_since g.D.Disk.may_leave laws.only_now s d d c.read_start.new.disk
     (reads_none g.D.Disk.moment g.D.Disk.left_since g.D.Disk.may_leave laws.only_now s d only) only c.read_start.ensures.crash c.read_start.ensures.time in

@@ -3,7 +3,7 @@ use Rattle.page_store.proofs.pages.write_page.Goals as goal
 
 pub returns-clause-crash : goal.returns-clause-crash
 returns-clause-crash g c pages k s byte guards =
-    let laws = g.met.D.Disk g.world.𝓛 g.world.𝓜 g.world.𝓡 ((λ s x. x), (λ x. x), (λ x. x), λ x. x) in
+    let laws = g.met.D.Disk in
     let a = c.args in
     let one = keeps_less g.D.Disk.moment g.D.Disk.left_since g.D.Disk.may_leave a.room pages k s laws.only_now a.disk.now c.has_page.new.disk guards c.has_page.ensures.crash c.has_page.ensures.time in
     keeps_then g.D.Disk.moment g.D.Disk.left_since g.D.Disk.may_leave a.room pages k s a.disk.now c.has_page.new.disk c.write_slot.new.disk one (c.write_slot.ensures.crash pages k s byte one.guards)

@@ -18,7 +18,7 @@ returns-in_err-header-clause-crash g c k s beside guards =
 
 pub loop-p-preserved : goal.loop-p-preserved
 loop-p-preserved g c =
-    let laws = g.met.D.Disk g.world.𝓛 g.world.𝓜 g.world.𝓡 ((λ s x. x), (λ x. x), (λ x. x), λ x. x) in
+    let laws = g.met.D.Disk in
     let a = c.args in
     let l = c.loop-p in
     let n = length a.stored.now in

@@ -6,14 +6,14 @@ use Rattle.page_store.proofs.pages.write_slot.Goals as goal
 
 pub returns-clause-page : goal.returns-clause-page
 returns-clause-page g c told =
-    let laws = g.met.D.Disk g.world.𝓛 g.world.𝓜 g.world.𝓡 ((λ s x. x), (λ x. x), (λ x. x), λ x. x) in
+    let laws = g.met.D.Disk in
     let a = c.args in
     let d = g.D.Disk.seen a.disk.now in
     slot_written a.room a.place c.free_slot-slot.result a.named d (g.D.Disk.seen c.write_apart.new.disk) a.page.now c.requires.page c.free_slot-slot.ensures (omega (arith, laws.has_size told a.disk.now, c.requires.on_disk, c.free_slot-slot.ensures, slot_low a.named)) (c.in_ok-write_apart.ensures.written told)
 
 pub returns-clause-elsewhere : goal.returns-clause-elsewhere
 returns-clause-elsewhere g c told =
-    let laws = g.met.D.Disk g.world.𝓛 g.world.𝓜 g.world.𝓡 ((λ s x. x), (λ x. x), (λ x. x), λ x. x) in
+    let laws = g.met.D.Disk in
     let a = c.args in
     let d = g.D.Disk.seen a.disk.now in
     slot_outside a.room a.place c.free_slot-slot.result a.named d (g.D.Disk.seen c.write_apart.new.disk) a.page.now c.requires.page c.free_slot-slot.ensures (omega (arith, laws.has_size told a.disk.now, c.requires.on_disk, c.free_slot-slot.ensures, slot_low a.named)) (c.in_ok-write_apart.ensures.written told)

@@ -52,7 +52,7 @@ returns-clause-any_moment g c told only =
 
 pub returns-clause-closed : goal.returns-clause-closed
 returns-clause-closed g c told =
-    let laws = g.met.D.Disk g.world.𝓛 g.world.𝓜 g.world.𝓡 ((λ s x. x), (λ x. x), (λ x. x), λ x. x) in
+    let laws = g.met.D.Disk in
     let k = c.in_ok-found.found.kept in
     let s2 = g.D.Disk.seen c.load_header.new.disk in
     let s3 = g.D.Disk.seen c.close_gate.new.disk in

@@ -12,7 +12,7 @@ use Rattle.page_store.proofs.publish.publish_pages.Goals as goal
 
 pub returns-in_err-kept-clause-any_moment : goal.returns-in_err-kept-clause-any_moment
 returns-in_err-kept-clause-any_moment g c told only =
-    let laws = g.met.D.Disk g.world.𝓛 g.world.𝓜 g.world.𝓡 ((λ s x. x), (λ x. x), (λ x. x), λ x. x) in
+    let laws = g.met.D.Disk in
     let a = c.args in
     let n = length a.stored.now in
     let d = a.disk.now in
@@ -29,7 +29,7 @@ returns-in_err-kept-clause-any_moment g c told only =
 
 pub returns-in_err-stage-clause-any_moment : goal.returns-in_err-stage-clause-any_moment
 returns-in_err-stage-clause-any_moment g c told only =
-    let laws = g.met.D.Disk g.world.𝓛 g.world.𝓜 g.world.𝓡 ((λ s x. x), (λ x. x), (λ x. x), λ x. x) in
+    let laws = g.met.D.Disk in
     let a = c.args in
     let n = length a.stored.now in
     let d = a.disk.now in
@@ -54,7 +54,7 @@ returns-in_err-stage-clause-any_moment g c told only =
 
 pub returns-clause-any_moment : goal.returns-clause-any_moment
 returns-clause-any_moment g c told only =
-    let laws = g.met.D.Disk g.world.𝓛 g.world.𝓜 g.world.𝓡 ((λ s x. x), (λ x. x), (λ x. x), λ x. x) in
+    let laws = g.met.D.Disk in
     let a = c.args in
     let n = length a.stored.now in
     let d = a.disk.now in
@@ -83,7 +83,7 @@ returns-clause-any_moment g c told only =
 
 pub returns-clause-published : goal.returns-clause-published
 returns-clause-published g c told =
-    let laws = g.met.D.Disk g.world.𝓛 g.world.𝓜 g.world.𝓡 ((λ s x. x), (λ x. x), (λ x. x), λ x. x) in
+    let laws = g.met.D.Disk in
     let a = c.args in
     let n = length a.stored.now in
     let d = a.disk.now in
@@ -105,7 +105,7 @@ returns-clause-published g c told =
 
 pub returns-clause-unchanged : goal.returns-clause-unchanged
 returns-clause-unchanged g c told =
-    let laws = g.met.D.Disk g.world.𝓛 g.world.𝓜 g.world.𝓡 ((λ s x. x), (λ x. x), (λ x. x), λ x. x) in
+    let laws = g.met.D.Disk in
     let a = c.args in
     let n = length a.stored.now in
     let d = a.disk.now in

@@ -29,7 +29,7 @@ returns-in_err-write_apart-2-clause-crash g c s beside other guards =
 
 pub returns-clause-crash : goal.returns-clause-crash
 returns-clause-crash g c s beside other guards =
-    let laws = g.met.D.Disk g.world.𝓛 g.world.𝓜 g.world.𝓡 ((λ s x. x), (λ x. x), (λ x. x), λ x. x) in
+    let laws = g.met.D.Disk in
     let a = c.args in
     let n = length a.stored.now in
     let area = area_free a.room n a.kept s beside.names c.area_place.result a.facts.now.area (length a.first_block.now) c.area_place.ensures c.requires.area (other a.kept) c.requires.block in
@@ -43,7 +43,7 @@ returns-clause-crash g c s beside other guards =
 
 pub returns-clause-old : goal.returns-clause-old
 returns-clause-old g c told s beside other old =
-    let laws = g.met.D.Disk g.world.𝓛 g.world.𝓜 g.world.𝓡 ((λ s x. x), (λ x. x), (λ x. x), λ x. x) in
+    let laws = g.met.D.Disk in
     let a = c.args in
     let n = length a.stored.now in
     let area = area_free a.room n a.kept s beside.names c.area_place.result a.facts.now.area (length a.first_block.now) c.area_place.ensures c.requires.area (other a.kept) c.requires.block in
@@ -56,7 +56,7 @@ returns-clause-old g c told s beside other old =
 
 pub returns-clause-staged : goal.returns-clause-staged
 returns-clause-staged g c told low tracks =
-    let laws = g.met.D.Disk g.world.𝓛 g.world.𝓜 g.world.𝓡 ((λ s x. x), (λ x. x), (λ x. x), λ x. x) in
+    let laws = g.met.D.Disk in
     let a = c.args in
     let f = a.facts.now in
     let block = a.first_block.now in
@@ -75,7 +75,7 @@ returns-clause-staged g c told low tracks =
 
 pub returns-clause-unchanged : goal.returns-clause-unchanged
 returns-clause-unchanged g c told low =
-    let laws = g.met.D.Disk g.world.𝓛 g.world.𝓜 g.world.𝓡 ((λ s x. x), (λ x. x), (λ x. x), λ x. x) in
+    let laws = g.met.D.Disk in
     let a = c.args in
     let f = a.facts.now in
     let block = a.first_block.now in

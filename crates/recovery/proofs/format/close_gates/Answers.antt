@@ -7,7 +7,7 @@ use Rattle.recovery.proofs.format.close_gates.Goals as goal
 
 pub returns-clause-none : goal.returns-clause-none
 returns-clause-none g c told =
-    let laws = g.met.D.Disk g.world.𝓛 g.world.𝓜 g.world.𝓡 ((λ s x. x), (λ x. x), (λ x. x), λ x. x) in
+    let laws = g.met.D.Disk in
     let long : 278528 ≤ length (g.D.Disk.seen c.args.disk.now) = omega (arith, laws.has_size told c.args.disk.now, c.requires) in
     ok_of _ c.sync.result (ap live (c.sync.ensures.seen told) ∙ gates_closed (g.D.Disk.seen c.args.disk.now) (g.D.Disk.seen c.write_at.new.self) (g.D.Disk.seen c.write_at-2.new.self) long (c.in_ok-write_at.ensures.written told) (c.in_ok-write_at-2.ensures.written told))
 

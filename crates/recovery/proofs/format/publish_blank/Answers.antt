@@ -11,10 +11,10 @@ use Rattle.recovery.proofs.Blanks.{six_bytes, first_is, first_facts, blank_bears
 use Rattle.recovery.proofs.format.publish_blank.Goals as goal
 
 pub publish-requires-clause-block : goal.publish-requires-clause-block
-publish-requires-clause-block g c κs within = subst IsFirstBlock (sym (c.first_block.ensures.bytes ∙ ap (λ (l : LogState). block l.first ++ 0 ∷ []) c.requires.log)) first_is
+publish-requires-clause-block g c = subst IsFirstBlock (sym (c.first_block.ensures.bytes ∙ ap (λ (l : LogState). block l.first ++ 0 ∷ []) c.requires.log)) first_is
 
 pub publish-requires-clause-block_fits : goal.publish-requires-clause-block_fits
-publish-requires-clause-block_fits g c κs within =
+publish-requires-clause-block_fits g c =
     let six : length c.first_block.result.now ≡ 6 = ap length (c.first_block.ensures.bytes ∙ ap (λ (l : LogState). block l.first ++ 0 ∷ []) c.requires.log ∙ six_bytes) in
     omega (arith, six, ap length c.requires.stored, length-replicate c.args.pages false, c.requires.size, c.requires.geometry.least_log)
 

@@ -21,27 +21,27 @@ pages : (s m : PageStore) (order : List ℕ) (r : Row) → row_is (pages_of s) o
 pages s m order r is count = count ∙ sym (length-pages_of s) ∙ ap (λ (x : Row). x.pages) is
 
 pub publish-requires-clause-block_fits : goal.publish-requires-clause-block_fits
-publish-requires-clause-block_fits g c κs within =
+publish-requires-clause-block_fits g c =
     let p = pages c.self.inside.store c.mark_stored.new.store c.self.inside.order.items c.args.self.now c.self.view_is c.mark_stored.ensures.count in
     subst (λ (n : ℕ). length c.args.first_block.now ≤ area_room (g.D.Disk.size_of c.args.disk.now) n) (sym p) c.requires.block_fits
 
 pub publish-requires-clause-disk_size : goal.publish-requires-clause-disk_size
-publish-requires-clause-disk_size g c κs within =
+publish-requires-clause-disk_size g c =
     let p = pages c.self.inside.store c.mark_stored.new.store c.self.inside.order.items c.args.self.now c.self.view_is c.mark_stored.ensures.count in
     subst (λ (n : ℕ). 278528 + 2 * area_room (g.D.Disk.size_of c.args.disk.now) n + 16384 * n ≡ g.D.Disk.size_of c.args.disk.now) (sym p) c.requires.disk_size
 
 pub publish-requires-clause-least_area : goal.publish-requires-clause-least_area
-publish-requires-clause-least_area g c κs within =
+publish-requires-clause-least_area g c =
     let p = pages c.self.inside.store c.mark_stored.new.store c.self.inside.order.items c.args.self.now c.self.view_is c.mark_stored.ensures.count in
     subst (λ (n : ℕ). 65536 ≤ area_room (g.D.Disk.size_of c.args.disk.now) n) (sym p) c.requires.least_area
 
 pub publish-requires-clause-most_area : goal.publish-requires-clause-most_area
-publish-requires-clause-most_area g c κs within =
+publish-requires-clause-most_area g c =
     let p = pages c.self.inside.store c.mark_stored.new.store c.self.inside.order.items c.args.self.now c.self.view_is c.mark_stored.ensures.count in
     subst (λ (n : ℕ). area_room (g.D.Disk.size_of c.args.disk.now) n ≤ 268435456) (sym p) c.requires.most_area
 
 pub publish-requires-clause-live_fits : goal.publish-requires-clause-live_fits
-publish-requires-clause-live_fits g c κs within =
+publish-requires-clause-live_fits g c =
     let p = pages c.self.inside.store c.mark_stored.new.store c.self.inside.order.items c.args.self.now c.self.view_is c.mark_stored.ensures.count in
     λ told. subst (λ (n : ℕ). LiveFits (g.D.Disk.size_of c.args.disk.now) n (g.D.Disk.seen c.args.disk.now)) (sym p) (c.requires.live_fits told)
 

@@ -9,7 +9,7 @@ use Rattle.ordered_index.proofs.Drawing.{drawn}
 use Rattle.ordered_index.proofs.page_maps.PageMaps.publish.Goals as goal
 
 pub publish-requires-clause-live_fits : goal.publish-requires-clause-live_fits
-publish-requires-clause-live_fits g c κs within =
+publish-requires-clause-live_fits g c =
     let p : c.self.inside.leaves.pages ≡ c.args.self.now.pages = ap (λ (t : Tree). t.pages) c.self.view_is in
     λ told. subst (λ (n : ℕ). LiveFits (g.D.Disk.size_of c.args.disk.now) n (g.D.Disk.seen c.args.disk.now)) (sym p) (c.requires.live_fits told)
 

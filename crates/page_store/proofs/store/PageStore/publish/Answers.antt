@@ -5,7 +5,7 @@ use Rattle.page_store.proofs.After.{number_after, area_after, fits_after, pages_
 use Rattle.page_store.proofs.store.PageStore.publish.Goals as goal
 
 pub publish_pages-outcome-requires-clause-live_fits : goal.publish_pages-outcome-requires-clause-live_fits
-publish_pages-outcome-requires-clause-live_fits g c κs within told =
+publish_pages-outcome-requires-clause-live_fits g c told =
     subst (λ (l : List Bool). LiveFits (g.D.Disk.size_of c.args.disk.now) (length l) (g.D.Disk.seen c.args.disk.now)) (sym c.deref-2.ensures.value) (c.requires.live_fits told)
 
 pub returns-in-Ok-clause-number_after : goal.returns-in-Ok-clause-number_after

@@ -36,7 +36,7 @@ returns-clause-holds g c told groups rs holds wait =
 pub returns-clause-outside : goal.returns-clause-outside
 returns-clause-outside g c told =
     let is = is_flushed c.self.inside.fill c.deref_mut.result.now c.self.inside.buffer.items c.self.view_is refl c.deref_mut.ensures.value (omega arith) (omega arith) (omega arith) c.requires.room in
-    let disk_size : length (g.D.Disk.seen c.args.disk.now) ≡ g.D.Disk.size_of c.args.disk.now = (g.met.D.Disk g.world.𝓛 g.world.𝓜 g.world.𝓡 ((λ s x. x), (λ x. x), (λ x. x), λ x. x)).has_size told c.args.disk.now in
+    let disk_size : length (g.D.Disk.seen c.args.disk.now) ≡ g.D.Disk.size_of c.args.disk.now = g.met.D.Disk.has_size told c.args.disk.now in
     flush_beside is (g.D.Disk.seen c.args.disk.now) (g.D.Disk.seen c.flush_block.new.disk) (omega (arith, disk_size, is.at_start, is.of_size)) (c.in-Ok.ensures.written told)
 
 pub returns-in_default-clause-short : goal.returns-in_default-clause-short
