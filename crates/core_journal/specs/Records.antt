@@ -25,10 +25,12 @@ pub record Records : Type 0 where
   pub used : ℕ
   -- how many checkpoints were saved before them
   pub saves : ℕ
+  -- the limit of the maps that checkpoints save
+  pub image_limit : Option ℕ
 
 -- none, as a journal begins; of what its first block carries the bytes alone are counted
-abbrev pub begun : ℕ → Records
-begun used = record { flushed = []; waiting = []; used = used; saves = 0 }
+abbrev pub begun : Option ℕ → ℕ → Records
+begun image_limit used = record { flushed = []; waiting = []; used = used; saves = 0; image_limit = image_limit }
 
 abbrev pub with_one : Schema → Numbered → Records → Records
 with_one objects r rs = record rs { waiting = spelled objects r ∷ rs.waiting; used = rs.used + record_bytes objects r.of }
@@ -43,7 +45,7 @@ flushed_all rs = record rs { flushed = rs.waiting ++ rs.flushed; waiting = []; u
 
 -- none: a checkpoint has taken over what they say, and of what it carries the bytes alone are counted
 abbrev pub restarted : Records → ℕ → Records
-restarted rs used = record { flushed = []; waiting = []; used = used; saves = rs.saves + 1 }
+restarted rs used = record rs { flushed = []; waiting = []; used = used; saves = rs.saves + 1 }
 
 -- a commit and a definition are flushed
 abbrev pub flushed_after : Effect → Records → Records

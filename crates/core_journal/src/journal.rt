@@ -75,7 +75,7 @@ pub trait Checkpoints<M: SortedMaps>: Journal {
     ///
     /// Where the disk fails. It may have the checkpoint or not.
     fn save(&mut self, maps: &mut M, catalog: &Catalog, commits: u64) -> Result<(), DiskFault>
-        requires { (rs : Records) × (es : List Entry) × (used : ℕ) × Self.carries self.old rs es used }
+        requires { (rs : Records) × (es : List Entry) × (used : ℕ) × Self.carries self.old rs es used × (M.limit maps.old ≡ rs.image_limit) }
         ensures ok { OnOk result (((rs : Records) (es : List Entry) (used : ℕ) → Self.carries self.old rs es used → Self.has self.new (restarted rs used)) × (Self.faults self.new ≡ Self.faults self.old)) }
         ensures err { OnErr result (Rose (Self.faults self.old) (Self.faults self.new)) }
         ensures maps { M.maps maps.new ≡ M.maps maps.old }

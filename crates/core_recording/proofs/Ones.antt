@@ -23,7 +23,7 @@ use Rattle.core_state.specs.declared.state.CoreState.{CoreState}
 use Rattle.core_recording.specs.Appending.{CanAppend}
 use Rattle.core_recording.specs.Giving.{IsBehind, IsUngiven, Gave}
 use Rattle.core_recording.proofs.Given.{one, ended, undo_gives, end_gives}
-use Rattle.core_recording.proofs.Used.{told_within, next_small, limit_stays}
+use Rattle.core_recording.proofs.Used.{told_within, next_small, limit_stays, image_stays}
 
 -- ---- what is given
 
@@ -83,7 +83,7 @@ module _ {M J : Type 0} (maps : M → ℕ → Map) (spare : M → ℕ → ℕ) (
     may = may;
     told = told;
     records = rs;
-    behind = record { has_them = behind.has_them; used = behind.used; same_limit = behind.same_limit ∙ sym (limit_stays maps spare limit s i a said then told core began) };
+    behind = record { has_them = behind.has_them; used = behind.used; same_limit = behind.same_limit ∙ sym (limit_stays maps spare limit s i a said then told core began); same_image = behind.same_image ∙ sym (image_stays maps spare limit s i a said then told core began) };
   }
 
   pub gave_all : (after : J) → ((rs : Records) → has journal rs → has after (records_after s i a said told.effects rs)) → area after ≡ area journal → Gave maps spare limit has area s i a said core journal then after

@@ -73,3 +73,7 @@ module _ {M : Type 0} (maps : M → ℕ → Map) (spare : M → ℕ → ℕ) (li
   -- the log's limit is that of the core before
   pub limit_stays : (before : CoreState M) → Began maps spare limit before s i → core.log_room.limit ≡ before.log_room.limit
   limit_stays before began = sym (ap (λ (x : Opening). x.log_limit) told.opening.is) ∙ ap (λ (x : Opening). x.log_limit) began.opening.is
+
+  -- and that of the data too
+  pub image_stays : (before : CoreState M) → Began maps spare limit before s i → core.data_room.limit ≡ before.data_room.limit
+  image_stays before began = sym (ap (λ (x : Opening). x.data_limit) told.opening.is) ∙ ap (λ (x : Opening). x.data_limit) began.opening.is

@@ -14,11 +14,12 @@ use Rattle.core_state.specs.Stands.{Began, Told, Failed}
 use Rattle.core_state.specs.declared.state.CoreState.{CoreState}
 
 module _ {M J : Type 0} (maps : M → ℕ → Map) (spare : M → ℕ → ℕ) (limit : M → Option ℕ) (has : J → Records → Type 0) (area : J → Option ℕ) where
-  -- the journal has these records, which take what the log counts as used, and its limit is the log's
+  -- the journal has these records, which take what the log counts as used; its limit is the log's, and that of what it saves the data's
   pub record IsBehind (core : CoreState M) (journal : J) (l : Log) (rs : Records) : Type 0 where
     pub has_them : has journal rs
     pub used : rs.used ≡ l.used
     pub same_limit : area journal ≡ core.log_room.limit
+    pub same_image : rs.image_limit ≡ core.data_room.limit
 
   -- an act may be done in some state, of whose log the journal has the records
   pub record CanGive (core : CoreState M) (journal : J) (session : ℕ) (a : Act) : Type 0 where

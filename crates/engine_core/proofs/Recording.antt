@@ -16,7 +16,8 @@ use Rattle.txn_machine.specs.Records.{Record}
 use Rattle.txn_machine.specs.State.{State, Stop, Seat, Cleaner, is_fault, most_steps}
 use Rattle.txn_machine.specs.Steps.{Step}
 use Rattle.txn_machine.specs.Store.{Store, Effect, Commits, Defines, schema_of, does}
-use Rattle.core_journal.specs.Records.{Records, with_perhaps, flushed_after, recorded, recorded_all, records_after}
+use Rattle.txn_log.specs.Appended.{Numbered}
+use Rattle.core_journal.specs.Records.{Records, with_one, with_perhaps, flushed_all, flushed_after, recorded, recorded_all, records_after}
 use Rattle.core_recording.specs.Giving.{Did, IsBehind}
 use Rattle.core_recording.proofs.Used.{used_after}
 use Rattle.core_state.specs.Seats.{seat_at}
@@ -56,27 +57,41 @@ module _ {M : Type 0} (maps : M → ℕ → Map) (spare : M → ℕ → ℕ) (li
 
 -- ---- checkpoints are counted
 
-with_saves : (objects : Schema) (number : ℕ) (r : Option Record) (rs : Records) → (with_perhaps objects number r rs).saves ≡ rs.saves
-with_saves objects number None rs = refl
-with_saves objects number (Some r) rs = refl
+-- what no record changes, no step changes
+module _ {X : Type 0} (of : Records → X) (one : (objects : Schema) (r : Numbered) (rs : Records) → of (with_one objects r rs) ≡ of rs) (all : (rs : Records) → of (flushed_all rs) ≡ of rs) where
+  same_perhaps : (objects : Schema) (number : ℕ) (r : Option Record) (rs : Records) → of (with_perhaps objects number r rs) ≡ of rs
+  same_perhaps objects number None rs = refl
+  same_perhaps objects number (Some r) rs = one objects (record { number = number; of = r }) rs
 
-flushed_saves : (e : Effect) (rs : Records) → (flushed_after e rs).saves ≡ rs.saves
-flushed_saves Commits rs = refl
-flushed_saves (Defines object) rs = refl
-flushed_saves e rs = refl
+  same_flushed : (e : Effect) (rs : Records) → of (flushed_after e rs) ≡ of rs
+  same_flushed Commits rs = all rs
+  same_flushed (Defines object) rs = all rs
+  same_flushed e rs = refl
 
-all_saves : (s : Store) (i : ℕ) (a : Act) (es : List Effect) (l : Log) (rs : Records) → (recorded_all s i a es l rs).saves ≡ rs.saves
-all_saves s i a [] l rs = refl
-all_saves s i a (e ∷ es) l rs =
-    all_saves (does the_views s i e) i a es (logs s i a e l) (recorded s i a e l rs)
-    ∙ (flushed_saves e (with_perhaps (schema_of s) l.next (record_of s i a l e) rs) ∙ with_saves (schema_of s) l.next (record_of s i a l e) rs)
+  same_all : (s : Store) (i : ℕ) (a : Act) (es : List Effect) (l : Log) (rs : Records) → of (recorded_all s i a es l rs) ≡ of rs
+  same_all s i a [] l rs = refl
+  same_all s i a (e ∷ es) l rs =
+      same_all (does the_views s i e) i a es (logs s i a e l) (recorded s i a e l rs)
+      ∙ (same_flushed e (with_perhaps (schema_of s) l.next (record_of s i a l e) rs) ∙ same_perhaps (schema_of s) l.next (record_of s i a l e) rs)
+
+abbrev saves_of : Records → ℕ
+saves_of rs = rs.saves
+
+abbrev image_of : Records → Option ℕ
+image_of rs = rs.image_limit
+
+image_after : (s : State) (i : ℕ) (a : Act) (said : Answer) (es : List Effect) (rs : Records) → (records_after s i a said es rs).image_limit ≡ rs.image_limit
+image_after s i act.Checkpoint (answer.Saved number) es rs = refl
+image_after s i act.Commit (answer.Refused refusal.DiskFault) es rs = same_perhaps image_of (λ objects r rs. refl) (λ rs. refl) (schema_of s.store) s.log.next (record_of s.store i act.Commit s.log Commits) rs
+image_after s i (act.Schema statement) (answer.Refused refusal.DiskFault) es rs = refl
+image_after s i a said es rs = same_all image_of (λ objects r rs. refl) (λ rs. refl) s.store i a es s.log rs
 
 -- a step saves one at most
 saves_after : (s : State) (i : ℕ) (a : Act) (said : Answer) (es : List Effect) (rs : Records) → (records_after s i a said es rs).saves ≤ rs.saves + 1
 saves_after s i act.Checkpoint (answer.Saved number) es rs = omega arith
-saves_after s i act.Commit (answer.Refused refusal.DiskFault) es rs = let same = with_saves (schema_of s.store) s.log.next (record_of s.store i act.Commit s.log Commits) rs in omega (arith, same)
+saves_after s i act.Commit (answer.Refused refusal.DiskFault) es rs = let same = same_perhaps saves_of (λ objects r rs. refl) (λ rs. refl) (schema_of s.store) s.log.next (record_of s.store i act.Commit s.log Commits) rs in omega (arith, same)
 saves_after s i (act.Schema statement) (answer.Refused refusal.DiskFault) es rs = omega arith
-saves_after s i a said es rs = let same = all_saves s.store i a es s.log rs in omega (arith, same)
+saves_after s i a said es rs = let same = same_all saves_of (λ objects r rs. refl) (λ rs. refl) s.store i a es s.log rs in omega (arith, same)
 
 -- a step of a core that runs is counted
 steps_more : (s : State) (i : ℕ) (a : Act) (said : Answer) (after : State) → s.stop ≡ None → Step s i a said after → after.steps ≡ s.steps + 1
@@ -112,10 +127,23 @@ module _ {M : Type 0} (maps : M → ℕ → Map) (spare : M → ℕ → ℕ) (li
   pub began_limit : (core then : CoreState M) → Stands maps spare limit core s → Began maps spare limit then s i → core.log_room.limit ≡ then.log_room.limit
   began_limit core then stands began = sym (ap (λ (x : Opening). x.log_limit) stands.opening.is) ∙ ap (λ (x : Opening). x.log_limit) began.opening.is
 
+  pub began_image : (core then : CoreState M) → Stands maps spare limit core s → Began maps spare limit then s i → core.data_room.limit ≡ then.data_room.limit
+  began_image core then stands began = sym (ap (λ (x : Opening). x.data_limit) stands.opening.is) ∙ ap (λ (x : Opening). x.data_limit) began.opening.is
+
+  -- so the journal is behind a step that has begun
+  pub behind_begun : {J : Type 0} (has : J → Records → Type 0) (area : J → Option ℕ) (core then : CoreState M) (journal : J) (rs : Records) → Stands maps spare limit core s → Began maps spare limit then s i
+      → IsBehind maps spare limit has area core journal s.log rs → IsBehind maps spare limit has area then journal s.log rs
+  behind_begun has area core then journal rs stands began behind =
+      record { has_them = behind.has_them; used = behind.used; same_limit = behind.same_limit ∙ began_limit core then stands began; same_image = behind.same_image ∙ began_image core then stands began }
+
   -- and of one that is done
   moved_limit : (a : Act) (said : Answer) (es : List Effect) (then : CoreState M) (before : Option ℕ) → s.opening.log_limit ≡ before → Moved maps spare limit s i a said es then → before ≡ then.log_room.limit
   moved_limit a said es then before was moved =
       sym was ∙ (ap (λ (x : Opening). x.log_limit) (sym (opening_stays s i a said moved.after moved.does)) ∙ ap (λ (x : Opening). x.log_limit) moved.stands.opening.is)
+
+  moved_image : (a : Act) (said : Answer) (es : List Effect) (then : CoreState M) (before : Option ℕ) → s.opening.data_limit ≡ before → Moved maps spare limit s i a said es then → before ≡ then.data_room.limit
+  moved_image a said es then before was moved =
+      sym was ∙ (ap (λ (x : Opening). x.data_limit) (sym (opening_stays s i a said moved.after moved.does)) ∙ ap (λ (x : Opening). x.data_limit) moved.stands.opening.is)
 
 -- ---- what was done
 
@@ -143,6 +171,7 @@ module _ {M J : Type 0} (maps : M → ℕ → Map) (spare : M → ℕ → ℕ) (
               has_them = gave.gave rs behind;
               used = used_after s i a said gave.told.effects rs behind.used ∙ sym (ap (λ (l : Log). l.used) moved.logged);
               same_limit = gave.same_limit ∙ (behind.same_limit ∙ moved_limit maps spare limit s i a said gave.told.effects new core.log_room.limit (ap (λ (x : Opening). x.log_limit) began.opening.is) moved);
+              same_image = image_after s i a said gave.told.effects rs ∙ (behind.same_image ∙ moved_image maps spare limit s i a said gave.told.effects new core.data_room.limit (ap (λ (x : Opening). x.data_limit) began.opening.is) moved);
             };
             few = few_after s i a said gave.told.effects rs moved.after began.runs moved.does;
           }

@@ -43,7 +43,7 @@ impl<M: SortedMaps, J: Journal + Drop> Core<M, J> {
         number: u64,
     ) -> Result<Self, NoMemory>
         requires empty { AreEmpty (M.maps maps) }
-        requires unrecorded { J.has journal (begun (block_bytes + 1)) }
+        requires unrecorded { J.has journal (begun (Some most) (block_bytes + 1)) }
         requires log { J.limit journal ≡ log }
         requires least { Within log (block_bytes + 1) }
         requires data { M.limit maps ≡ Some most }

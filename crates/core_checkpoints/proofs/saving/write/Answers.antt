@@ -32,7 +32,7 @@ save-requires g c =
     let q = c.requires in
     let core = c.args.core.now in
     let t = c.carry_kept-bytes.ensures.carries core.store.catalog q.records (block_bytes + 1) (can_carry g.M.SortedMaps.maps g.M.SortedMaps.spare g.M.SortedMaps.limit core q.state q.began) (c.begin_checkpoint.ensures.carries q.records q.behind.has_them) in
-    (q.records, t.0, _, t.2)
+    (q.records, t.0, _, t.2, ap g.M.SortedMaps.limit c.maps_mut.ensures.value ∙ (q.began.holds.most ∙ sym q.behind.same_image))
 
 pub returns-in-Ok-clause-ok : goal.returns-in-Ok-clause-ok
 returns-in-Ok-clause-ok g c = (

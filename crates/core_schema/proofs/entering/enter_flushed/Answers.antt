@@ -1,4 +1,4 @@
-use Rattle.std.proofs.Common.{◌≡◌, ◌<◌, length, ◌+◌, ◌-◌, ◌^◌, List, arith, min}
+use Rattle.std.proofs.Common.{◌≡◌, ◌+◌, ◌-◌, ◌^◌, List, arith, min}
 use mathlib.Core.Path.{sym, ap, subst, ◌∙◌}
 use Rattle.txn_machine.specs.Log.{Within, block_bytes, reserved, definition_entries, definition_need}
 use Rattle.txn_machine.specs.Records.{definition_bytes}
@@ -7,7 +7,6 @@ use Rattle.iv_types.specs.declared.lock.Change.{Change}
 use Rattle.txn_book.specs.Books.{Defined}
 use Rattle.data_store.specs.Contents.{contents_of}
 use Rattle.data_store.specs.declared.store.DataStore.{DataStore}
-use Rattle.core_state.specs.declared.state.CoreState.{CoreState}
 use Rattle.core_state.proofs.Counted.{counted}
 use Rattle.core_state.proofs.Logged.{log_limit_of}
 use Rattle.core_schema.specs.Making.{with_catalog}

@@ -4,7 +4,7 @@ use Rattle.txn_book.specs.Acts.{act_of, answer_of}
 use Rattle.core_recording.specs.Giving.{Did, IsBehind}
 use Rattle.core_state.specs.Stands.{Failed, Told}
 use Rattle.engine_core.proofs.Asking.{few_ask}
-use Rattle.engine_core.proofs.Recording.{began_limit, few_own, few_records, few_removed, few_saves, few_steps, failed_of, recorded_fault, recorded_told, told_of}
+use Rattle.engine_core.proofs.Recording.{behind_begun, few_own, few_records, few_removed, few_saves, few_steps, failed_of, recorded_fault, recorded_told, told_of}
 use Rattle.engine_core.proofs.acting.run.Goals as goal
 
 pub answer-said-requires-after_bounds : goal.answer-said-requires-after_bounds
@@ -19,7 +19,7 @@ answer-said-requires-after_bounds g c κs within =
       began = began;
       may = may_of s i a q.4 q.5.1;
       records = q.1;
-      behind = record { has_them = q.3.has_them; used = q.3.used; same_limit = q.3.same_limit ∙ began_limit g.M.SortedMaps.maps g.M.SortedMaps.spare g.M.SortedMaps.limit s i c.args.core.now c.open_step.new.self q.2 began };
+      behind = behind_begun g.M.SortedMaps.maps g.M.SortedMaps.spare g.M.SortedMaps.limit s i g.J.Journal.has g.J.Journal.limit c.args.core.now c.open_step.new.self c.args.journal.now q.1 q.2 began q.3;
       few = few_saves g.M.SortedMaps.maps g.M.SortedMaps.spare g.M.SortedMaps.limit c.args.core.now s q.2.counts q.4 q.1.saves q.6;
     }
 
@@ -110,7 +110,7 @@ returns-then-tells_fault-clause-recorded g c = λ s rs stands behind runs asked.
     let a = act_of c.args.step.now.act in
     let began = c.open_step.ensures s stands runs in
     let did : Did g.M.SortedMaps.maps g.M.SortedMaps.spare g.M.SortedMaps.limit g.J.Journal.has g.J.Journal.limit s i a (answer_of c.answer-said.result) c.open_step.new.self c.args.journal.now c.answer-said.new.core c.answer-said.new.journal = c.answer-said.ensures.gives s began (may_of s i a runs asked.1) in
-    let behind_then : IsBehind g.M.SortedMaps.maps g.M.SortedMaps.spare g.M.SortedMaps.limit g.J.Journal.has g.J.Journal.limit c.open_step.new.self c.args.journal.now s.log rs = record { has_them = behind.has_them; used = behind.used; same_limit = behind.same_limit ∙ began_limit g.M.SortedMaps.maps g.M.SortedMaps.spare g.M.SortedMaps.limit s i c.args.core.now c.open_step.new.self stands began } in
+    let behind_then : IsBehind g.M.SortedMaps.maps g.M.SortedMaps.spare g.M.SortedMaps.limit g.J.Journal.has g.J.Journal.limit c.open_step.new.self c.args.journal.now s.log rs = behind_begun g.M.SortedMaps.maps g.M.SortedMaps.spare g.M.SortedMaps.limit s i g.J.Journal.has g.J.Journal.limit c.args.core.now c.open_step.new.self c.args.journal.now rs stands began behind in
     recorded_fault g.M.SortedMaps.maps g.M.SortedMaps.spare g.M.SortedMaps.limit g.J.Journal.has g.J.Journal.limit s i a (answer_of c.answer-said.result) c.open_step.new.self c.args.journal.now c.answer-said.new.core c.answer-said.new.journal rs behind_then began c.fail_step.new.self did (sym c.tells_fault.ensures ∙ c.if-tells_fault.true) (λ failed. c.fail_step.ensures s a asked c.waiting_of.ensures.counts failed)
 
 pub returns-else-tells_fault-clause-recorded : goal.returns-else-tells_fault-clause-recorded
@@ -119,5 +119,5 @@ returns-else-tells_fault-clause-recorded g c = λ s rs stands behind runs asked.
     let a = act_of c.args.step.now.act in
     let began = c.open_step.ensures s stands runs in
     let did : Did g.M.SortedMaps.maps g.M.SortedMaps.spare g.M.SortedMaps.limit g.J.Journal.has g.J.Journal.limit s i a (answer_of c.answer-said.result) c.open_step.new.self c.args.journal.now c.answer-said.new.core c.answer-said.new.journal = c.answer-said.ensures.gives s began (may_of s i a runs asked.1) in
-    let behind_then : IsBehind g.M.SortedMaps.maps g.M.SortedMaps.spare g.M.SortedMaps.limit g.J.Journal.has g.J.Journal.limit c.open_step.new.self c.args.journal.now s.log rs = record { has_them = behind.has_them; used = behind.used; same_limit = behind.same_limit ∙ began_limit g.M.SortedMaps.maps g.M.SortedMaps.spare g.M.SortedMaps.limit s i c.args.core.now c.open_step.new.self stands began } in
+    let behind_then : IsBehind g.M.SortedMaps.maps g.M.SortedMaps.spare g.M.SortedMaps.limit g.J.Journal.has g.J.Journal.limit c.open_step.new.self c.args.journal.now s.log rs = behind_begun g.M.SortedMaps.maps g.M.SortedMaps.spare g.M.SortedMaps.limit s i g.J.Journal.has g.J.Journal.limit c.args.core.now c.open_step.new.self c.args.journal.now rs stands began behind in
     recorded_told g.M.SortedMaps.maps g.M.SortedMaps.spare g.M.SortedMaps.limit g.J.Journal.has g.J.Journal.limit s i a (answer_of c.answer-said.result) c.open_step.new.self c.args.journal.now c.answer-said.new.core c.answer-said.new.journal rs behind_then began c.close_step.new.self did (sym c.tells_fault.ensures ∙ c.if-tells_fault.false) (λ told. c.close_step.ensures s a asked told)
