@@ -18,16 +18,17 @@ use Rattle.iv_meaning.specs.Sound.{IsSound, IsObject}
 use Rattle.iv_meaning.specs.Statement.{create}
 use Rattle.query_laws.specs.Limited.{IsLimited}
 use Rattle.query_laws.proofs.Bound.{AreAlike, is_bound}
-use Rattle.query_laws.proofs.CreatingLemmas.{created_law}
 use Rattle.query_laws.proofs.LimitedLemmas.{limited_law, numbers_law}
-use Rattle.query_laws.proofs.SoundLemmas.{created_sound}
 use Rattle.query_laws.proofs.TermLemmas.{get_behind}
 use Rattle.sql_parse.proofs.Lines.{unique}
 use Rattle.txn_machine.specs.May.{IsCreate}
+use Rattle.txn_machine.specs.ViewLaws.{AreSound}
+use Rattle.txn_machine.proofs.Creating.{creates_sound}
 use Rattle.data_defining.proofs.Adding.{can_add}
 use Rattle.core_schema.proofs.Names.{name_is_free}
 use Rattle.txn_log.specs.Appended.{Creates}
 use Rattle.txn_log.specs.Stored.{AllCreate}
+use Rattle.log_disk.proofs.Building.{none_sound}
 use Rattle.image_catalog.specs.Texts.{IsBound, IsDefined, AreMade}
 
 -- what a text's one statement creates, the text makes
@@ -42,22 +43,25 @@ abbrev without_rows : Schema → Database
 without_rows objects = record { number = 0; schema = objects; rows = empty }
 
 -- what texts make is sound and within the limits
-record StandSo (objects : Schema) : Type 0 where
-  pub sound : IsSound (without_rows objects)
+pub record StandSo (objects : Schema) : Type 0 where
+  pub sound : AreSound objects empty
   pub limited : IsLimited objects
+
+as_database : (objects : Schema) → AreSound objects empty → IsSound (without_rows objects)
+as_database objects sound = record { objects = sound.objects; rows = sound.rows }
 
 one_more : (objects : Schema) (statement : StatementTree) (o : Object) → StandSo objects → bind objects statement ≡ Ok (create o) → StandSo (objects ++ o ∷ [])
 one_more objects statement o so e = record {
-  sound = created_law (without_rows objects) so.sound statement o e;
-  limited = limited_law (without_rows objects) so.sound so.limited statement o e;
+  sound = creates_sound (without_rows objects) statement o so.sound e;
+  limited = limited_law (without_rows objects) (as_database objects so.sound) so.limited statement o e;
 }
 
 all_more : (objects : Schema) (texts : List (List ℕ)) (all : Schema) → StandSo objects → AllCreate objects texts all → StandSo all
 all_more objects [] all so h = subst StandSo (sym h) so
 all_more objects (text ∷ texts) all so h = all_more (objects ++ h.0 ∷ []) texts all (one_more objects h.1.0 h.0 so h.1.2) h.2
 
-made_so : (objects : Schema) → AreMade objects → StandSo objects
-made_so objects made = all_more [] made.texts objects (record { sound = created_sound; limited = numbers_law.0 }) made.all_create
+pub made_so : (objects : Schema) → AreMade objects → StandSo objects
+made_so objects made = all_more [] made.texts objects (record { sound = none_sound; limited = numbers_law.0 }) made.all_create
 
 number_here : (objects : Schema) (n : ℕ) (d : Definition) → IsObject objects n (object_of d) → number_of d ≡ n
 number_here objects n (Table t) h = h.0

@@ -1,4 +1,3 @@
-mod Made
 mod Holding
 mod Entries
 mod Putting

@@ -35,8 +35,8 @@ use Rattle.ghost_rows.proofs.GhostLemmas.{counted_closed}
 use Rattle.data_store.specs.Contents.{Contents, pays_on}
 use Rattle.data_store.specs.Held.{IsHeld}
 use Rattle.data_changes.proofs.Frames.{row_changed, rows_changed, views_stay, unused_stay}
+use Rattle.core_effects.proofs.Entries.{each_held}
 use Rattle.image_store.specs.Filled.{IsFilled, IsNewRow, with_row, IsNewGroup, with_group}
-use Rattle.image_store.proofs.Holding.{each_held}
 use Rattle.image_store.proofs.Entries.{of_none}
 
 -- ---- no rows
@@ -124,7 +124,7 @@ module _ (ds : Definitions) (maps : ℕ → Map) (state : State) (table : ℕ) (
       there = record { rows = c.rows; held = n.held.tables n.of its_table; is = ap (λ (k : ℕ). get c.rows (k, key)) own_number ∙ n.absent };
       row_after = n.stands;
       differ = λ e. absurd (let no : None ≡ Some row = e in cc);
-      can_hold = each_held ds are limited n.of its_table key row n.stands;
+      can_hold = each_held ds are limited n.of its_table key (Some row) None n.stands;
       within = subst (λ l. IsWithin l (used maps + sizes (made_by ds change n.of) - sizes (gone_by ds change n.of))) (sym unlimited) tt;
     },
   )

@@ -7,8 +7,8 @@ ghost use Rattle.table_store.specs.Stored as stored;
 ghost use Rattle.table_store.specs.Lists.{map_at};
 ghost use Rattle.query_laws.specs.Limited.{IsLimited};
 ghost use Rattle.txn_log.specs.Damaged.{EntryStands};
-ghost use Rattle.txn_log.specs.Stored.{AllCreate};
 ghost use Rattle.ghost_rows.specs.Rows.{no_rows};
+ghost use Rattle.image_catalog.specs.Texts.{AreMade};
 ghost use Rattle.image_entries.specs.declared.stored.StoredEntry.{StoredEntry};
 ghost use Rattle.image_store.specs.Filled.{Entries, IsFilled, IsFilling};
 
@@ -194,7 +194,7 @@ pub fn fill_store(
     entries: EntryMap,
 ) -> Result<DataStore<TreeMaps>, NoMemory>
     requires stand { (p : Place) (s : StoredEntry) → get entries.entries p ≡ Some s → EntryStands (schema_of catalog) (p, s.value) }
-    requires made { (texts : List (List ℕ)) × AllCreate [] texts (schema_of catalog) }
+    requires made { AreMade (schema_of catalog) }
     ensures catalog { IfOk result (λ store. store.catalog ≡ catalog) }
     ensures filled { IfOk result (λ store. IsFilled entries.entries catalog (map_at store.tables) store.views) }
     ensures pruned { IfOk result (λ store. (store.row_versions.pruned ≡ 0) × (store.delta_versions.pruned ≡ 0)) }
