@@ -1,0 +1,4 @@
+pub mod Headers
+pub mod Blocks
+pub mod Stands
+pub mod Marks

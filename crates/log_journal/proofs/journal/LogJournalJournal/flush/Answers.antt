@@ -1,0 +1,21 @@
+use Rattle.std.proofs.Common.{◌∷◌}
+use Rattle.std.specs.Prelude.{reverse}
+use Rattle.log_journal.proofs.Stands.{flushed, flush_left}
+use Rattle.log_journal.proofs.journal.LogJournalJournal.flush.Goals as goal
+
+pub returns-in-Ok-clause-ok : goal.returns-in-Ok-clause-ok
+returns-in-Ok-clause-ok g c = (
+  (λ records has. flushed g.D.Disk.is_told g.D.Disk.size_of g.D.Disk.seen g.D.Disk.may_leave c.args.self.now records c.flush.new.self c.reserve.new.log c.flush.new.disk has c.reserve.ensures
+      c.in-Ok.ensures.size c.in-Ok.ensures.durable c.in-Ok.ensures.ok c.in-Ok.ensures.short c.in-Ok.ensures.holds c.in-Ok.ensures.outside),
+  c.in-Ok.ensures.cause,
+)
+
+pub returns-in-Ok-clause-any_moment : goal.returns-in-Ok-clause-any_moment
+returns-in-Ok-clause-any_moment g c told records has blocks =
+    flush_left g.D.Disk.moment g.D.Disk.left_since c.args.self.now.disk c.flush.new.disk c.args.self.now.log c.reserve.new.log (g.D.Disk.seen c.args.self.now.disk) (blocks.first ∷ blocks.others) (reverse records.waiting)
+    c.reserve.ensures (λ holds waits. c.flush.ensures.any_moment told (blocks.first ∷ blocks.others) (reverse records.waiting) holds waits (has.kept.header told).durable) blocks.holds has.waiting
+
+pub returns-in-Err-clause-any_moment : goal.returns-in-Err-clause-any_moment
+returns-in-Err-clause-any_moment g c told records has blocks =
+    flush_left g.D.Disk.moment g.D.Disk.left_since c.args.self.now.disk c.flush.new.disk c.args.self.now.log c.reserve.new.log (g.D.Disk.seen c.args.self.now.disk) (blocks.first ∷ blocks.others) (reverse records.waiting)
+    c.reserve.ensures (λ holds waits. c.flush.ensures.any_moment told (blocks.first ∷ blocks.others) (reverse records.waiting) holds waits (has.kept.header told).durable) blocks.holds has.waiting
