@@ -1,0 +1,7 @@
+pub mod Alike
+pub mod Gaps
+pub mod Merging
+pub mod Ranges
+pub mod Evaluated
+pub mod Readable
+pub mod Places
