@@ -1,7 +1,7 @@
 -- No clause of `run` rests on this module: it serves contracts between crates.
 --
 -- What a checkpoint carries: the records of the steps that open transactions keep.
-use Rattle.std.specs.Prelude.{◌≡◌, ◌≢◌, ℕ, ◌+◌, List, [], ◌∷◌, map, get_or, slice_get, Option, Some, None}
+use Rattle.std.specs.Prelude.{ℕ, List, [], map, get_or, Option, Some, None}
 use Rattle.std.specs.List.{All, sum}
 use Rattle.iv_types.specs.Definitions.{Definitions}
 use Rattle.iv_types.specs.declared.lock.KeptStep.{KeptStep}
@@ -55,15 +55,3 @@ all_bytes objects opens = sum_over 64 (λ session. steps_bytes objects (steps_at
 -- session k's number stands at place k
 abbrev pub done_at : List ℕ → ℕ → ℕ
 done_at done session = get_or done session 0
-
--- These are the records of so many steps of each session's transaction, and those of one stand in their order. The latest stands first.
-pub data AreCarried (objects : Schema) (opens : List (Option Open)) : (ℕ → ℕ) → List Entry → Type 0 where
-  none : (done : ℕ → ℕ) → ((session : ℕ) → done session ≡ 0) → AreCarried objects opens done []
-  more : (done after : ℕ → ℕ) (es : List Entry) (session : ℕ) (k : KeptStep) → AreCarried objects opens done es → IsSession session → slice_get (steps_at opens session) (done session) ≡ Some k
-      → after session ≡ done session + 1 → ((other : ℕ) → other ≢ session → after other ≡ done other) → AreCarried objects opens after (entry_of objects (id_of (open_at opens session)) k ∷ es)
-
--- of all steps
-pub record CarriesAll (objects : Schema) (opens : List (Option Open)) (es : List Entry) : Type 0 where
-  pub done : ℕ → ℕ
-  pub carried : AreCarried objects opens done es
-  pub all : (session : ℕ) → IsSession session → slice_get (steps_at opens session) (done session) ≡ None

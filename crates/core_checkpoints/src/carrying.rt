@@ -11,7 +11,8 @@ ghost use Rattle.txn_book.specs.Opens.{open_at};
 ghost use Rattle.log_records.specs.Area.{Entry};
 ghost use Rattle.record_lending.specs.Steps.{HasItsEntries, record_of};
 ghost use Rattle.core_journal.specs.Records.{Records};
-ghost use Rattle.core_checkpoints.specs.Carrying.{steps_at, id_of, CanCarry, CanCarryAll, CarriesAll, entry_of, all_bytes};
+ghost use Rattle.core_checkpoints.specs.Carried.{CarriesAll};
+ghost use Rattle.core_checkpoints.specs.Carrying.{steps_at, id_of, CanCarry, CanCarryAll, entry_of, all_bytes};
 
 use crate::earliest::{earliest, step_behind};
 use core_journal::Journal;

@@ -6,7 +6,8 @@ use Rattle.txn_machine.specs.Records.{record_bytes}
 use Rattle.txn_machine.proofs.LogRoom.{within_less}
 use Rattle.txn_book.specs.Opens.{open_at}
 use Rattle.record_lending.specs.Steps.{record_of}
-use Rattle.core_checkpoints.specs.Carrying.{done_at, entry_of, id_of, steps_at, all_bytes, none, more, CanCarry}
+use Rattle.core_checkpoints.specs.Carrying.{done_at, entry_of, id_of, steps_at, all_bytes, CanCarry}
+use Rattle.core_checkpoints.specs.Carried.{none, more}
 use Rattle.core_checkpoints.proofs.Parts.{part, part_none, part_more, part_less, part_all, left_less, told_sum, none_done, one_more, more_here, others_still, all_there}
 use Rattle.core_checkpoints.proofs.carrying.carry_kept.Goals as goal
 
@@ -77,7 +78,7 @@ loop-session-preserved g c =
           let adds : used + part objects opens (done_at done) + record_bytes objects (record_of id e.step) ≡ used + part objects opens after = omega (arith, moved) in
           let can_one : CanCarry definitions id e.step = all_there (CanCarry definitions id) (steps_at opens session) (done_at done session) e.step e.there (can session e.of_session) in (
             entry_of objects id e.step ∷ t.0,
-            more (done_at done) after t.0 session e.step t.1 e.of_session e.there (more_here done session inside) (others_still done session inside),
+            more (done_at done) after t.0 session e.step t.1 c.in-Some.ensures.some e.there (more_here done session inside) (others_still done session inside),
             subst (g.J.Journal.carries c.carry_next-more.new.journal rs (entry_of objects id e.step ∷ t.0)) adds (c.carry_next-more.ensures.carries definitions rs t.0 (used + part objects opens (done_at done)) e.step e.there can_one.0 t.2),
           );
       bytes = λ definitions can.

@@ -5,7 +5,8 @@ use Rattle.iv_meaning.specs.Objects.{schema_of}
 use Rattle.txn_machine.specs.Counts.{told_need}
 use Rattle.log_records.specs.Area.{Entry}
 use Rattle.core_journal.specs.Records.{Records}
-use Rattle.core_checkpoints.specs.Carrying.{done_at, AreCarried, CanCarryAll}
+use Rattle.core_checkpoints.specs.Carrying.{done_at, CanCarryAll}
+use Rattle.core_checkpoints.specs.Carried.{AreCarried}
 use Rattle.core_checkpoints.proofs.Parts.{left, part}
 use Rattle.core_checkpoints.proofs.carrying.carry_kept.Given as goal
 
