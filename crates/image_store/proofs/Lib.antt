@@ -1,4 +1,3 @@
-mod Holding
 mod Entries
 mod Putting
 mod Taking

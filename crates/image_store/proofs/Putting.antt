@@ -28,14 +28,12 @@ use Rattle.ghost_rows.specs.Kept.{StandsFor}
 use Rattle.ghost_rows.specs.State.{State, stored_at, AreKept, StoresOnlyAt}
 use Rattle.ghost_rows.specs.Ghosts.{IsGhostRow, IsCandidate, StayListed}
 use Rattle.ghost_rows.proofs.TableLemmas.{by_place}
-use Rattle.ghost_rows.proofs.StateLemmas.{has_bytes}
 use Rattle.ghost_rows.proofs.RowLemmas.{huge_fit}
-use Rattle.ghost_rows.proofs.NumberSteps.{numbers_same}
-use Rattle.ghost_rows.proofs.GhostLemmas.{counted_closed}
 use Rattle.data_store.specs.Contents.{Contents, pays_on}
 use Rattle.data_store.specs.Held.{IsHeld}
 use Rattle.data_changes.proofs.Frames.{row_changed, rows_changed, views_stay, unused_stay}
 use Rattle.core_effects.proofs.Entries.{each_held}
+use Rattle.group_replay.proofs.Replacing.{ghost_count}
 use Rattle.image_store.specs.Filled.{IsFilled, IsNewRow, with_row, IsNewGroup, with_group}
 use Rattle.image_store.proofs.Entries.{of_none}
 
@@ -137,13 +135,6 @@ module _ (ds : Definitions) (maps : ℕ → Map) (state : State) (table : ℕ) (
       (λ q s. refl)
 
 -- ---- a row of a view
-
--- a ghost on which nothing is kept counts no row
-ghost_count : (o : Option OpenRow) (stored : Option (List ℕ)) (count : ℤ) (sums : List ℤ) → o ≡ None → stored ≡ Some (numbers_bytes (count ∷ sums)) → Fits128 (count ∷ sums) → IsGhostRow o stored → count ≡ pos 0
-ghost_count o stored count sums closed is fits g =
-    let bytes = has_bytes stored (numbers_bytes (count ∷ sums)) (suc g.many) g.kept.numbers (sym is) g.kept.has in
-    let same : count ∷ sums ≡ g.kept.numbers = numbers_same (count ∷ sums) g.kept.numbers fits (huge_fit g.kept.numbers g.kept.has.huge) bytes in
-    ap (λ ns. get_or ns 0 (pos 0)) same ∙ counted_closed g.pays (pos 0) (get_or g.kept.numbers 0 (pos 0)) (g.kept.closed closed) g.count
 
 module _ (ds : Definitions) (maps new : ℕ → Map) (state after : State) (place : Place) (numbers : List ℤ) (c : Contents) (n : IsNewGroup ds maps state place numbers c) where
   pub not_there : stored_at maps place ≡ None

@@ -12,8 +12,7 @@ ghost use Rattle.data_store.specs.Held.{IsHeld};
 ghost use Rattle.image_store.specs.Filled.{IsNewGroup, with_group};
 
 use data_store::DataStore;
-use ghost_rows::ViewRows;
-use ghost_rows::numbers::front;
+use group_replay::list_ghost;
 use iv_types::{Bytes, NoMemory, SortedMaps};
 
 // Puts a value into the index of a view, under a group that has none.
@@ -33,19 +32,6 @@ fn put_value<M: SortedMaps>(
     maps.reserve(view, 1)?;
     maps.insert(view, group, value);
     Ok(())
-}
-
-// Has a group cleaned whose numbers count no row.
-fn list_ghost(views: &mut ViewRows, view: u32, group: &[u8], value: &[u8]) -> Result<(), NoMemory>
-    requires { 16 ≤ length value.now }
-    ensures candidate { OnOk result ((count : ℤ) (sums : List ℤ) → FitsSigned w128 count → value.now ≡ numbers_bytes (count ∷ sums) → count ≡ pos 0 → IsCandidate views.new (view, group.now)) }
-    ensures others { OnOk result ((maps : ℕ → Map) → StayListed views.old maps views.new maps) }
-    ensures rows { views.new.rows ≡ views.old.rows }
-{
-    if front(value).0 != 0 {
-        return Ok(());
-    }
-    views.add_candidate(view, group)
 }
 
 /// Puts the numbers of a group into the index of its view, where none are. Where they count no row they are those of a

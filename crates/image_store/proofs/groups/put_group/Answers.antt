@@ -4,9 +4,10 @@ use Rattle.iv_types.specs.Maps.{CanHold}
 use Rattle.table_laws.specs.Place.{Place}
 use Rattle.query_laws.specs.Limited.{IsLimited}
 use Rattle.ghost_rows.specs.Ghosts.{IsCandidate}
+use Rattle.ghost_rows.specs.Numbers.{numbers_bytes}
 use Rattle.ghost_rows.specs.State.{StoresOnlyAt}
 use Rattle.ghost_rows.proofs.NumberSteps.{length_numbers}
-use Rattle.image_store.proofs.Holding.{group_holds}
+use Rattle.group_replay.proofs.Rows.{value_holds}
 use Rattle.image_store.proofs.Putting.{group_held}
 use Rattle.image_store.proofs.groups.put_group.Goals as goal
 
@@ -22,7 +23,7 @@ put_value-requires-clause-held g c κs within =
     let q = c.requires.new in
     let place : Place = (c.args.view, c.args.group) in
     subst (λ (value : List ℕ). CanHold c.args.view c.args.group value) (sym q.3)
-    (group_holds q.0.objects place q.1 (subst IsLimited q.2.held.objects c.requires.limited) q.2.group q.2.width)
+    (value_holds q.0.objects place (subst IsLimited q.2.held.objects c.requires.limited) q.2.group (numbers_bytes q.1) (length_numbers q.1 ∙ ap (λ (n : ℕ). 16 * n) q.2.width))
 
 pub returns-clause-put : goal.returns-clause-put
 returns-clause-put g c =

@@ -3,7 +3,7 @@ use Rattle.std.proofs.lemmas.Result.{on_ok_weaker}
 use Rattle.table_laws.specs.Place.{Place}
 use Rattle.ghost_rows.specs.Candidates.{Places, IsAmong}
 use Rattle.ghost_rows.proofs.CandidateLemmas.{added_here}
-use Rattle.image_store.proofs.groups.list_ghost.Goals as goal
+use Rattle.group_replay.proofs.adding.list_ghost.Goals as goal
 
 pub returns-clause-candidate : goal.returns-clause-candidate
 returns-clause-candidate c =
