@@ -54,8 +54,16 @@ fn bound_to(
     }
 }
 
-/// What a text defines beside the definitions of a catalog, if it does.
-fn defined(alloc: Global, catalog: &Catalog, text: &[u8]) -> Result<Option<Definition>, NoMemory>
+/// What a text defines beside the definitions of a catalog, if it is a CREATE statement that binds there.
+///
+/// # Errors
+///
+/// Where there is no memory for it.
+pub fn defined(
+    alloc: Global,
+    catalog: &Catalog,
+    text: &[u8],
+) -> Result<Option<Definition>, NoMemory>
     ensures { IfOk result (IsDefined (schema_of catalog.now) text.now) }
 {
     match statement_of(alloc, text) {

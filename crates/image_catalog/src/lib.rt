@@ -8,4 +8,5 @@ mod defining;
 mod read;
 mod texts;
 
+pub use defining::defined;
 pub use read::read_catalog;

@@ -1,0 +1,3 @@
+mod NewViews
+mod Beginning
+mod Replayed
