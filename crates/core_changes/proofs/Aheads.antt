@@ -14,7 +14,7 @@ use Rattle.data_past.specs.Ahead.{Becomes, rows_at, deltas_at}
 use Rattle.data_past.specs.Moves.{pays_of}
 use Rattle.data_past.specs.declared.versions.Versions.{Versions}
 use Rattle.data_past.proofs.Aheads.{rows_many, deltas_many, ahead_reserved}
-use Rattle.core_state.specs.Stands.{Began}
+use Rattle.core_state.specs.Stands.{Began, its_texts}
 use Rattle.core_state.specs.declared.state.CoreState.{CoreState}
 use Rattle.core_state.proofs.Few.{session_few, steps_few}
 use Rattle.txn_machine.proofs.Reached.{reached}
@@ -32,7 +32,7 @@ module _ {M : Type 0} (maps : M → ℕ → Map) (spare : M → ℕ → ℕ) (li
   few_rows j =
       let many = rows_many core.ahead core.store.row_versions.room core.store.delta_versions.room s.store h.holds.ahead j in
       elim (session_or j) [
-        | inl js ↦ (let few = session_few maps spare limit core s.store s.log s.definitions h.holds j js in omega (arith, many, few))
+        | inl js ↦ (let few = session_few maps spare limit core s.store s.log (its_texts s) h.holds j js in omega (arith, many, few))
         | inr n ↦ (let none : length (changes_by s.store j) ≡ 0 = ap (λ ks. length (changes_of ks)) (nobody j n) in omega (arith, many, none))
       ]
 
@@ -41,7 +41,7 @@ module _ {M : Type 0} (maps : M → ℕ → Map) (spare : M → ℕ → ℕ) (li
       let many = deltas_many core.ahead core.store.row_versions.room core.store.delta_versions.room s.store h.holds.ahead j in
       let pays = pays_few (now s.store j).kept in
       elim (session_or j) [
-        | inl js ↦ (let few = steps_few maps spare limit core s.store s.log s.definitions h.holds j js ((reached s h.reached).each j js).settled in omega (arith, many, pays, few))
+        | inl js ↦ (let few = steps_few maps spare limit core s.store s.log (its_texts s) h.holds j js ((reached s h.reached).each j js).settled in omega (arith, many, pays, few))
         | inr n ↦ (let none : length (now s.store j).kept ≡ 0 = ap length (nobody j n) in let owes : length (now s.store j).owed ≡ 0 = ap (λ (o : Option Open). length (the_open o).owed) (nobody_open s h.reached j n) in omega (arith, many, pays, none, owes))
       ]
 
@@ -58,6 +58,7 @@ module _ {M : Type 0} (maps : M → ℕ → Map) (spare : M → ℕ → ℕ) (li
       locks = h.holds.locks;
       begun = h.holds.begun;
       next = h.holds.next;
+      texts = h.holds.texts;
       row_mark = h.holds.row_mark;
       delta_mark = h.holds.delta_mark;
       most = h.holds.most;

@@ -20,10 +20,10 @@ use Rattle.txn_machine.specs.Counts.{told_need}
 use Rattle.txn_machine.specs.Deltas.{RowChange}
 use Rattle.txn_machine.specs.Ghosts.{the_views}
 use Rattle.txn_machine.specs.Keeping.{Open, Put, idle}
-use Rattle.txn_machine.specs.Log.{Log, Logged, Within, logs, keeps, growth, growth_back, perhaps_entries, view_entries, delta_entry, room_kept}
+use Rattle.txn_machine.specs.Log.{Log, Logged, Within, logs, keeps, growth, growth_back, perhaps_entries, view_entries, delta_entry, definition_entries, room_kept}
 use Rattle.txn_machine.specs.RowChanges.{row_change}
 use Rattle.txn_machine.specs.State.{State}
-use Rattle.txn_machine.specs.Steps.{FitsData, data_need, put_owed, used_data}
+use Rattle.txn_machine.specs.Steps.{FitsData, data_need, put_owed, texts_of, used_data}
 use Rattle.txn_machine.specs.Store.{Store, Takes, Writes, change_at, does, now, schema_of, wrote}
 use Rattle.txn_machine.proofs.LogRoom.{logs_logged}
 use Rattle.txn_log.specs.Room.{rows_bytes}
@@ -67,7 +67,7 @@ module _ {M : Type 0} (maps : M → ℕ → Map) (spare : M → ℕ → ℕ) (li
     aside_fits bytes is =
         where_two core.data_room.limit (λ (e : in_all ≡ used_data s) (lt : used_data s + data_need s.store c < 2 ^ 32).
         let least : perhaps_entries (schema_of s.store) c.key c.before ≤ rows_bytes (schema_of s.store) s.store.rows = row_least (schema_of s.store) s.store.rows c.key c.before there in
-        let entries : used (maps core.store.tables) ≡ rows_bytes (schema_of s.store) s.store.rows + view_entries s.store.view = began_entries maps spare limit core s i h in
+        let entries : used (maps core.store.tables) ≡ rows_bytes (schema_of s.store) s.store.rows + view_entries s.store.view + sum (map definition_entries (texts_of s)) = began_entries maps spare limit core s i h in
         let need : data_need s.store c ≡ growth (schema_of s.store) c + sum (map delta_entry (put_owed s.store c)) = refl in
         let owes : sum (map delta_entry deltas) ≡ sum (map delta_entry (put_owed s.store c)) = ap (λ ds. sum (map delta_entry ds)) owed_is in
         let back : growth_back (schema_of s.store) c ≡ perhaps_entries (schema_of s.store) c.key c.before - perhaps_entries (schema_of s.store) c.key c.after = refl in
@@ -82,10 +82,10 @@ module _ {M : Type 0} (maps : M → ℕ → Map) (spare : M → ℕ → ℕ) (li
       abbrev first : Log
       first = logs s.store i a (Takes wants) s.log
 
-      between_reserves : IsReserved core.data_room (schema_of s.store) between.open_of first.logged s.definitions
+      between_reserves : IsReserved core.data_room (schema_of s.store) between.open_of first.logged
       between_reserves =
           reserved_one (schema_of s.store) s.store.open_of s.log.logged first.logged i (Some (record (now s.store i) { locks = wants ++ (now s.store i).locks })) (s.log.logged i) (λ j. ap (λ (f : ℕ → Logged). f j) (logs_logged s.store i a (Takes wants) s.log))
-          core.data_room s.definitions (now_room (schema_of s.store) (s.store.open_of i) (s.log.logged i).ghosted) h.reserves.data_room
+          core.data_room (now_room (schema_of s.store) (s.store.open_of i) (s.log.logged i).ghosted) h.reserves.data_room
 
       none_between : (now between i).owed ≡ []
       none_between = ap (λ (x : Option Open). (unwrap_or x idle).owed) (Rattle.txn_machine.proofs.Basics.one_same s.store.open_of i (Some (record (now s.store i) { locks = wants ++ (now s.store i).locks })) i refl) ∙ none
@@ -98,17 +98,17 @@ module _ {M : Type 0} (maps : M → ℕ → Map) (spare : M → ℕ → ℕ) (li
 
       pub put_reserved : (room was : DataRoom) (bytes : ℕ) → bytes ≡ told_need its_room → was ≡ core.data_room → room.limit ≡ was.limit
           → (share_at was.shares i ≤ was.total → was.total + bytes < 2 ^ 64 → share_at room.shares i ≡ share_at was.shares i + bytes) → ((j : ℕ) → j ≢ i → share_at room.shares j ≡ share_at was.shares j) → (was.total + bytes < 2 ^ 64 → room.total ≡ was.total + bytes)
-          → IsReserved room (schema_of (does the_views between i (Writes place row))) (does the_views between i (Writes place row)).open_of (logs between i a (Writes place row) first).logged s.definitions
+          → IsReserved room (schema_of (does the_views between i (Writes place row))) (does the_views between i (Writes place row)).open_of (logs between i a (Writes place row) first).logged
       put_reserved room was bytes is same same_limit own others total =
-          subst (λ (u : Store). IsReserved room (schema_of u) u.open_of (logs between i a (Writes place row) first).logged s.definitions) (sym does_is)
+          subst (λ (u : Store). IsReserved room (schema_of u) u.open_of (logs between i a (Writes place row) first).logged) (sym does_is)
           (reserved_moved (schema_of s.store) between.open_of first.logged (logs between i a (Writes place row) first).logged i (Some written) (keeps (first.logged i) first.next) (λ j. ap (λ (f : ℕ → Logged). f j) (logs_logged between i a (Writes place row) first))
-          core.data_room room s.definitions session (same_limit ∙ ap (λ (d : DataRoom). d.limit) same) between_reserves
+          core.data_room room session (same_limit ∙ ap (λ (d : DataRoom). d.limit) same) between_reserves
           (aside_moves core.data_room was room i bytes (room_kept (schema_of s.store) (Some written) false) same
-          (where_two core.data_room.limit (λ (r : AreReserved core.data_room (schema_of s.store) between.open_of first.logged s.definitions) (f : (bytes ≡ its_room) × (core.data_room.total + bytes < 2 ^ 64)).
+          (where_two core.data_room.limit (λ (r : AreReserved core.data_room (schema_of s.store) between.open_of first.logged) (f : (bytes ≡ its_room) × (core.data_room.total + bytes < 2 ^ 64)).
           let mine : share_at core.data_room.shares i ≡ kept_for (schema_of s.store) between.open_of first.logged i = r.each i session in
           let held : room_kept (schema_of s.store) (Some (now between i)) (first.logged i).ghosted ≡ kept_for (schema_of s.store) between.open_of first.logged i = now_room (schema_of s.store) (between.open_of i) (first.logged i).ghosted in
           let writes : room_kept (schema_of s.store) (Some written) false ≡ room_kept (schema_of s.store) (Some (now between i)) (first.logged i).ghosted + its_room = written_room (schema_of s.store) (now between i) (first.logged i).ghosted c deltas none_between in
           let exact : bytes ≡ its_room = f.0 in
           let all : share_at core.data_room.shares i + bytes ≡ room_kept (schema_of s.store) (Some written) false = omega (arith, mine, held, writes, exact) in
-          (all, share_least core.data_room (schema_of s.store) between.open_of first.logged s.definitions i session r, f.1)) between_reserves (aside_fits bytes is))
+          (all, share_least core.data_room (schema_of s.store) between.open_of first.logged i session r, f.1)) between_reserves (aside_fits bytes is))
           own others total))

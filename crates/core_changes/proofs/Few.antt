@@ -33,7 +33,7 @@ use Rattle.txn_book.specs.Opens.{open_at}
 use Rattle.txn_book.specs.Txns.{txn_of, changes_in}
 use Rattle.txn_book.specs.declared.open_table.Open.{Open}
 use Rattle.txn_book.proofs.Booking.{has_place}
-use Rattle.core_state.specs.Stands.{Holds}
+use Rattle.core_state.specs.Stands.{Holds, Texts}
 use Rattle.core_state.specs.declared.state.CoreState.{CoreState}
 use Rattle.core_state.proofs.Few.{changes_few}
 use Rattle.core_state.proofs.Sessions.{as_many}
@@ -46,7 +46,7 @@ all_few [] each = omega arith
 all_few (None ∷ opens) each = omega (arith, all_few opens (λ j o e. each (suc j) o e), sum_by-cons puts_of None opens)
 all_few (Some o ∷ opens) each = omega (arith, all_few opens (λ j p e. each (suc j) p e), each 0 o refl, sum_by-cons puts_of (Some o) opens)
 
-module _ {M : Type 0} (maps : M → ℕ → Map) (spare : M → ℕ → ℕ) (limit : M → Option ℕ) (core : CoreState M) (s : Store) (l : Log) (texts : List (List ℕ)) (h : Holds maps spare limit core s l texts) (good : IsBook core.book) where
+module _ {M : Type 0} (maps : M → ℕ → Map) (spare : M → ℕ → ℕ) (limit : M → Option ℕ) (core : CoreState M) (s : Store) (l : Log) (texts : Texts) (h : Holds maps spare limit core s l texts) (good : IsBook core.book) where
   one_few : (j : ℕ) (o : Open) (m : Option machine.Open) → IsSession j → open_at core.book.opens j ≡ Some o → IsSame (schema_of s) (Some o) m (l.logged j) → puts_of (Some o) ≤ 524288
   one_few j o None js there same = absurd same
   one_few j o (Some u) js there same =

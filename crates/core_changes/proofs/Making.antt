@@ -25,7 +25,7 @@ use Rattle.txn_book.specs.Opens.{open_at}
 use Rattle.txn_book.specs.Txns.{txn_of}
 use Rattle.txn_book.specs.declared.open_table.Open.{Open as BookOpen}
 use Rattle.core_state.specs.Rooms.{IsCovered, paid}
-use Rattle.core_state.specs.Stands.{Began, Holds, Reserves}
+use Rattle.core_state.specs.Stands.{Began, Holds, Reserves, its_texts}
 use Rattle.core_state.specs.declared.state.CoreState.{CoreState}
 use Rattle.core_changes.specs.Room.{HasRoom}
 use Rattle.core_state.proofs.Few.{kept_few}
@@ -51,16 +51,16 @@ views_rest {M} core new rest = rest ∙ (λ x. record core { store = ap (λ (y :
 
 module _ {M : Type 0} (maps : M → ℕ → Map) (spare : M → ℕ → ℕ) (limit : M → Option ℕ) (core : CoreState M) (s : State) (i : ℕ) (h : Began maps spare limit core s i) where
   -- a core that holds the same, and has changed in its store and its book at most
-  pub began_on : (new : CoreState M) → new ≡ record core { store = new.store; book = new.book } → Holds maps spare limit new s.store s.log s.definitions → Began maps spare limit new s i
+  pub began_on : (new : CoreState M) → new ≡ record core { store = new.store; book = new.book } → Holds maps spare limit new s.store s.log (its_texts s) → Began maps spare limit new s i
   began_on new rest holds =
       let u = still_underway maps spare limit core new s i (begun_underway maps spare limit core s i h)
       (record { steps = ap (λ (x : CoreState M). x.steps) rest; seats = ap (λ (x : CoreState M). x.seats) rest; cleaner = ap (λ (x : CoreState M). x.cleaner) rest; stop = ap (λ (x : CoreState M). x.stop) rest; limit = ap (λ (x : CoreState M). x.data_room.limit) rest; log_limit = ap (λ (x : CoreState M). x.log_room.limit) rest })
       (λ js. ap (λ (x : CoreState M). table.waiting_of x.locks i) rest ∙ h.own js) (λ j n. ap (λ (x : CoreState M). table.waiting_of x.locks j) rest) in
-      record { reached = u.reached; opening = u.opening; runs = u.runs; holds = holds; reserves = subst (λ (x : CoreState M). Reserves maps spare limit x s.store s.log s.definitions) (sym rest) h.reserves; own = u.own; waiting = u.waiting; counts = u.counts }
+      record { reached = u.reached; opening = u.opening; runs = u.runs; holds = holds; reserves = subst (λ (x : CoreState M). Reserves maps spare limit x s.store s.log) (sym rest) h.reserves; own = u.own; waiting = u.waiting; counts = u.counts }
 
   module _ (o : IsOpen s.store i) where
     abbrev pub mine : Has (schema_of s.store) (open_at core.book.opens i) (now s.store i) (s.log.logged i)
-    mine = own maps spare limit core s.store s.log s.definitions i h.holds o
+    mine = own maps spare limit core s.store s.log (its_texts s) i h.holds o
 
     pub some_open : IsSome (open_at core.book.opens i)
     some_open = subst IsSome (sym mine.there) refl

@@ -37,7 +37,7 @@ use Rattle.txn_book.specs.declared.open_table.Open.{Open as BookOpen}
 use Rattle.txn_book.proofs.Booking.{has_place}
 use Rattle.data_store.specs.Reading.{CanChange}
 use Rattle.core_state.specs.Rooms.{CanBeTakenBack, all_gone, gone_if}
-use Rattle.core_state.specs.Stands.{Holds}
+use Rattle.core_state.specs.Stands.{Holds, Texts, its_texts}
 use Rattle.core_state.specs.declared.state.CoreState.{CoreState}
 use Rattle.core_state.proofs.Sessions.{of_ready}
 use Rattle.core_state.proofs.Few.{many_deltas}
@@ -110,7 +110,7 @@ module _ {M : Type 0} (maps : M → ℕ → Map) (spare : M → ℕ → ℕ) (li
   deltas_are d has = all_contains (IsDelta (schema_of s.store)) (put_owed s.store c) d (owed_are (schema_of s.store) s.store.rows c right.sound right.after) has
 
   pub few_locks : length wants ≤ 258
-  few_locks = subst (λ ws. length ws ≤ 258) (sym p.wants_are) (few_wants (schema_of s.store) (limited_here maps spare limit core s.store s.log s.definitions p.began.holds) (numbered (schema_of s.store) change.table) (change_at s.store (change.table, change.key) change.after))
+  few_locks = subst (λ ws. length ws ≤ 258) (sym p.wants_are) (few_wants (schema_of s.store) (limited_here maps spare limit core s.store s.log (its_texts s) p.began.holds) (numbered (schema_of s.store) change.table) (change_at s.store (change.table, change.key) change.after))
 
   module _ (deltas : List GroupDelta) (owed_is : deltas ≡ put_owed s.store c) where
     pub are_deltas : AreDeltas s.store deltas
@@ -121,7 +121,7 @@ module _ {M : Type 0} (maps : M → ℕ → Map) (spare : M → ℕ → ℕ) (li
 
 -- ---- what goes back in
 
-module _ {M : Type 0} (maps : M → ℕ → Map) (spare : M → ℕ → ℕ) (limit : M → Option ℕ) (core : CoreState M) (s : Store) (l : _) (texts : List (List ℕ)) (h : Holds maps spare limit core s l texts) (good : IsBook core.book) (are : AreNumbered core.store.catalog) where
+module _ {M : Type 0} (maps : M → ℕ → Map) (spare : M → ℕ → ℕ) (limit : M → Option ℕ) (core : CoreState M) (s : Store) (l : _) (texts : Texts) (h : Holds maps spare limit core s l texts) (good : IsBook core.book) (are : AreNumbered core.store.catalog) where
   each_back : (j : ℕ) (t : BookOpen) → open_at core.book.opens j ≡ Some t → CanBeTakenBack core.store.catalog (txn_of t).kept
   each_back zero t there = let bad : None ≡ Some t = sym h.book.nobody ∙ there in absurd cc
   each_back (suc k) t there = let lt = has_place core.book.opens (suc k) t there in (h.rooms.each (suc k) (omega arith, omega (arith, lt, good.places)) t there).kept

@@ -25,12 +25,13 @@ use Rattle.data_changes.specs.Paying.{HasFor}
 use Rattle.data_store.specs.Contents.{contents_of}
 use Rattle.data_store.specs.Held.{IsHeld}
 use Rattle.core_state.specs.Rooms.{gone_if}
-use Rattle.core_state.specs.Stands.{Holds}
+use Rattle.core_state.specs.Stands.{Holds, Texts, all_texts}
+use Rattle.core_state.proofs.Texts.{same_texts}
 use Rattle.core_state.specs.declared.state.CoreState.{CoreState}
 use Rattle.core_state.proofs.Rooms.{rooms_changed, elsewhere_same, covered_by}
 use Rattle.core_effects.proofs.Opened.{Has, own}
 
-module _ {M : Type 0} (maps : M → ℕ → Map) (spare : M → ℕ → ℕ) (limit : M → Option ℕ) (core : CoreState M) (s : Store) (l : Log) (texts : List (List ℕ)) (h : Holds maps spare limit core s l texts) where
+module _ {M : Type 0} (maps : M → ℕ → Map) (spare : M → ℕ → ℕ) (limit : M → Option ℕ) (core : CoreState M) (s : Store) (l : Log) (texts : Texts) (h : Holds maps spare limit core s l texts) where
   -- in indexes
   pub entries_holds : (tables : M) → ((n : ℕ) → maps tables n ≡ maps core.store.tables n) → ((n : ℕ) → spare core.store.tables n ≤ spare tables n) → limit tables ≡ limit core.store.tables
       → Holds maps spare limit (record core { store = record core.store { tables = tables } }) s l texts
@@ -40,6 +41,7 @@ module _ {M : Type 0} (maps : M → ℕ → Map) (spare : M → ℕ → ℕ) (li
     locks = h.locks;
     begun = h.begun;
     next = h.next;
+    texts = same_texts (maps core.store.tables 0) (maps tables 0) core.store.catalog (all_texts texts) h.texts (same 0);
     row_mark = h.row_mark;
     delta_mark = h.delta_mark;
     most = same_limit ∙ h.most;
@@ -61,6 +63,7 @@ module _ {M : Type 0} (maps : M → ℕ → Map) (spare : M → ℕ → ℕ) (li
     locks = h.locks;
     begun = h.begun;
     next = h.next;
+    texts = h.texts;
     row_mark = h.row_mark;
     delta_mark = h.delta_mark;
     most = h.most;
@@ -89,11 +92,12 @@ module _ {M : Type 0} (maps : M → ℕ → Map) (spare : M → ℕ → ℕ) (li
         let changes : Changes core.book after i (txn_of mine.txn) = same mine.txn mine.there in
         record {
           stored = h.stored;
-          book = changed_holds core.book (schema_of s) s.open_of l.logged s.history (committed s).number (definition_sizes texts) h.book good i o.of_session after s.open_of l.logged
+          book = changed_holds core.book (schema_of s) s.open_of l.logged s.history (committed s).number (definition_sizes texts.since) h.book good i o.of_session after s.open_of l.logged
               (λ j n. (refl, refl)) (txn_of mine.txn) (now s i) changes (o.is_open ∙ ap Some (sym (ap (λ x. unwrap_or x idle) o.is_open))) mine.is;
           locks = h.locks;
           begun = h.begun;
           next = h.next;
+          texts = h.texts;
           row_mark = h.row_mark;
           delta_mark = h.delta_mark;
           most = h.most;

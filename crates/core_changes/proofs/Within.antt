@@ -36,7 +36,7 @@ use Rattle.txn_book.specs.Books.{IsBook, IsOpenAnd, open_changes, total_bytes}
 use Rattle.txn_book.specs.Opens.{open_at}
 use Rattle.txn_book.specs.Txns.{txn_of}
 use Rattle.core_state.specs.Rooms.{all_gone}
-use Rattle.core_state.specs.Stands.{Began, Holds}
+use Rattle.core_state.specs.Stands.{Began, Holds, its_texts}
 use Rattle.core_state.specs.declared.state.CoreState.{CoreState}
 use Rattle.core_effects.proofs.Entries.{each_held}
 use Rattle.core_effects.proofs.Gone.{its_number}
@@ -204,7 +204,7 @@ module _ {M : Type 0} (maps : M → ℕ → Map) (spare : M → ℕ → ℕ) (li
           },
         );
         undo = λ index. subst (λ es. all_gone index core.book.opens + how_many index es ≤ spare core.store.tables index) (sym is_kept.made)
-            (undo_room maps spare limit core s.store s.log s.definitions h.holds good are its_table its_own places change index);
+            (undo_room maps spare limit core s.store s.log (its_texts s) h.holds good are its_table its_own places change index);
         owes = record {
           locks = let had = room.locks in let many : length w.owed.items ≡ length deltas = ap length owed_are_it in omega (arith, had, many, left);
           buffers = subst (λ ds. IsOpenAnd core.book i (λ o. 2 * length ds + length (paid (reverse o.kept.items)) ≤ room_of core.store.views i)) (sym owed_are_it) room.owes.buffers;
@@ -265,7 +265,7 @@ module _ {M : Type 0} (maps : M → ℕ → Map) (spare : M → ℕ → ℕ) (li
 
   module _ (new : CoreState M) (room : DataRoom) (logged : LogRoom) (bytes_kept : ℕ) (kept_are : bytes_kept ≡ told_need (growth_back (schema_of s.store) c + sum (map delta_entry deltas))) where
     -- with what is kept for its transaction
-    pub put_told : Holds maps spare limit new left_store left_log s.definitions
+    pub put_told : Holds maps spare limit new left_store left_log (its_texts s)
         → new.data_room ≡ core.data_room → room.limit ≡ new.data_room.limit
         → (share_at new.data_room.shares i ≤ new.data_room.total → new.data_room.total + bytes_kept < 2 ^ 64 → share_at room.shares i ≡ share_at new.data_room.shares i + bytes_kept) → ((j : ℕ) → j ≢ i → share_at room.shares j ≡ share_at new.data_room.shares j) → (new.data_room.total + bytes_kept < 2 ^ 64 → room.total ≡ new.data_room.total + bytes_kept)
         → IsRoomOf logged left_store left_log
@@ -283,7 +283,7 @@ module _ {M : Type 0} (maps : M → ℕ → Map) (spare : M → ℕ → ℕ) (li
           owed_is = can.owed_is ∙ ap (put_owed s.store) can.puts.is;
           effects = ap (λ ws. Takes ws ∷ Writes (change.table, change.key) change.after ∷ []) can.puts.wants_are;
         })
-        (log_holds maps spare limit (record new { data_room = room }) logged left_store left_log s.definitions (data_holds maps spare limit new room left_store left_log s.definitions same_limit holds))
+        (log_holds maps spare limit (record new { data_room = room }) logged left_store left_log (its_texts s) (data_holds maps spare limit new room left_store left_log (its_texts s) same_limit holds))
         (record {
           data_room = put_reserved maps spare limit core s i h c deltas (sym (ap (λ (x : RowChange). x.before) can.puts.is)) can.owed_is can.data_small its_open.of_session wants its_act owes_none (change.table, change.key) change.after can.puts.is
               room new.data_room bytes_kept kept_are same_data same_limit mine rest total;

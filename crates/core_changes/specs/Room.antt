@@ -13,13 +13,13 @@ use Rattle.txn_book.specs.Txns.{HasRoomFor}
 use Rattle.txn_machine.specs.KeptLaws.{IsDelta}
 use Rattle.txn_machine.specs.Log.{Log}
 use Rattle.txn_machine.specs.Store.{Store, schema_of}
-use Rattle.core_state.specs.Stands.{Holds}
+use Rattle.core_state.specs.Stands.{Holds, Texts}
 use Rattle.core_state.specs.declared.state.CoreState.{CoreState}
 use Rattle.core_effects.specs.Writing.{CanOwe}
 
 -- what a core holds it holds still
 abbrev pub Keeps : {M : Type 0} → (M → ℕ → Map) → (M → ℕ → ℕ) → (M → Rattle.std.specs.Prelude.Option ℕ) → CoreState M → CoreState M → Type 0
-Keeps maps spare limit old new = (s : Store) (l : Log) (texts : List (List ℕ)) → Holds maps spare limit old s l texts → Holds maps spare limit new s l texts
+Keeps maps spare limit old new = (s : Store) (l : Log) (texts : Texts) → Holds maps spare limit old s l texts → Holds maps spare limit new s l texts
 
 -- these are deltas of the views that a core's catalog defines
 abbrev pub AreDeltas : Store → List GroupDelta → Type 0

@@ -17,7 +17,7 @@ ghost use Rattle.txn_book.specs.Acts.{answer_of};
 ghost use Rattle.txn_book.specs.Books.{IsOpenAnd, OfOpen, total_bytes};
 ghost use Rattle.log_room.specs.Rooms.{IsRoomOf};
 ghost use Rattle.core_state.specs.declared.limits.TheConstants.{MOST_OF_TRANSACTION, MOST_OF_HISTORY};
-ghost use Rattle.core_state.specs.Stands.{Began, Holds, Told};
+ghost use Rattle.core_state.specs.Stands.{Began, Holds, Told, Texts};
 ghost use Rattle.view_delta.specs.Owing.{RowsFit};
 ghost use Rattle.core_changes.specs.Putting.{IsFreePut, CanPut, LogFits, DataFits, IsFull};
 
@@ -45,9 +45,9 @@ fn change_of<M: SortedMaps>(
     key: &Bytes,
     new: &Option<Row>,
 ) -> Result<Change, NoMemory>
-    requires { (s : Store) × (l : Log) × (texts : List (List ℕ)) × Holds M.maps M.spare M.limit core.now s l texts × IsTable (schema_of s) table }
+    requires { (s : Store) × (l : Log) × (texts : Texts) × Holds M.maps M.spare M.limit core.now s l texts × IsTable (schema_of s) table }
     ensures place { IfOk result (λ change. (change.table ≡ table) × (change.key ≡ key.now) × (change.after ≡ new.now)) }
-    ensures before { IfOk result (λ change. (s : Store) (l : Log) (texts : List (List ℕ)) → Holds M.maps M.spare M.limit core.now s l texts → get s.rows (table, key.now) ≡ change.before) }
+    ensures before { IfOk result (λ change. (s : Store) (l : Log) (texts : Texts) → Holds M.maps M.spare M.limit core.now s l texts → get s.rows (table, key.now) ≡ change.before) }
 {
     let before = core.store.row(table, key.as_slice())?;
     let after = copied_perhaps(core.alloc, new.as_ref())?;

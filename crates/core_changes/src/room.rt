@@ -15,7 +15,7 @@ ghost use Rattle.txn_machine.specs.Log.{Log};
 ghost use Rattle.txn_machine.specs.May.{IsOpen};
 ghost use Rattle.txn_machine.specs.State.{State};
 ghost use Rattle.txn_machine.specs.Store.{Store, schema_of};
-ghost use Rattle.core_state.specs.Stands.{Began, Holds};
+ghost use Rattle.core_state.specs.Stands.{Began, Holds, Texts};
 ghost use Rattle.core_changes.specs.Room.{Keeps, AreDeltas, HasRoom};
 
 use core_effects::reserve_locks;
@@ -26,7 +26,7 @@ use iv_types::{GroupDelta, NoMemory, SortedMaps};
 // Room for one more entry in each index of a table, beside all those that go back in where open transactions are taken back.
 fn reserve_entries<M: SortedMaps>(core: &mut CoreState<M>, table: u32) -> Result<(), NoMemory>
     requires table { IsTableAnd core.old.store.catalog table (λ t. ⊤) }
-    requires held { (s : Store) × (l : Log) × (texts : List (List ℕ)) × Holds M.maps M.spare M.limit core.old s l texts }
+    requires held { (s : Store) × (l : Log) × (texts : Texts) × Holds M.maps M.spare M.limit core.old s l texts }
     ensures room { OnOk result (OfTable core.new.store.catalog table (HasPlaces core.new.store.catalog (open_changes core.new.book.opens + 1) (M.spare core.new.store.tables))) }
     ensures holds { Keeps M.maps M.spare M.limit core.old core.new }
     ensures rest { core.new ≡ record core.old { store = record core.old.store { tables = core.new.store.tables } } }
@@ -43,9 +43,9 @@ fn reserve_step<M: SortedMaps>(
     deltas: usize,
 ) -> Result<(), NoMemory>
     requires few { deltas < 2 ^ 32 }
-    requires held { (s : Store) × (l : Log) × (texts : List (List ℕ)) × Holds M.maps M.spare M.limit core.old s l texts × IsOpen s session }
+    requires held { (s : Store) × (l : Log) × (texts : Texts) × Holds M.maps M.spare M.limit core.old s l texts × IsOpen s session }
     ensures room { OnOk result (OfOpen core.new.book session (HasRoomFor deltas)) }
-    ensures holds { (s : Store) (l : Log) (texts : List (List ℕ)) → IsOpen s session → Holds M.maps M.spare M.limit core.old s l texts → Holds M.maps M.spare M.limit core.new s l texts }
+    ensures holds { (s : Store) (l : Log) (texts : Texts) → IsOpen s session → Holds M.maps M.spare M.limit core.old s l texts → Holds M.maps M.spare M.limit core.new s l texts }
     ensures rest { core.new ≡ record core.old { book = core.new.book } }
 {
     core.book.book_law();
@@ -60,12 +60,12 @@ fn reserve_one<M: SortedMaps>(
     room: usize,
 ) -> Result<(), NoMemory>
     requires session { IsSession session }
-    requires held { (s : Store) × (l : Log) × (texts : List (List ℕ)) × Holds M.maps M.spare M.limit core.old s l texts × IsDelta (schema_of s) delta.now }
+    requires held { (s : Store) × (l : Log) × (texts : Texts) × Holds M.maps M.spare M.limit core.old s l texts × IsDelta (schema_of s) delta.now }
     ensures seat { OnOk result (HasSeat core.new.store.views (place_of delta.now) session) }
     ensures room { OnOk result (room ≤ room_of core.new.store.views session) }
     ensures rooms { (s : ℕ) → room_of core.old.store.views s ≤ room_of core.new.store.views s }
     ensures seats { (s : ℕ) (place : Place) → HasSeat core.old.store.views place s → HasSeat core.new.store.views place s }
-    ensures holds { (s : Store) (l : Log) (texts : List (List ℕ)) → IsDelta (schema_of s) delta.now → Holds M.maps M.spare M.limit core.old s l texts → Holds M.maps M.spare M.limit core.new s l texts }
+    ensures holds { (s : Store) (l : Log) (texts : Texts) → IsDelta (schema_of s) delta.now → Holds M.maps M.spare M.limit core.old s l texts → Holds M.maps M.spare M.limit core.new s l texts }
     ensures rest { core.new ≡ record core.old { store = record core.old.store { views = core.new.store.views } } }
 {
     reserve_pay(&mut core.store, session, delta, room)
@@ -79,11 +79,11 @@ fn reserve_pays<M: SortedMaps>(
     room: usize,
 ) -> Result<(), NoMemory>
     requires session { IsSession session }
-    requires held { (s : Store) × (l : Log) × (texts : List (List ℕ)) × Holds M.maps M.spare M.limit core.old s l texts × AreDeltas s owed.now }
+    requires held { (s : Store) × (l : Log) × (texts : Texts) × Holds M.maps M.spare M.limit core.old s l texts × AreDeltas s owed.now }
     ensures seats { OnOk result ((d : Delta) → Contains owed.now d → HasSeat core.new.store.views (place_of d) session) }
     ensures room { OnOk result (owed.now ≢ [] → room ≤ room_of core.new.store.views session) }
     ensures rooms { (s : ℕ) → room_of core.old.store.views s ≤ room_of core.new.store.views s }
-    ensures holds { (s : Store) (l : Log) (texts : List (List ℕ)) → AreDeltas s owed.now → Holds M.maps M.spare M.limit core.old s l texts → Holds M.maps M.spare M.limit core.new s l texts }
+    ensures holds { (s : Store) (l : Log) (texts : Texts) → AreDeltas s owed.now → Holds M.maps M.spare M.limit core.old s l texts → Holds M.maps M.spare M.limit core.new s l texts }
     ensures rest { core.new ≡ record core.old { store = record core.old.store { views = core.new.store.views } } }
 {
     for delta in owed {

@@ -33,7 +33,7 @@ use Rattle.record_lending.specs.Steps.{HasItsEntries, record_of}
 use Rattle.core_state.specs.Rooms.{CanBeTakenBack}
 use Rattle.core_state.specs.Stands.{Began}
 use Rattle.core_state.specs.declared.state.CoreState.{CoreState}
-use Rattle.core_checkpoints.specs.Carrying.{steps_of, id_of, steps_at, steps_bytes, all_bytes, CanCarry, CanCarryAll}
+use Rattle.core_recording.specs.Carrying.{steps_of, id_of, steps_at, steps_bytes, all_bytes, CanCarry, CanCarryAll}
 use Rattle.core_checkpoints.proofs.KeptKnown.{kept_known}
 
 -- ---- lists in the other order

@@ -10,7 +10,7 @@ use Rattle.log_records.specs.Spelling.{spelling}
 use Rattle.log_disk.specs.Spelled.{in_bytes}
 use Rattle.log_disk.proofs.Counting.{record_long}
 use Rattle.record_lending.specs.Steps.{number_of, record_of}
-use Rattle.core_checkpoints.specs.Carrying.{entry_of}
+use Rattle.core_recording.specs.Carrying.{entry_of}
 
 module _ (objects : Schema) (id transaction number : ℕ) (k found : KeptStep) (lent : bytes.Record) (same : found ≡ k) (id_is : transaction ≡ id) (number_is : number ≡ number_of found) (lent_is : lent ≡ in_bytes objects (record_of transaction found)) where
   pub is : lent ≡ in_bytes objects (record_of id k)

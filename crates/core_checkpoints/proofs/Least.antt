@@ -8,8 +8,8 @@ use Rattle.std.proofs.lemmas.Bool.Decides.{leb_tells}
 use Rattle.iv_types.specs.declared.lock.KeptStep.{KeptStep}
 use Rattle.txn_book.specs.declared.open_table.Open.{Open}
 use Rattle.record_lending.specs.Steps.{number_of}
-use Rattle.core_checkpoints.specs.Carrying.{steps_at}
-use Rattle.core_checkpoints.specs.Earliest.{with_step, LeastUpTo}
+use Rattle.core_recording.specs.Carrying.{steps_at}
+use Rattle.core_recording.specs.Earliest.{with_step, LeastUpTo}
 
 told_le : (a b : ℕ) → nat_le a b ≡ true → a ≤ b
 told_le a b e = elim (leb_tells a b) [ inl t ↦ t.1 | inr f ↦ absurd (let bad : true ≡ false = sym e ∙ f.0 in cc) ]

@@ -19,7 +19,7 @@ use Rattle.txn_machine.proofs.LogSums.{sum_first, sum_none, sum_one, sum_same}
 use Rattle.txn_log.proofs.Defining.{sum_append}
 use Rattle.txn_book.specs.declared.open_table.Open.{Open}
 use Rattle.record_lending.specs.Steps.{record_of}
-use Rattle.core_checkpoints.specs.Carrying.{steps_at, steps_bytes, all_bytes, done_at}
+use Rattle.core_recording.specs.Carrying.{steps_at, steps_bytes, all_bytes, done_at}
 
 -- ---- sums
 

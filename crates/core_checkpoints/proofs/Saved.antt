@@ -1,26 +1,48 @@
 -- What is told of a Checkpoint.
-use Rattle.std.specs.Prelude.{◌≡◌, ℕ, ◌+◌, [], Option, refl}
-use mathlib.Core.Path.{sym, subst, ◌∙◌}
+use Rattle.std.specs.Prelude.{◌≡◌, ℕ, ◌+◌, List, [], Option, refl}
+use mathlib.Core.Path.{sym, ap, subst, ◌∙◌}
 use Rattle.std.proofs.Common.{arith}
 use Rattle.iv_types.specs.Maps.{Map}
+use Rattle.iv_meaning.specs.Objects as defined
+use Rattle.iv_meaning.specs.Schema.{Schema}
 use Rattle.txn_machine.specs.Acts as act
 use Rattle.txn_machine.specs.Answers as answer
 use Rattle.txn_machine.specs.Log.{Within, block_bytes, carried}
 use Rattle.txn_machine.specs.State.{State}
+use Rattle.txn_machine.specs.Store.{committed}
+use Rattle.txn_machine.specs.Steps.{texts_of}
 use Rattle.txn_machine.proofs.LogRoom.{within_less}
 use Rattle.txn_book.specs.Books.{number_of}
 use Rattle.log_room.specs.Rooms.{IsRoomOf}
 use Rattle.log_room.specs.declared.room.LogRoom.{LogRoom}
 use Rattle.data_store.specs.Contents.{contents_of}
 use Rattle.data_store.specs.Held.{IsHeld}
+use Rattle.log_records.specs.Area.{Entry}
 use Rattle.core_state.specs.Rooms.{HasRooms}
 use Rattle.core_state.specs.Stands.{Began, Told}
 use Rattle.core_state.specs.declared.state.CoreState.{CoreState}
 use Rattle.core_state.proofs.Logged.{carries_less}
+use Rattle.core_state.proofs.Texts.{same_texts}
 use Rattle.core_effects.proofs.Done.{done_told}
+use Rattle.core_recording.specs.Carried.{CarriesAll}
+use Rattle.core_recording.specs.Giving.{IsSaved}
 use Rattle.core_recording.proofs.Used.{used_within}
 
 module _ {M : Type 0} (maps : M → ℕ → Map) (spare : M → ℕ → ℕ) (limit : M → Option ℕ) (core : CoreState M) (s : State) (h : Began maps spare limit core s 0) where
+  -- what is saved is that of the machine's state
+  pub is_saved : (entries : ℕ → Map) → entries ≡ maps core.store.tables → (number : ℕ) → number ≡ (committed s.store).number → (es : List Entry) → CarriesAll (defined.schema_of core.store.catalog) core.book.opens es
+      → IsSaved s (record { maps = entries; definitions = core.store.catalog; commits = number; next = core.next; carried = es })
+  is_saved entries same number number_is es all = record {
+    rows = core.store.views;
+    held = subst (λ (m : ℕ → Map). IsHeld core.store.catalog m core.store.views (contents_of s.store)) (sym same) h.holds.stored;
+    texts = same_texts (maps core.store.tables 0) (entries 0) core.store.catalog (texts_of s) h.holds.texts (ap (λ (m : ℕ → Map). m 0) same);
+    number = number_is;
+    next_number = h.holds.next;
+    opens = core.book.opens;
+    same = h.holds.book.txns;
+    records = subst (λ (os : Schema). CarriesAll os core.book.opens es) h.holds.stored.objects all;
+  }
+
   -- ---- a journal with the log's limit has room
 
   pub within_empty : (most : Option ℕ) → most ≡ core.log_room.limit → Within most (block_bytes + 1)
@@ -47,6 +69,7 @@ module _ {M : Type 0} (maps : M → ℕ → Map) (spare : M → ℕ → ℕ) (li
       locks = h.holds.locks;
       begun = h.holds.begun;
       next = h.holds.next;
+      texts = same_texts (maps core.store.tables 0) (maps tables 0) core.store.catalog (texts_of s) h.holds.texts (ap (λ (m : ℕ → Map). m 0) same_maps);
       row_mark = h.holds.row_mark;
       delta_mark = h.holds.delta_mark;
       past = h.holds.past;
@@ -72,6 +95,7 @@ module _ {M : Type 0} (maps : M → ℕ → Map) (spare : M → ℕ → ℕ) (li
         locks = h.holds.locks;
         begun = h.holds.begun;
         next = h.holds.next;
+        texts = h.holds.texts;
         row_mark = h.holds.row_mark;
         delta_mark = h.holds.delta_mark;
         most = h.holds.most;

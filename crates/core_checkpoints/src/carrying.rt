@@ -11,8 +11,8 @@ ghost use Rattle.txn_book.specs.Opens.{open_at};
 ghost use Rattle.log_records.specs.Area.{Entry};
 ghost use Rattle.record_lending.specs.Steps.{HasItsEntries, record_of};
 ghost use Rattle.core_journal.specs.Records.{Records};
-ghost use Rattle.core_checkpoints.specs.Carried.{CarriesAll};
-ghost use Rattle.core_checkpoints.specs.Carrying.{steps_at, id_of, CanCarry, CanCarryAll, entry_of, all_bytes};
+ghost use Rattle.core_recording.specs.Carried.{CarriesAll};
+ghost use Rattle.core_recording.specs.Carrying.{steps_at, id_of, CanCarry, CanCarryAll, entry_of, all_bytes};
 
 use crate::earliest::{earliest, step_behind};
 use core_journal::Journal;
@@ -22,11 +22,11 @@ use txn_book::Book;
 
 // Carries the step behind so many of a session's transaction, and tells what its record takes.
 fn carry_next<J: Journal>(book: &Book, journal: &mut J, session: u32, done: usize) -> u64
-    requires { (definitions : Definitions) × (rs : Records) × (es : List Entry) × (used : ℕ) × (k : Kept) × (slice_get (steps_at book.now.opens session) done ≡ Some k)
-        × CanCarry definitions (id_of (open_at book.now.opens session)) k × IsLimited (schema_of definitions) × J.carries journal.old rs es used
+    requires { (definitions : Definitions) × (rs : Records) × (next : ℕ) × (es : List Entry) × (used : ℕ) × (k : Kept) × (slice_get (steps_at book.now.opens session) done ≡ Some k)
+        × CanCarry definitions (id_of (open_at book.now.opens session)) k × IsLimited (schema_of definitions) × J.carries journal.old rs next es used
         × Within (J.limit journal.old) (used + record_bytes (schema_of definitions) (record_of (id_of (open_at book.now.opens session)) k)) }
-    ensures carries { (definitions : Definitions) (rs : Records) (es : List Entry) (used : ℕ) (k : Kept) → slice_get (steps_at book.now.opens session) done ≡ Some k → HasItsEntries definitions k → J.carries journal.old rs es used
-        → J.carries journal.new rs (entry_of (schema_of definitions) (id_of (open_at book.now.opens session)) k ∷ es) (used + record_bytes (schema_of definitions) (record_of (id_of (open_at book.now.opens session)) k)) }
+    ensures carries { (definitions : Definitions) (rs : Records) (next : ℕ) (es : List Entry) (used : ℕ) (k : Kept) → slice_get (steps_at book.now.opens session) done ≡ Some k → HasItsEntries definitions k → J.carries journal.old rs next es used
+        → J.carries journal.new rs next (entry_of (schema_of definitions) (id_of (open_at book.now.opens session)) k ∷ es) (used + record_bytes (schema_of definitions) (record_of (id_of (open_at book.now.opens session)) k)) }
     ensures bytes { (definitions : Definitions) (k : Kept) → slice_get (steps_at book.now.opens session) done ≡ Some k → HasItsEntries definitions k
         → result ≡ told_need (record_bytes (schema_of definitions) (record_of (id_of (open_at book.now.opens session)) k)) }
     ensures limit { J.limit journal.new ≡ J.limit journal.old }
@@ -47,10 +47,10 @@ fn carry_next<J: Journal>(book: &Book, journal: &mut J, session: u32, done: usiz
 /// Carries the records of all steps that open transactions keep, in the order of their numbers, and tells what they take. A sum past
 /// the end of a `u64` counts as that end. It takes no memory.
 pub(crate) fn carry_kept<J: Journal>(book: &Book, journal: &mut J) -> u64
-    requires { (definitions : Definitions) × (rs : Records) × (used : ℕ) × CanCarryAll definitions book.now.opens × IsLimited (schema_of definitions) × J.carries journal.old rs [] used
+    requires { (definitions : Definitions) × (rs : Records) × (next : ℕ) × (used : ℕ) × CanCarryAll definitions book.now.opens × IsLimited (schema_of definitions) × J.carries journal.old rs next [] used
         × Within (J.limit journal.old) (used + all_bytes (schema_of definitions) book.now.opens) }
-    ensures carries { (definitions : Definitions) (rs : Records) (used : ℕ) → CanCarryAll definitions book.now.opens → J.carries journal.old rs [] used
-        → (es : List Entry) × CarriesAll (schema_of definitions) book.now.opens es × J.carries journal.new rs es (used + all_bytes (schema_of definitions) book.now.opens) }
+    ensures carries { (definitions : Definitions) (rs : Records) (next : ℕ) (used : ℕ) → CanCarryAll definitions book.now.opens → J.carries journal.old rs next [] used
+        → (es : List Entry) × CarriesAll (schema_of definitions) book.now.opens es × J.carries journal.new rs next es (used + all_bytes (schema_of definitions) book.now.opens) }
     ensures bytes { (definitions : Definitions) → CanCarryAll definitions book.now.opens → result ≡ told_need (all_bytes (schema_of definitions) book.now.opens) }
     ensures limit { J.limit journal.new ≡ J.limit journal.old }
     ensures faults { J.faults journal.new ≡ J.faults journal.old }

@@ -2,8 +2,8 @@
 ghost use Rattle.std.specs.Prelude.{◌≡◌, ◌<◌, ◌^◌, None, Some, length, slice_get, IfSome, IfNone};
 ghost use Rattle.iv_types.specs.declared.limit.TheConstants.{SEATS};
 ghost use Rattle.txn_book.specs.Opens.{open_at};
-ghost use Rattle.core_checkpoints.specs.Carrying.{steps_at, id_of, done_at};
-ghost use Rattle.core_checkpoints.specs.Earliest.{LeastUpTo, IsEarliest, AreDone};
+ghost use Rattle.core_recording.specs.Carrying.{steps_at, id_of, done_at};
+ghost use Rattle.core_recording.specs.Earliest.{LeastUpTo, IsEarliest, AreDone};
 
 use iv_types::{KeptStep, MOST_SESSIONS, SEATS};
 use record_lending::number_of;
@@ -27,7 +27,7 @@ pub(crate) fn step_behind(book: &Book, session: u32, done: usize) -> Option<(u64
 
 /// The lesser of a session's number and the least one so far, with its session.
 fn lesser(number: u64, session: u32, least: Option<(u64, u32)>) -> Option<(u64, u32)>
-    ensures { result ≡ Rattle.core_checkpoints.specs.Earliest.lesser number session least }
+    ensures { result ≡ Rattle.core_recording.specs.Earliest.lesser number session least }
 {
     match least {
         Some((other, before)) => {
@@ -48,7 +48,7 @@ fn with_session(
     done: usize,
     least: Option<(u64, u32)>,
 ) -> Option<(u64, u32)>
-    ensures { result ≡ Rattle.core_checkpoints.specs.Earliest.with_step (slice_get (steps_at book.now.opens session) done) session least }
+    ensures { result ≡ Rattle.core_recording.specs.Earliest.with_step (slice_get (steps_at book.now.opens session) done) session least }
 {
     match step_behind(book, session, done) {
         Some((_, step)) => lesser(number_of(step), session, least),

@@ -6,10 +6,11 @@ ghost use Rattle.txn_machine.specs.Counts.{told_need};
 ghost use Rattle.txn_machine.specs.Log as log;
 ghost use Rattle.txn_machine.specs.Log.{block_bytes};
 ghost use Rattle.txn_machine.specs.State.{State, is_fault};
+ghost use Rattle.txn_machine.specs.Store.{committed};
 ghost use Rattle.txn_book.specs.Acts.{answer_of};
-ghost use Rattle.core_journal.specs.Records.{Records, restarted};
+ghost use Rattle.core_journal.specs.Records.{Records, Saved, restarted};
 ghost use Rattle.core_state.specs.Stands.{Began};
-ghost use Rattle.core_recording.specs.Giving.{CanGive, IsBehind, MayGiveUp};
+ghost use Rattle.core_recording.specs.Giving.{IsSaved, CanGive, IsBehind, MayGiveUp};
 
 use crate::carrying::carry_kept;
 use core_journal::Checkpoints;
@@ -26,8 +27,8 @@ fn write<M: SortedMaps, J: Checkpoints<M>>(
     number: u64,
 ) -> Result<u64, DiskFault>
     requires { CanGive M.maps M.spare M.limit J.has J.limit core.old journal.old 0 act.Checkpoint }
-    ensures ok { OnOk result (((s : State) (rs : Records) → Began M.maps M.spare M.limit core.old s 0 → IsBehind M.maps M.spare M.limit J.has J.limit core.old journal.old s.log rs
-        → J.has journal.new (restarted rs (block_bytes + 1 + log.carried s.store))) × (J.faults journal.new ≡ J.faults journal.old)) }
+    ensures ok { OnOk result (((s : State) (rs : Records) → Began M.maps M.spare M.limit core.old s 0 → IsBehind M.maps M.spare M.limit J.has J.limit core.old journal.old s.log rs → number ≡ (committed s.store).number
+        → (saved : Saved) × IsSaved s saved × J.has journal.new (restarted rs saved (block_bytes + 1 + log.carried s.store))) × (J.faults journal.new ≡ J.faults journal.old)) }
     ensures bytes { IfOk result (λ bytes. (s : State) → Began M.maps M.spare M.limit core.old s 0 → bytes ≡ told_need (log.carried s.store)) }
     ensures err { OnErr result (Rose (J.faults journal.old) (J.faults journal.new)) }
     ensures limit { J.limit journal.new ≡ J.limit journal.old }

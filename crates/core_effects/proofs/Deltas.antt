@@ -39,7 +39,8 @@ use Rattle.data_changes.specs.Paying.{HasFor}
 use Rattle.data_room.specs.Reserved.{Where}
 use Rattle.data_room.proofs.Wheres.{where_always, where_map, within_fewer}
 use Rattle.core_state.specs.Rooms.{IsCovered, still_owed, paid_on}
-use Rattle.core_state.specs.Stands.{Holds}
+use Rattle.core_state.specs.Stands.{Holds, told, Texts}
+use Rattle.core_state.proofs.Texts.{told_stored}
 use Rattle.core_state.specs.declared.state.CoreState.{CoreState}
 use Rattle.core_effects.specs.Owing.{OwesFirst}
 use Rattle.core_effects.proofs.Opened.{Has, own}
@@ -106,7 +107,7 @@ module _ (objects : Schema) (limited : IsLimited objects) (d : GroupDelta) (is :
           within_fewer limit (used maps + total) (used (with_map maps d.view (insert (maps d.view) d.group value)))
           (where_always limit (let less : used (with_map maps d.view (insert (maps d.view) d.group value)) ≤ used maps + total = omega (arith, same, wide, sums, bytes, long) in less)) within
 
-module _ {M : Type 0} (maps : M → ℕ → Map) (spare : M → ℕ → ℕ) (limit : M → Option ℕ) (core : CoreState M) (s : Store) (l : Log) (texts : List (List ℕ)) (i : ℕ) (h : Holds maps spare limit core s l texts) (o : OwesFirst s i) where
+module _ {M : Type 0} (maps : M → ℕ → Map) (spare : M → ℕ → ℕ) (limit : M → Option ℕ) (core : CoreState M) (s : Store) (l : Log) (texts : Texts) (i : ℕ) (h : Holds maps spare limit core s l texts) (o : OwesFirst s i) where
   abbrev pub mine : Has (schema_of s) (open_at core.book.opens i) (now s i) (l.logged i)
   mine = own maps spare limit core s l texts i h o.is_open
 
@@ -125,8 +126,8 @@ module _ {M : Type 0} (maps : M → ℕ → Map) (spare : M → ℕ → ℕ) (li
   pub limited_here : IsLimited (schema_of s)
   limited_here = subst IsLimited h.stored.objects h.rooms.limited
 
-  pub has_for : HasFor core.store.catalog (maps core.store.tables) core.store.views o.first (contents_of s)
-  has_for = record { held = h.stored; of_view = record { of = o.delta.of; is = o.delta.view_is; sums = o.delta.sums } }
+  pub has_for : HasFor core.store.catalog (maps core.store.tables) core.store.views o.first (told s texts)
+  has_for = record { held = told_stored maps spare limit core s l texts h; of_view = record { of = o.delta.of; is = o.delta.view_is; sums = o.delta.sums } }
 
   pub is_ready : IsReady core.store.views (place_of o.first) i
   is_ready =

@@ -8,10 +8,10 @@ use Rattle.txn_machine.specs.Acts.{Act}
 use Rattle.txn_machine.specs.Answers.{Answer}
 use Rattle.txn_machine.specs.Ghosts.{the_views}
 use Rattle.txn_machine.specs.State.{State, is_fault}
-use Rattle.txn_machine.specs.Steps.{Says, log_after, definitions_after}
+use Rattle.txn_machine.specs.Steps.{Says, log_after}
 use Rattle.txn_machine.specs.Store.{Effect, run}
 use Rattle.core_state.specs.Seats.{machine_seat, machine_cleaner, seat_at}
-use Rattle.core_state.specs.Stands.{Began, Told, Holds, Reserves, Counts, IsOpening, is_blocked}
+use Rattle.core_state.specs.Stands.{Began, Told, Holds, Reserves, Counts, IsOpening, is_blocked, texts_after}
 use Rattle.core_state.specs.declared.state.CoreState.{CoreState}
 use Rattle.core_state.proofs.Unchanged.{not_blocked}
 use Rattle.core_effects.specs.Underway.{IsUnderway}
@@ -46,8 +46,8 @@ module _ {M : Type 0} (maps : M → ℕ → Map) (spare : M → ℕ → ℕ) (li
     stop = same.stop ∙ h.counts.stop;
   }
 
-  unfoldable pub done_told : (a : Act) (said : Answer) (es : List Effect) → Says s i a said es → Holds maps spare limit new (run the_views s.store i es) (log_after s i a said es) (definitions_after s.definitions a said)
-      → Reserves maps spare limit new (run the_views s.store i es) (log_after s i a said es) (definitions_after s.definitions a said)
+  unfoldable pub done_told : (a : Act) (said : Answer) (es : List Effect) → Says s i a said es → Holds maps spare limit new (run the_views s.store i es) (log_after s i a said es) (texts_after s a said)
+      → Reserves maps spare limit new (run the_views s.store i es) (log_after s i a said es)
       → AreUncounted core new → (IsSession i → table.waiting_of new.locks i ≡ []) → ((j : ℕ) → IsSession j → j ≢ i → table.waiting_of new.locks j ≡ s.waiting j)
       → is_blocked said ≡ false → is_fault said ≡ false → (log_after s i a said es).begun ≤ s.log.begun + 1 → (log_after s i a said es).next ≤ s.log.next + 1
       → Told maps spare limit s i a said new
@@ -95,8 +95,8 @@ still_underway maps spare limit core new s i u same own others = record {
 }
 
 pub told_by : {M : Type 0} (maps : M → ℕ → Map) (spare : M → ℕ → ℕ) (limit : M → Option ℕ) (new : CoreState M) (s : State) (i : ℕ) → IsUnderway maps spare limit s i new → (a : Act) (said : Answer) (es : List Effect) → Says s i a said es
-    → Holds maps spare limit new (run the_views s.store i es) (log_after s i a said es) (definitions_after s.definitions a said)
-    → Reserves maps spare limit new (run the_views s.store i es) (log_after s i a said es) (definitions_after s.definitions a said)
+    → Holds maps spare limit new (run the_views s.store i es) (log_after s i a said es) (texts_after s a said)
+    → Reserves maps spare limit new (run the_views s.store i es) (log_after s i a said es)
     → is_blocked said ≡ false → is_fault said ≡ false → (log_after s i a said es).begun ≤ s.log.begun + 1 → (log_after s i a said es).next ≤ s.log.next + 1
     → Told maps spare limit s i a said new
 told_by maps spare limit new s i u a said es says holds reserves not fine begins appends = record {

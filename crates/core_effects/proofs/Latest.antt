@@ -12,7 +12,7 @@ use Rattle.txn_machine.specs.Log.{Log}
 use Rattle.txn_machine.specs.Store.{Store, schema_of}
 use Rattle.txn_book.specs.Opens.{open_at}
 use Rattle.txn_book.specs.declared.open_table.Open.{Open as BookOpen}
-use Rattle.core_state.specs.Stands.{Holds}
+use Rattle.core_state.specs.Stands.{Holds, Texts}
 use Rattle.core_state.specs.declared.state.CoreState.{CoreState}
 use Rattle.core_effects.specs.Undoing.{KeepsPay, KeepsPut, KeepsOne, FitsBack, CanGoBack, IsPay}
 use Rattle.core_effects.proofs.Unpaid as pay
@@ -24,7 +24,7 @@ not_true t = absurd cc
 pub is_false : (b : Bool) → b ≡ false → IsTrue b → ⊥
 is_false b e t = not_true (subst IsTrue e t)
 
-module _ {M : Type 0} (maps : M → ℕ → Map) (spare : M → ℕ → ℕ) (limit : M → Option ℕ) (core : CoreState M) (s : Store) (l : Log) (texts : List (List ℕ)) (i : ℕ) (h : Holds maps spare limit core s l texts) where
+module _ {M : Type 0} (maps : M → ℕ → Map) (spare : M → ℕ → ℕ) (limit : M → Option ℕ) (core : CoreState M) (s : Store) (l : Log) (texts : Texts) (i : ℕ) (h : Holds maps spare limit core s l texts) where
   pub some_open : KeepsOne s i → IsSome (open_at core.book.opens i)
   some_open (inl o) = subst IsSome (sym (pay.mine maps spare limit core s l texts i h o).there) refl
   some_open (inr o) = subst IsSome (sym (put.mine maps spare limit core s l texts i h o).there) refl

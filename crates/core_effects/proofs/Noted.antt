@@ -27,13 +27,13 @@ use Rattle.data_store.specs.Held.{IsHeld}
 use Rattle.data_past.proofs.Aheads.{ahead_notes}
 use Rattle.data_past.proofs.Effects.{past_notes}
 use Rattle.core_state.specs.Rooms.{gone_if}
-use Rattle.core_state.specs.Stands.{Holds}
+use Rattle.core_state.specs.Stands.{Holds, Texts}
 use Rattle.core_state.specs.declared.state.CoreState.{CoreState}
 use Rattle.core_state.proofs.Rooms.{rooms_changed, elsewhere_same, covered_alike}
 use Rattle.core_state.proofs.Sessions.{contents_as, kept_same, locks_same}
 use Rattle.core_effects.proofs.Opened.{Has, own}
 
-module _ {M : Type 0} (maps : M → ℕ → Map) (spare : M → ℕ → ℕ) (limit : M → Option ℕ) (core : CoreState M) (s : Store) (l : Log) (texts : List (List ℕ)) (i : ℕ) (h : Holds maps spare limit core s l texts) (o : IsOpen s i)
+module _ {M : Type 0} (maps : M → ℕ → Map) (spare : M → ℕ → ℕ) (limit : M → Option ℕ) (core : CoreState M) (s : Store) (l : Log) (texts : Texts) (i : ℕ) (h : Holds maps spare limit core s l texts) (o : IsOpen s i)
     (a : Act) (n : Note) (bytes : ℕ) (after : Books) (good : IsBook core.book) where
   abbrev noted : Open
   noted = record (now s i) { notes = n ∷ (now s i).notes }
@@ -46,14 +46,15 @@ module _ {M : Type 0} (maps : M → ℕ → Map) (spare : M → ℕ → ℕ) (li
       record {
         stored = subst (IsHeld core.store.catalog (maps core.store.tables) core.store.views)
             (contents_as (contents_of s) (contents_of (with_txn s i (Some noted))) refl refl refl (λ j. sym (kept_same s.open_of i (Some noted) refl j))) h.stored;
-        book = subst (λ x. book.Holds after (schema_of s) (with_one s.open_of i (Some noted)) x s.history (committed s).number (definition_sizes texts)) (sym (logs_logged s i a (Notes n) l))
-            (changed_holds core.book (schema_of s) s.open_of l.logged s.history (committed s).number (definition_sizes texts) h.book good i o.of_session after (with_one s.open_of i (Some noted)) (with_one l.logged i (l.logged i))
+        book = subst (λ x. book.Holds after (schema_of s) (with_one s.open_of i (Some noted)) x s.history (committed s).number (definition_sizes texts.since)) (sym (logs_logged s i a (Notes n) l))
+            (changed_holds core.book (schema_of s) s.open_of l.logged s.history (committed s).number (definition_sizes texts.since) h.book good i o.of_session after (with_one s.open_of i (Some noted)) (with_one l.logged i (l.logged i))
             (λ j differ. (one_other s.open_of i (Some noted) j differ, one_other l.logged i (l.logged i) j differ)) (noting (txn_of mine.txn) bytes) noted changes (one_same s.open_of i (Some noted) i refl)
             (subst (book.IsTxn (schema_of s) (noting (txn_of mine.txn) bytes) noted) (sym (one_same l.logged i (l.logged i) i refl))
             (subst (λ b. book.IsTxn (schema_of s) (noting (txn_of mine.txn) b) noted (l.logged i)) size (noted_is (schema_of s) (txn_of mine.txn) (now s i) (l.logged i) mine.is n last))));
         locks = λ j js. subst (HasLocks (table.locks_of core.locks j)) (sym (locks_same s.open_of i (Some noted) refl j)) (h.locks j js);
         begun = h.begun;
         next = h.next;
+        texts = h.texts;
         row_mark = h.row_mark;
         delta_mark = h.delta_mark;
         most = h.most;

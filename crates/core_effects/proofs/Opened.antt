@@ -12,7 +12,7 @@ use Rattle.txn_book.specs.Opens.{open_at}
 use Rattle.txn_book.specs.Txns.{Txn, txn_of}
 use Rattle.txn_book.specs.Holding.{IsTxn, IsSame}
 use Rattle.txn_book.specs.declared.open_table.Open.{Open as BookOpen}
-use Rattle.core_state.specs.Stands.{Holds}
+use Rattle.core_state.specs.Stands.{Holds, Texts}
 use Rattle.core_state.specs.declared.state.CoreState.{CoreState}
 
 -- the book's transaction of a session
@@ -27,7 +27,7 @@ has objects None (Some u) t l e h = absurd h
 has objects (Some b) None t l e h = absurd h
 has objects (Some b) (Some u) t l e h = let same : u ≡ t = cc in record { txn = b; there = refl; is = subst (λ x. IsTxn objects (txn_of b) x l) same h }
 
-module _ {M : Type 0} (maps : M → ℕ → Map) (spare : M → ℕ → ℕ) (limit : M → Option ℕ) (core : CoreState M) (s : Store) (l : Log) (texts : List (List ℕ)) (i : ℕ) (h : Holds maps spare limit core s l texts) (o : IsOpen s i) where
+module _ {M : Type 0} (maps : M → ℕ → Map) (spare : M → ℕ → ℕ) (limit : M → Option ℕ) (core : CoreState M) (s : Store) (l : Log) (texts : Texts) (i : ℕ) (h : Holds maps spare limit core s l texts) (o : IsOpen s i) where
   pub own : Has (schema_of s) (open_at core.book.opens i) (now s i) (l.logged i)
   own =
       let here : Has (schema_of s) (open_at core.book.opens i) o.transaction (l.logged i) = has (schema_of s) (open_at core.book.opens i) (s.open_of i) o.transaction (l.logged i) o.is_open (h.book.txns i o.of_session) in

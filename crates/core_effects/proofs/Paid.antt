@@ -36,6 +36,7 @@ use Rattle.txn_book.specs.Txns.{Txn, txn_of, with_pay as paying}
 use Rattle.txn_book.specs.Holding as book
 use Rattle.txn_book.proofs.Holding.{changed_holds, paid_is}
 use Rattle.data_store.specs.Contents.{contents_of, pays_on}
+use Rattle.data_store.proofs.Told.{untold_held}
 use Rattle.data_store.specs.Held.{IsHeld}
 use Rattle.data_store.specs.Machine.{IsPast}
 use Rattle.data_changes.specs.Effects.{with_pay}
@@ -43,7 +44,8 @@ use Rattle.data_past.specs.Ahead.{IsAhead}
 use Rattle.data_past.proofs.Aheads.{ahead_pays}
 use Rattle.data_past.proofs.Effects.{past_pays}
 use Rattle.core_state.specs.Rooms.{IsWanted, AreWanted, IsCovered, HasRooms, gone_if, still_owed, paid, paid_on}
-use Rattle.core_state.specs.Stands.{Holds}
+use Rattle.core_state.specs.Stands.{Holds, told, Texts, all_texts}
+use Rattle.core_state.proofs.Texts.{texts_now, same_texts}
 use Rattle.core_state.specs.declared.state.CoreState.{CoreState}
 use Rattle.core_state.proofs.Rooms.{rooms_changed}
 use Rattle.core_state.proofs.Sessions.{contents_as, kept_of, locks_same}
@@ -73,17 +75,18 @@ moved_in d x ds ps c = elim (Contains-append_cases ds (d ∷ ps) x c) [
   ]
 ]
 
-module _ {M : Type 0} (maps : M → ℕ → Map) (spare : M → ℕ → ℕ) (limit : M → Option ℕ) (core : CoreState M) (s : Store) (l : Log) (texts : List (List ℕ)) (i : ℕ) (h : Holds maps spare limit core s l texts)
+module _ {M : Type 0} (maps : M → ℕ → Map) (spare : M → ℕ → ℕ) (limit : M → Option ℕ) (core : CoreState M) (s : Store) (l : Log) (texts : Texts) (i : ℕ) (h : Holds maps spare limit core s l texts)
     (tables : M) (views : ViewState) (same_limit : limit tables ≡ limit core.store.tables) (seats : (j : ℕ) (place : Place) → HasSeat core.store.views place j → HasSeat views place j) where
   -- a refused pay leaves all as it was
-  pub unpaid_holds : tables ≡ core.store.tables → views.rooms ≡ core.store.views.rooms → IsHeld core.store.catalog (maps tables) views (contents_of s) → IsSession i
+  pub unpaid_holds : tables ≡ core.store.tables → views.rooms ≡ core.store.views.rooms → IsHeld core.store.catalog (maps tables) views (told s texts) → IsSession i
       → Holds maps spare limit (record core { store = record core.store { tables = tables; views = views } }) s l texts
   unpaid_holds same rooms stored is = record {
-    stored = stored;
+    stored = untold_held core.store.catalog (maps tables) views (told s texts) stored;
     book = h.book;
     locks = h.locks;
     begun = h.begun;
     next = h.next;
+    texts = same_texts (maps core.store.tables 0) (maps tables 0) core.store.catalog (all_texts texts) h.texts (ap (λ t. maps t 0) same);
     row_mark = h.row_mark;
     delta_mark = h.delta_mark;
     most = same_limit ∙ h.most;
@@ -150,15 +153,16 @@ module _ {M : Type 0} (maps : M → ℕ → Map) (spare : M → ℕ → ℕ) (li
 
     pub paid_holds : MovesRoom i core.store.views views → ArePrefixes before (width d) (pays_on (place_of d) ((contents_of s).kept i)) → ((w : List Want) (ws : List (List Want)) → wants_at core.wants i ≡ w ∷ ws → wants_at wants i ≡ ws)
         → ((j : ℕ) → j ≢ i → wants_at wants j ≡ wants_at core.wants j) → ((index : ℕ) → spare core.store.tables index ≤ spare tables index)
-        → IsHeld core.store.catalog (maps tables) views (with_pay (contents_of s) i d) → Changes core.book after i (paying t d o.others before core.next)
+        → IsHeld core.store.catalog (maps tables) views (with_pay (told s texts) i d) → Changes core.book after i (paying t d o.others before core.next)
         → Holds maps spare limit (record core { store = record core.store { tables = tables; views = views }; book = after; wants = wants; next = core.next + 1 }) (does the_views s i Pays) (logs s i a Pays l) texts
     paid_holds moves prefixes next others spares stored changes =
         subst (λ u. Holds maps spare limit (record core { store = record core.store { tables = tables; views = views }; book = after; wants = wants; next = core.next + 1 }) u (logs s i a Pays l) texts) (sym does_is)
         (subst (λ m. Holds maps spare limit (record core { store = record core.store { tables = tables; views = views }; book = after; wants = wants; next = core.next + 1 }) store_after m texts) (sym logs_is)
         (record {
-          stored = subst (IsHeld core.store.catalog (maps tables) views)
-              (contents_as (with_pay (contents_of s) i d) (contents_of store_after) refl refl refl (λ j. sym (kept_of s.open_of i (Some paid_one) j))) stored;
-          book = changed_holds core.book (schema_of s) s.open_of l.logged s.history (committed s).number (definition_sizes texts) h.book good i o.is_open.of_session after (with_one s.open_of i (Some paid_one)) (with_one l.logged i (keeps (l.logged i) l.next))
+          stored = untold_held core.store.catalog (maps tables) views (told store_after texts)
+              (subst (IsHeld core.store.catalog (maps tables) views)
+              (contents_as (with_pay (told s texts) i d) (contents_of store_after) refl refl refl (λ j. sym (kept_of s.open_of i (Some paid_one) j))) stored);
+          book = changed_holds core.book (schema_of s) s.open_of l.logged s.history (committed s).number (definition_sizes texts.since) h.book good i o.is_open.of_session after (with_one s.open_of i (Some paid_one)) (with_one l.logged i (keeps (l.logged i) l.next))
               (λ j n. (one_other s.open_of i (Some paid_one) j n, one_other l.logged i (keeps (l.logged i) l.next) j n)) (paying t d o.others before core.next) paid_one changes (one_same s.open_of i (Some paid_one) i refl)
               (subst (book.IsTxn (schema_of s) (paying t d o.others before core.next) paid_one) (sym (one_same l.logged i (keeps (l.logged i) l.next) i refl))
               (subst (λ n. book.IsTxn (schema_of s) (paying t d o.others before core.next) paid_one (keeps (l.logged i) n)) h.next
@@ -166,6 +170,7 @@ module _ {M : Type 0} (maps : M → ℕ → Map) (spare : M → ℕ → ℕ) (li
           locks = λ j js. subst (HasLocks (table.locks_of core.locks j)) (sym (locks_same s.open_of i (Some paid_one) refl j)) (h.locks j js);
           begun = h.begun;
           next = ap (λ n. n + 1) h.next;
+          texts = texts_now (maps core.store.tables 0) (maps tables 0) core.store.catalog (all_texts texts) h.texts stored.texts;
           row_mark = h.row_mark;
           delta_mark = h.delta_mark;
           most = same_limit ∙ h.most;

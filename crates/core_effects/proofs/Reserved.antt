@@ -54,6 +54,7 @@ module _ {M : Type 0} (maps : M → ℕ → Map) (spare : M → ℕ → ℕ) (li
       locks = λ j js. subst (λ ls. HasLocks ls (locks_of s.store j)) (sym (same_locks core.locks after i more reserved j)) (h.holds.locks j js);
       begun = h.holds.begun;
       next = h.holds.next;
+      texts = h.holds.texts;
       row_mark = h.holds.row_mark;
       delta_mark = h.holds.delta_mark;
       most = h.holds.most;

@@ -31,7 +31,7 @@ use Rattle.data_store.specs.Held.{IsHeld}
 use Rattle.data_past.proofs.Aheads.{ahead_takes}
 use Rattle.data_past.proofs.Effects.{past_takes}
 use Rattle.core_state.specs.Rooms.{HasRooms, AreWanted, still_owed}
-use Rattle.core_state.specs.Stands.{Holds}
+use Rattle.core_state.specs.Stands.{Holds, Texts}
 use Rattle.core_state.specs.declared.state.CoreState.{CoreState}
 use Rattle.core_state.proofs.Rooms.{rooms_with}
 use Rattle.core_state.proofs.Sessions.{contents_as, kept_same}
@@ -47,7 +47,7 @@ gained_as held before wants after same gained w = (to, from)
     from : Contains (wants ++ before) w → Contains after w
     from c = elim (Contains-append_cases wants before w c) [ inl new ↦ (gained w).1 (inr new) | inr old ↦ (gained w).1 (inl ((same w).1 old)) ]
 
-module _ {M : Type 0} (maps : M → ℕ → Map) (spare : M → ℕ → ℕ) (limit : M → Option ℕ) (core : CoreState M) (s : Store) (l : Log) (texts : List (List ℕ)) (i : ℕ) (h : Holds maps spare limit core s l texts) (o : IsOpen s i)
+module _ {M : Type 0} (maps : M → ℕ → Map) (spare : M → ℕ → ℕ) (limit : M → Option ℕ) (core : CoreState M) (s : Store) (l : Log) (texts : Texts) (i : ℕ) (h : Holds maps spare limit core s l texts) (o : IsOpen s i)
     (a : Act) (wants : List Want) (after : Table) (back : List (List (List Want))) (granted : IsGranted core.locks after i wants) where
   abbrev taken : Open
   taken = record (now s i) { locks = wants ++ (now s i).locks }
@@ -81,6 +81,7 @@ module _ {M : Type 0} (maps : M → ℕ → Map) (spare : M → ℕ → ℕ) (li
         (subst (λ (x : SessionLocks). HasLocks x.locks (locks_of s j)) (sym (granted.others j n)) (h.locks j js)));
     begun = h.begun;
     next = h.next;
+    texts = h.texts;
     row_mark = h.row_mark;
     delta_mark = h.delta_mark;
     most = h.most;

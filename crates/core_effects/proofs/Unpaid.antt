@@ -37,6 +37,7 @@ use Rattle.txn_book.specs.Holding.{AreKept}
 use Rattle.txn_book.specs.declared.open_table.Open.{Open as BookOpen}
 use Rattle.txn_book.proofs.Holding.{changed_holds, pay_undone}
 use Rattle.data_store.specs.Contents.{contents_of, pays_on}
+use Rattle.data_store.proofs.Told.{untold_held}
 use Rattle.data_store.specs.Held.{IsHeld}
 use Rattle.data_store.specs.Machine.{IsPast}
 use Rattle.data_changes.specs.Effects.{without_pay}
@@ -45,7 +46,8 @@ use Rattle.data_past.specs.Ahead.{IsAhead}
 use Rattle.data_past.proofs.Aheads.{ahead_unpaid}
 use Rattle.data_past.proofs.Effects.{past_unpaid}
 use Rattle.core_state.specs.Rooms.{AreWanted, IsCovered, CanBeTakenBack, gone_if, gone_of, still_owed, paid}
-use Rattle.core_state.specs.Stands.{Holds}
+use Rattle.core_state.specs.Stands.{Holds, told, Texts, all_texts}
+use Rattle.core_state.proofs.Texts.{told_stored, texts_now}
 use Rattle.core_state.specs.declared.state.CoreState.{CoreState}
 use Rattle.core_state.proofs.Rooms.{rooms_changed}
 use Rattle.core_state.proofs.Sessions.{contents_as, kept_of, locks_same}
@@ -75,7 +77,7 @@ drop_more {X} n m x xs e = let more : m ≡ suc n = omega (arith, e) in ap (λ k
 pay_in : (d x : GroupDelta) (ds ps : List GroupDelta) → Contains (ds ++ ps) x → Contains (ds ++ d ∷ ps) x
 pay_in d x ds ps c = elim (Contains-append_cases ds ps x c) [ inl a ↦ Contains-append_left ds (d ∷ ps) x a | inr b ↦ Contains-append_right ds (d ∷ ps) x (Contains-append_right (d ∷ []) ps x b) ]
 
-module _ {M : Type 0} (maps : M → ℕ → Map) (spare : M → ℕ → ℕ) (limit : M → Option ℕ) (core : CoreState M) (s : Store) (l : Log) (texts : List (List ℕ)) (i : ℕ) (h : Holds maps spare limit core s l texts) (o : KeepsPay s i) where
+module _ {M : Type 0} (maps : M → ℕ → Map) (spare : M → ℕ → ℕ) (limit : M → Option ℕ) (core : CoreState M) (s : Store) (l : Log) (texts : Texts) (i : ℕ) (h : Holds maps spare limit core s l texts) (o : KeepsPay s i) where
   abbrev pub mine : Has (schema_of s) (open_at core.book.opens i) (now s i) (l.logged i)
   mine = own maps spare limit core s l texts i h o.is_open
 
@@ -101,8 +103,8 @@ module _ {M : Type 0} (maps : M → ℕ → Map) (spare : M → ℕ → ℕ) (li
     prefixes = prefixes;
   }
 
-  pub for_it : HasFor core.store.catalog (maps core.store.tables) core.store.views d (contents_of s)
-  for_it = record { held = h.stored; of_view = record { of = o.delta.of; is = o.delta.view_is; sums = o.delta.sums } }
+  pub for_it : HasFor core.store.catalog (maps core.store.tables) core.store.views d (told s texts)
+  for_it = record { held = told_stored maps spare limit core s l texts h; of_view = record { of = o.delta.of; is = o.delta.view_is; sums = o.delta.sums } }
 
   pub limited_here : IsLimited (schema_of s)
   limited_here = subst IsLimited h.stored.objects h.rooms.limited
@@ -156,20 +158,22 @@ module _ {M : Type 0} (maps : M → ℕ → Map) (spare : M → ℕ → ℕ) (li
           small = c.small;
         }
 
-    pub undone_holds : (a : Act) → MovesRoom i core.store.views views → ((index : ℕ) → spare core.store.tables index ≤ spare tables index) → IsHeld core.store.catalog (maps tables) views (without_pay (contents_of s) i d o.earlier) → Changes core.book after i t_after
+    pub undone_holds : (a : Act) → MovesRoom i core.store.views views → ((index : ℕ) → spare core.store.tables index ≤ spare tables index) → IsHeld core.store.catalog (maps tables) views (without_pay (told s texts) i d o.earlier) → Changes core.book after i t_after
         → Holds maps spare limit (record core { store = record core.store { tables = tables; views = views }; book = after; next = core.next + 1 }) (does the_views s i Undoes) (logs s i a Undoes l) texts
     undone_holds a moves spares stored changes =
         subst (λ u. Holds maps spare limit (record core { store = record core.store { tables = tables; views = views }; book = after; next = core.next + 1 }) u (logs s i a Undoes l) texts) (sym does_is)
         (subst (λ m. Holds maps spare limit (record core { store = record core.store { tables = tables; views = views }; book = after; next = core.next + 1 }) store_after m texts) (sym (logs_is a))
         (record {
-          stored = subst (IsHeld core.store.catalog (maps tables) views) (contents_as (without_pay (contents_of s) i d o.earlier) (contents_of store_after) refl refl refl (λ j. sym (kept_of s.open_of i (Some undone_one) j))) stored;
-          book = changed_holds core.book (schema_of s) s.open_of l.logged s.history (committed s).number (definition_sizes texts) h.book good i o.is_open.of_session after (with_one s.open_of i (Some undone_one)) (with_one l.logged i logged_after)
+          stored = untold_held core.store.catalog (maps tables) views (told store_after texts)
+              (subst (IsHeld core.store.catalog (maps tables) views) (contents_as (without_pay (told s texts) i d o.earlier) (contents_of store_after) refl refl refl (λ j. sym (kept_of s.open_of i (Some undone_one) j))) stored);
+          book = changed_holds core.book (schema_of s) s.open_of l.logged s.history (committed s).number (definition_sizes texts.since) h.book good i o.is_open.of_session after (with_one s.open_of i (Some undone_one)) (with_one l.logged i logged_after)
               (λ j n. (one_other s.open_of i (Some undone_one) j n, one_other l.logged i logged_after j n)) t_after undone_one changes (one_same s.open_of i (Some undone_one) i refl)
               (subst (book.IsTxn (schema_of s) t_after undone_one) (sym (one_same l.logged i logged_after i refl))
               (pay_undone (schema_of s) (txn_of mine.txn) (now s i) (l.logged i) mine.is d last.before last.number last.steps d o.earlier last.is o.kept_is));
           locks = λ j js. subst (HasLocks (table.locks_of core.locks j)) (sym (locks_same s.open_of i (Some undone_one) refl j)) (h.locks j js);
           begun = h.begun;
           next = ap (λ n. n + 1) h.next;
+          texts = texts_now (maps core.store.tables 0) (maps tables 0) core.store.catalog (all_texts texts) h.texts stored.texts;
           row_mark = h.row_mark;
           delta_mark = h.delta_mark;
           most = same_limit ∙ h.most;

@@ -44,6 +44,7 @@ use Rattle.txn_book.specs.declared.open_table.Open.{Open as BookOpen}
 use Rattle.txn_book.proofs.Booking.{has_place}
 use Rattle.txn_book.proofs.Holding.{changed_holds, put_undone}
 use Rattle.data_store.specs.Contents.{contents_of}
+use Rattle.data_store.proofs.Told.{untold_held}
 use Rattle.data_store.specs.Held.{IsHeld}
 use Rattle.data_store.specs.Machine.{IsPast}
 use Rattle.data_store.specs.declared.store.Pending.{Pending}
@@ -58,7 +59,8 @@ use Rattle.spare_map.specs.Spared.{Spared}
 use Rattle.data_room.proofs.Counted.{change_sizes}
 use Rattle.data_room.proofs.Wheres.{where_always, within_fewer}
 use Rattle.core_state.specs.Rooms.{IsCovered, CanBeTakenBack, gone_if, gone_of, still_owed, paid}
-use Rattle.core_state.specs.Stands.{Holds}
+use Rattle.core_state.specs.Stands.{Holds, told, Texts, all_texts}
+use Rattle.core_state.proofs.Texts.{texts_now}
 use Rattle.core_state.specs.declared.state.CoreState.{CoreState}
 use Rattle.core_state.proofs.Rooms.{rooms_changed, gone_set}
 use Rattle.core_state.proofs.Sessions.{contents_as, kept_of, locks_same}
@@ -89,7 +91,7 @@ stands_under : (t : TableDef) (key : List ℕ) (row : Option Row) → FitsUnder 
 stands_under t key None h = tt
 stands_under t key (Some row) h = (h.1, h.0)
 
-module _ {M : Type 0} (maps : M → ℕ → Map) (spare : M → ℕ → ℕ) (limit : M → Option ℕ) (core : CoreState M) (s : Store) (l : Log) (texts : List (List ℕ)) (i : ℕ) (h : Holds maps spare limit core s l texts) (o : KeepsPut s i) where
+module _ {M : Type 0} (maps : M → ℕ → Map) (spare : M → ℕ → ℕ) (limit : M → Option ℕ) (core : CoreState M) (s : Store) (l : Log) (texts : Texts) (i : ℕ) (h : Holds maps spare limit core s l texts) (o : KeepsPut s i) where
   abbrev pub mine : Has (schema_of s) (open_at core.book.opens i) (now s i) (l.logged i)
   mine = own maps spare limit core s l texts i h o.is_open
 
@@ -217,22 +219,24 @@ module _ {M : Type 0} (maps : M → ℕ → Map) (spare : M → ℕ → ℕ) (li
         }
 
     pub undone_holds : (a : Act) (pending : Spared Pending) → ChangesAt (last.kept.change.table, last.kept.change.key) one_less core.store.pending.entries pending.entries
-        → (ahead : List Versions) (owed : ℕ) → owed ≡ length mine.txn.owed.items → Becomes core.ahead ahead i (take (length (rows_at core.ahead i) - 1) (rows_at core.ahead i)) (take (length (deltas_at core.ahead i) - owed) (deltas_at core.ahead i)) → TakesRoom (spare core.store.tables) (spare tables) last.kept.made last.kept.gone → IsHeld core.store.catalog (maps tables) core.store.views (without_put (contents_of s) i (row_change last.kept.change) o.earlier) → Changes core.book after i t_after
+        → (ahead : List Versions) (owed : ℕ) → owed ≡ length mine.txn.owed.items → Becomes core.ahead ahead i (take (length (rows_at core.ahead i) - 1) (rows_at core.ahead i)) (take (length (deltas_at core.ahead i) - owed) (deltas_at core.ahead i)) → TakesRoom (spare core.store.tables) (spare tables) last.kept.made last.kept.gone → IsHeld core.store.catalog (maps tables) core.store.views (without_put (told s texts) i (row_change last.kept.change) o.earlier) → Changes core.book after i t_after
         → Holds maps spare limit (record core { store = record core.store { tables = tables; pending = pending }; book = after; ahead = ahead; next = core.next + 1 }) (does the_views s i Undoes) (logs s i a Undoes l) texts
     undone_holds a pending forgot ahead owed owed_is removed takes stored changes =
         subst (λ u. Holds maps spare limit (record core { store = record core.store { tables = tables; pending = pending }; book = after; ahead = ahead; next = core.next + 1 }) u (logs s i a Undoes l) texts) (sym does_is)
         (subst (λ m. Holds maps spare limit (record core { store = record core.store { tables = tables; pending = pending }; book = after; ahead = ahead; next = core.next + 1 }) store_after m texts) (sym (logs_is a))
         (record {
-          stored = subst (IsHeld core.store.catalog (maps tables) core.store.views)
-              (contents_as (without_put (contents_of s) i o.change o.earlier) (contents_of store_after) refl refl refl (λ j. sym (kept_of s.open_of i (Some undone_one) j)))
-              (subst (λ c. IsHeld core.store.catalog (maps tables) core.store.views (without_put (contents_of s) i c o.earlier)) last.change stored);
-          book = changed_holds core.book (schema_of s) s.open_of l.logged s.history (committed s).number (definition_sizes texts) h.book good i o.is_open.of_session after (with_one s.open_of i (Some undone_one)) (with_one l.logged i logged_after)
+          stored = untold_held core.store.catalog (maps tables) core.store.views (told store_after texts)
+              (subst (IsHeld core.store.catalog (maps tables) core.store.views)
+              (contents_as (without_put (told s texts) i o.change o.earlier) (contents_of store_after) refl refl refl (λ j. sym (kept_of s.open_of i (Some undone_one) j)))
+              (subst (λ c. IsHeld core.store.catalog (maps tables) core.store.views (without_put (told s texts) i c o.earlier)) last.change stored));
+          book = changed_holds core.book (schema_of s) s.open_of l.logged s.history (committed s).number (definition_sizes texts.since) h.book good i o.is_open.of_session after (with_one s.open_of i (Some undone_one)) (with_one l.logged i logged_after)
               (λ j n. (one_other s.open_of i (Some undone_one) j n, one_other l.logged i logged_after j n)) t_after undone_one changes (one_same s.open_of i (Some undone_one) i refl)
               (subst (book.IsTxn (schema_of s) t_after undone_one) (sym (one_same l.logged i logged_after i refl))
               (put_undone (schema_of s) (txn_of mine.txn) (now s i) (l.logged i) mine.is last.kept last.txn_bytes last.history_bytes last.number last.steps o.change o.owed o.earlier last.is o.kept_is));
           locks = λ j js. subst (HasLocks (table.locks_of core.locks j)) (sym (locks_same s.open_of i (Some undone_one) refl j)) (h.locks j js);
           begun = h.begun;
           next = ap (λ n. n + 1) h.next;
+          texts = texts_now (maps core.store.tables 0) (maps tables 0) core.store.catalog (all_texts texts) h.texts stored.texts;
           row_mark = h.row_mark;
           delta_mark = h.delta_mark;
           most = same_limit ∙ h.most;

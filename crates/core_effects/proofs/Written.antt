@@ -32,6 +32,7 @@ use Rattle.txn_book.specs.Holding as book
 use Rattle.txn_book.specs.declared.open_table.Open.{Open as BookOpen}
 use Rattle.txn_book.proofs.Holding.{changed_holds, put_is}
 use Rattle.data_store.specs.Contents.{contents_of}
+use Rattle.data_store.proofs.Told.{untold_held}
 use Rattle.data_store.specs.Held.{IsHeld}
 use Rattle.data_store.specs.Machine.{IsPast}
 use Rattle.data_store.specs.declared.store.Pending.{Pending}
@@ -47,7 +48,8 @@ use Rattle.spare_map.specs.Spared.{Spared}
 use Rattle.table_laws.specs.Place.{Place}
 use Rattle.core_state.proofs.Few.{session_few}
 use Rattle.core_state.specs.Rooms.{AreWanted, IsCovered, CanBeTakenBack, all_gone, gone_if, gone_of, paid}
-use Rattle.core_state.specs.Stands.{Holds}
+use Rattle.core_state.specs.Stands.{Holds, told, Texts, all_texts}
+use Rattle.core_state.proofs.Texts.{texts_now}
 use Rattle.core_state.specs.declared.state.CoreState.{CoreState}
 use Rattle.core_state.proofs.Rooms.{rooms_moved}
 use Rattle.core_state.proofs.Sessions.{contents_as, kept_of, locks_same}
@@ -60,7 +62,7 @@ all_wanted : (room : ℕ) (locks waiting : List Want) (ds : List GroupDelta) →
 all_wanted room locks waiting [] le = tt
 all_wanted room locks waiting (d ∷ ds) le = (inl (refl, omega (arith, le)), refl)
 
-module _ {M : Type 0} (maps : M → ℕ → Map) (spare : M → ℕ → ℕ) (limit : M → Option ℕ) (core : CoreState M) (s : Store) (l : Log) (texts : List (List ℕ)) (i : ℕ) (h : Holds maps spare limit core s l texts) (w : Writing) (can : CanWrite maps spare limit s core i w) where
+module _ {M : Type 0} (maps : M → ℕ → Map) (spare : M → ℕ → ℕ) (limit : M → Option ℕ) (core : CoreState M) (s : Store) (l : Log) (texts : Texts) (i : ℕ) (h : Holds maps spare limit core s l texts) (w : Writing) (can : CanWrite maps spare limit s core i w) where
   abbrev pub mine : Has (schema_of s) (open_at core.book.opens i) (now s i) (l.logged i)
   mine = own maps spare limit core s l texts i h can.is_open
 
@@ -115,21 +117,23 @@ module _ {M : Type 0} (maps : M → ℕ → Map) (spare : M → ℕ → ℕ) (li
   pub written_holds : (a : Act) (tables : M) (pending : Spared Pending) (after : Books) (wants : List (List (List Want))) → ChangesAt (w.noting.index, w.noting.key) (one_more w.noting.committed) core.store.pending.entries pending.entries
       → (ahead : List Versions) → Becomes core.ahead ahead i (rows_at core.ahead i ++ w.version ∷ []) (deltas_at core.ahead i ++ w.copies.items) → limit tables ≡ limit core.store.tables → IsBook core.book
       → TakesRoom (spare core.store.tables) (spare tables) kept.gone kept.made
-      → IsHeld core.store.catalog (maps tables) core.store.views (effect.with_put (contents_of s) i c owed)
+      → IsHeld core.store.catalog (maps tables) core.store.views (effect.with_put (told s texts) i c owed)
       → Changes core.book after i t_after → wants_at wants i ≡ w.wants.items → ((j : ℕ) → j ≢ i → wants_at wants j ≡ wants_at core.wants j)
       → Holds maps spare limit (record core { store = record core.store { tables = tables; pending = pending }; book = after; wants = wants; ahead = ahead; next = core.next + 1 }) (does the_views s i (Writes c.key c.after)) (logs s i a (Writes c.key c.after) l) texts
   written_holds a tables pending after wants counts ahead added same_limit good takes stored changes set others =
       subst (λ u. Holds maps spare limit (record core { store = record core.store { tables = tables; pending = pending }; book = after; wants = wants; ahead = ahead; next = core.next + 1 }) u (logs s i a (Writes c.key c.after) l) texts) (sym does_is)
       (record {
-        stored = subst (IsHeld core.store.catalog (maps tables) core.store.views)
-            (contents_as (effect.with_put (contents_of s) i c owed) (contents_of store_after) refl refl refl (λ j. sym (kept_of s.open_of i (Some written) j))) stored;
-        book = changed_holds core.book (schema_of s) s.open_of l.logged s.history (committed s).number (definition_sizes texts) h.book good i can.is_open.of_session after (with_one s.open_of i (Some written)) (with_one l.logged i logged_after)
+        stored = untold_held core.store.catalog (maps tables) core.store.views (told store_after texts)
+            (subst (IsHeld core.store.catalog (maps tables) core.store.views)
+            (contents_as (effect.with_put (told s texts) i c owed) (contents_of store_after) refl refl refl (λ j. sym (kept_of s.open_of i (Some written) j))) stored);
+        book = changed_holds core.book (schema_of s) s.open_of l.logged s.history (committed s).number (definition_sizes texts.since) h.book good i can.is_open.of_session after (with_one s.open_of i (Some written)) (with_one l.logged i logged_after)
             (λ j n. (one_other s.open_of i (Some written) j n, one_other l.logged i logged_after j n)) t_after written changes (one_same s.open_of i (Some written) i refl)
             (subst (book.IsTxn (schema_of s) t_after written) (sym (one_same l.logged i logged_after i refl))
             (subst (λ n. book.IsTxn (schema_of s) t_after written (keeps (l.logged i) n)) h.next is_it));
         locks = λ j js. subst (HasLocks (table.locks_of core.locks j)) (sym (locks_same s.open_of i (Some written) refl j)) (h.locks j js);
         begun = h.begun;
         next = ap (λ n. n + 1) h.next;
+        texts = texts_now (maps core.store.tables 0) (maps tables 0) core.store.catalog (all_texts texts) h.texts stored.texts;
         row_mark = h.row_mark;
         delta_mark = h.delta_mark;
         most = same_limit ∙ h.most;

@@ -11,7 +11,7 @@ ghost use Rattle.txn_machine.specs.Log.{Log, logs};
 ghost use Rattle.txn_machine.specs.May.{IsOpen};
 ghost use Rattle.txn_machine.specs.Steps.{with_ghost};
 ghost use Rattle.txn_machine.specs.Store.{Store, Ghosts, does};
-ghost use Rattle.core_state.specs.Stands.{Holds};
+ghost use Rattle.core_state.specs.Stands.{Holds, Texts};
 ghost use Rattle.core_effects.specs.Owing.{OwesFirst};
 
 use crate::paying::first_owed;
@@ -21,8 +21,8 @@ use iv_types::{NoMemory, SortedMaps};
 
 /// Whether the row of the first delta that a session owes is stored.
 pub fn has_row<M: SortedMaps>(core: &CoreState<M>, session: u32) -> bool
-    requires { (s : Store) × (l : Log) × (texts : List (List ℕ)) × Holds M.maps M.spare M.limit core.now s l texts × OwesFirst s session }
-    ensures { (s : Store) (l : Log) (texts : List (List ℕ)) (o : OwesFirst s session) → Holds M.maps M.spare M.limit core.now s l texts → result ≡ is_some (get s.view (place_of o.first)) }
+    requires { (s : Store) × (l : Log) × (texts : Texts) × Holds M.maps M.spare M.limit core.now s l texts × OwesFirst s session }
+    ensures { (s : Store) (l : Log) (texts : Texts) (o : OwesFirst s session) → Holds M.maps M.spare M.limit core.now s l texts → result ≡ is_some (get s.view (place_of o.first)) }
 {
     let delta = first_owed(core.open_of(session));
     core.store
@@ -39,11 +39,11 @@ pub fn has_row<M: SortedMaps>(core: &CoreState<M>, session: u32) -> bool
 /// Where there is no memory for it. Nothing is changed then but room.
 pub fn make_row<M: SortedMaps>(core: &mut CoreState<M>, session: u32) -> Result<(), NoMemory>
     requires next { core.old.next < 2 ^ 63 }
-    requires absent { (s : Store) × (l : Log) × (texts : List (List ℕ)) × Holds M.maps M.spare M.limit core.old s l texts × (o : OwesFirst s session) × (get s.view (place_of o.first) ≡ None)
+    requires absent { (s : Store) × (l : Log) × (texts : Texts) × Holds M.maps M.spare M.limit core.old s l texts × (o : OwesFirst s session) × (get s.view (place_of o.first) ≡ None)
         × CanStore (M.maps core.old.store.tables) (M.limit core.old.store.tables) (place_of o.first) (width o.first) }
-    ensures made { OnOk result ((s : Store) (l : Log) (texts : List (List ℕ)) (o : OwesFirst s session) (a : Act) → Holds M.maps M.spare M.limit core.old s l texts → get s.view (place_of o.first) ≡ None
+    ensures made { OnOk result ((s : Store) (l : Log) (texts : Texts) (o : OwesFirst s session) (a : Act) → Holds M.maps M.spare M.limit core.old s l texts → get s.view (place_of o.first) ≡ None
         → Holds M.maps M.spare M.limit core.new (does the_views s session (Ghosts (place_of o.first) (length (columns_of o.first)))) (logs s session a (Ghosts (place_of o.first) (length (columns_of o.first))) l) texts) }
-    ensures err { OnErr result ((s : Store) (l : Log) (texts : List (List ℕ)) → OwesFirst s session → Holds M.maps M.spare M.limit core.old s l texts → Holds M.maps M.spare M.limit core.new s l texts) }
+    ensures err { OnErr result ((s : Store) (l : Log) (texts : Texts) → OwesFirst s session → Holds M.maps M.spare M.limit core.old s l texts → Holds M.maps M.spare M.limit core.new s l texts) }
     ensures rest { core.new ≡ record core.old { store = core.new.store; next = core.new.next } }
 {
     core.book.book_law();
@@ -60,8 +60,8 @@ pub fn make_row<M: SortedMaps>(core: &mut CoreState<M>, session: u32) -> Result<
 
 /// The first delta that a session owes has had its Ghost. Takes no memory.
 pub fn mark_ghosted<M: SortedMaps>(core: &mut CoreState<M>, session: u32)
-    requires { (s : Store) × (l : Log) × (texts : List (List ℕ)) × Holds M.maps M.spare M.limit core.old s l texts × IsOpen s session }
-    ensures holds { (s : Store) (l : Log) (texts : List (List ℕ)) → Holds M.maps M.spare M.limit core.old s l texts → IsOpen s session → Holds M.maps M.spare M.limit core.new s (with_ghost l session) texts }
+    requires { (s : Store) × (l : Log) × (texts : Texts) × Holds M.maps M.spare M.limit core.old s l texts × IsOpen s session }
+    ensures holds { (s : Store) (l : Log) (texts : Texts) → Holds M.maps M.spare M.limit core.old s l texts → IsOpen s session → Holds M.maps M.spare M.limit core.new s (with_ghost l session) texts }
     ensures rest { core.new ≡ record core.old { book = core.new.book } }
 {
     core.book.book_law();

@@ -10,7 +10,7 @@ ghost use Rattle.txn_machine.specs.May.{IsOpen};
 ghost use Rattle.txn_machine.specs.Store.{Store, Notes, does, now, schema_of};
 ghost use Rattle.txn_book.specs.Books.{IsOpenAnd};
 ghost use Rattle.core_state.specs.declared.limits.TheConstants.{MOST_OF_TRANSACTION};
-ghost use Rattle.core_state.specs.Stands.{Holds};
+ghost use Rattle.core_state.specs.Stands.{Holds, Texts};
 
 use core_state::CoreState;
 use iv_types::SortedMaps;
@@ -19,7 +19,7 @@ use iv_types::SortedMaps;
 pub fn note<M: SortedMaps>(core: &mut CoreState<M>, session: u32, bytes: u64)
     requires session { IsSession session }
     requires fits { IsOpenAnd core.old.book session (λ o. o.txn_bytes + bytes ≤ MOST_OF_TRANSACTION) }
-    ensures holds { (s : Store) (l : Log) (texts : List (List ℕ)) (a : Act) (n : Note) → Holds M.maps M.spare M.limit core.old s l texts → IsOpen s session → note_size (schema_of s) n ≡ bytes → n.kept ≡ length (now s session).kept
+    ensures holds { (s : Store) (l : Log) (texts : Texts) (a : Act) (n : Note) → Holds M.maps M.spare M.limit core.old s l texts → IsOpen s session → note_size (schema_of s) n ≡ bytes → n.kept ≡ length (now s session).kept
         → Holds M.maps M.spare M.limit core.new (does the_views s session (Notes n)) (logs s session a (Notes n) l) texts }
     ensures rest { core.new ≡ record core.old { book = core.new.book } }
 {

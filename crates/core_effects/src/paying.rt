@@ -14,7 +14,7 @@ ghost use Rattle.txn_machine.specs.Store.{Store, Pays, does};
 ghost use Rattle.data_store.specs.Contents.{contents_of, pays_on};
 ghost use Rattle.data_store.specs.Held.{IsHeld};
 ghost use Rattle.data_changes.specs.Effects.{with_pay};
-ghost use Rattle.core_state.specs.Stands.{Holds};
+ghost use Rattle.core_state.specs.Stands.{Holds, told, Texts};
 ghost use Rattle.core_effects.specs.Owing.{OwesFirst, Allows, IsUnpaid};
 
 use core_state::CoreState;
@@ -37,13 +37,13 @@ pub fn first_owed(txn: &Open) -> &GroupDelta
 // Adds the first owed delta to its row, and answers the session's prefixes on the row before it.
 fn add_first<M: SortedMaps>(core: &mut CoreState<M>, session: u32) -> Result<PrefixList, PayRefusal>
     requires session { IsSession session }
-    requires owes { (s : Store) × (l : Log) × (texts : List (List ℕ)) × Holds M.maps M.spare M.limit core.old s l texts × (o : OwesFirst s session)
+    requires owes { (s : Store) × (l : Log) × (texts : Texts) × Holds M.maps M.spare M.limit core.old s l texts × (o : OwesFirst s session)
         × CanStore (M.maps core.old.store.tables) (M.limit core.old.store.tables) (place_of o.first) (width o.first) }
-    ensures paid { OnOk result ((s : Store) (l : Log) (texts : List (List ℕ)) (o : OwesFirst s session) → Holds M.maps M.spare M.limit core.old s l texts → IsHeld core.new.store.catalog (M.maps core.new.store.tables) core.new.store.views (with_pay (contents_of s) session o.first)) }
-    ensures before { IfOk result (λ before. (s : Store) (l : Log) (texts : List (List ℕ)) (o : OwesFirst s session) → Holds M.maps M.spare M.limit core.old s l texts → ArePrefixes before (width o.first) (pays_on (place_of o.first) ((contents_of s).kept session))) }
-    ensures allowed { OnOk result ((s : Store) (l : Log) (texts : List (List ℕ)) (o : OwesFirst s session) → Holds M.maps M.spare M.limit core.old s l texts → Allows s session o × (get s.view (place_of o.first) ≡ None → ⊥)) }
-    ensures unpaid { IfErr result (λ why. (s : Store) (l : Log) (texts : List (List ℕ)) (o : OwesFirst s session) → Holds M.maps M.spare M.limit core.old s l texts → IsUnpaid s session o why) }
-    ensures kept { OnErr result ((s : Store) (l : Log) (texts : List (List ℕ)) → OwesFirst s session → Holds M.maps M.spare M.limit core.old s l texts → Holds M.maps M.spare M.limit core.new s l texts) }
+    ensures paid { OnOk result ((s : Store) (l : Log) (texts : Texts) (o : OwesFirst s session) → Holds M.maps M.spare M.limit core.old s l texts → IsHeld core.new.store.catalog (M.maps core.new.store.tables) core.new.store.views (with_pay (told s texts) session o.first)) }
+    ensures before { IfOk result (λ before. (s : Store) (l : Log) (texts : Texts) (o : OwesFirst s session) → Holds M.maps M.spare M.limit core.old s l texts → ArePrefixes before (width o.first) (pays_on (place_of o.first) ((contents_of s).kept session))) }
+    ensures allowed { OnOk result ((s : Store) (l : Log) (texts : Texts) (o : OwesFirst s session) → Holds M.maps M.spare M.limit core.old s l texts → Allows s session o × (get s.view (place_of o.first) ≡ None → ⊥)) }
+    ensures unpaid { IfErr result (λ why. (s : Store) (l : Log) (texts : Texts) (o : OwesFirst s session) → Holds M.maps M.spare M.limit core.old s l texts → IsUnpaid s session o why) }
+    ensures kept { OnErr result ((s : Store) (l : Log) (texts : Texts) → OwesFirst s session → Holds M.maps M.spare M.limit core.old s l texts → Holds M.maps M.spare M.limit core.new s l texts) }
     ensures room { OnOk result (MovesRoom session core.old.store.views core.new.store.views) }
     ensures seats { (other : ℕ) (place : Place) → HasSeat core.old.store.views place other → HasSeat core.new.store.views place other }
     ensures spare { (index : ℕ) → M.spare core.old.store.tables index ≤ M.spare core.new.store.tables index }
@@ -66,13 +66,13 @@ fn add_first<M: SortedMaps>(core: &mut CoreState<M>, session: u32) -> Result<Pre
 pub fn pay_first<M: SortedMaps>(core: &mut CoreState<M>, session: u32) -> Result<(), PayRefusal>
     requires session { IsSession session }
     requires next { core.old.next < 2 ^ 63 }
-    requires owes { (s : Store) × (l : Log) × (texts : List (List ℕ)) × Holds M.maps M.spare M.limit core.old s l texts × (o : OwesFirst s session)
+    requires owes { (s : Store) × (l : Log) × (texts : Texts) × Holds M.maps M.spare M.limit core.old s l texts × (o : OwesFirst s session)
         × CanStore (M.maps core.old.store.tables) (M.limit core.old.store.tables) (place_of o.first) (width o.first) }
-    ensures paid { OnOk result ((s : Store) (l : Log) (texts : List (List ℕ)) (a : Act) → Holds M.maps M.spare M.limit core.old s l texts → OwesFirst s session
+    ensures paid { OnOk result ((s : Store) (l : Log) (texts : Texts) (a : Act) → Holds M.maps M.spare M.limit core.old s l texts → OwesFirst s session
         → Holds M.maps M.spare M.limit core.new (does the_views s session Pays) (logs s session a Pays l) texts) }
-    ensures allowed { OnOk result ((s : Store) (l : Log) (texts : List (List ℕ)) (o : OwesFirst s session) → Holds M.maps M.spare M.limit core.old s l texts → Allows s session o × (get s.view (place_of o.first) ≡ None → ⊥)) }
-    ensures unpaid { IfErr result (λ why. (s : Store) (l : Log) (texts : List (List ℕ)) (o : OwesFirst s session) → Holds M.maps M.spare M.limit core.old s l texts → IsUnpaid s session o why) }
-    ensures kept { OnErr result ((s : Store) (l : Log) (texts : List (List ℕ)) → OwesFirst s session → Holds M.maps M.spare M.limit core.old s l texts → Holds M.maps M.spare M.limit core.new s l texts) }
+    ensures allowed { OnOk result ((s : Store) (l : Log) (texts : Texts) (o : OwesFirst s session) → Holds M.maps M.spare M.limit core.old s l texts → Allows s session o × (get s.view (place_of o.first) ≡ None → ⊥)) }
+    ensures unpaid { IfErr result (λ why. (s : Store) (l : Log) (texts : Texts) (o : OwesFirst s session) → Holds M.maps M.spare M.limit core.old s l texts → IsUnpaid s session o why) }
+    ensures kept { OnErr result ((s : Store) (l : Log) (texts : Texts) → OwesFirst s session → Holds M.maps M.spare M.limit core.old s l texts → Holds M.maps M.spare M.limit core.new s l texts) }
     ensures rest { core.new ≡ record core.old { store = core.new.store; book = core.new.book; wants = core.new.wants; next = core.new.next } }
 {
     core.book.book_law();

@@ -7,7 +7,7 @@ ghost use Rattle.txn_machine.specs.Ghosts.{the_views};
 ghost use Rattle.txn_machine.specs.Log.{Log, logs};
 ghost use Rattle.txn_machine.specs.May.{IsOpen};
 ghost use Rattle.txn_machine.specs.Store.{Store, Takes, does};
-ghost use Rattle.core_state.specs.Stands.{Holds};
+ghost use Rattle.core_state.specs.Stands.{Holds, Texts};
 ghost use Rattle.core_effects.specs.Owing.{OwesNone};
 
 use core_state::CoreState;
@@ -19,7 +19,7 @@ pub fn take<M: SortedMaps>(core: &mut CoreState<M>, session: u32, wants: WantLis
     requires session { IsSession session }
     requires free { IsFree (locks_of core.old.locks) session wants }
     requires reserved { AddAtMost (room_of core.old.locks session) (locks_of core.old.locks session) wants }
-    ensures holds { (s : Store) (l : Log) (texts : List (List ℕ)) (a : Act) → Holds M.maps M.spare M.limit core.old s l texts → IsOpen s session → OwesNone core.old.book session
+    ensures holds { (s : Store) (l : Log) (texts : Texts) (a : Act) → Holds M.maps M.spare M.limit core.old s l texts → IsOpen s session → OwesNone core.old.book session
         → Holds M.maps M.spare M.limit core.new (does the_views s session (Takes wants)) (logs s session a (Takes wants) l) texts }
     ensures own { waiting_of core.new.locks session ≡ [] }
     ensures others { (other : ℕ) → other ≢ session → waiting_of core.new.locks other ≡ waiting_of core.old.locks other }

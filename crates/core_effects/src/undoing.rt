@@ -12,7 +12,7 @@ ghost use Rattle.txn_machine.specs.Deltas.{place_of};
 ghost use Rattle.txn_machine.specs.Ghosts.{the_views};
 ghost use Rattle.txn_machine.specs.Log.{Log, logs};
 ghost use Rattle.txn_machine.specs.Store.{Store, Undoes, does, schema_of};
-ghost use Rattle.core_state.specs.Stands.{Holds};
+ghost use Rattle.core_state.specs.Stands.{Holds, Texts};
 ghost use Rattle.core_effects.specs.Undoing.{KeepsPay, KeepsPut, KeepsOne, FitsBack, CanGoBack, IsPay};
 
 use core_state::CoreState;
@@ -41,9 +41,9 @@ fn let_go(kept: Option<Kept>) {
 fn undo_pay<M: SortedMaps>(core: &mut CoreState<M>, session: u32)
     requires session { IsSession session }
     requires next { core.old.next < 2 ^ 63 }
-    requires keeps { (s : Store) × (l : Log) × (texts : List (List ℕ)) × Holds M.maps M.spare M.limit core.old s l texts × (o : KeepsPay s session)
+    requires keeps { (s : Store) × (l : Log) × (texts : Texts) × Holds M.maps M.spare M.limit core.old s l texts × (o : KeepsPay s session)
         × CanStore (M.maps core.old.store.tables) (M.limit core.old.store.tables) (place_of o.latest) (width o.latest) }
-    ensures holds { (s : Store) (l : Log) (texts : List (List ℕ)) (a : Act) → Holds M.maps M.spare M.limit core.old s l texts → KeepsPay s session
+    ensures holds { (s : Store) (l : Log) (texts : Texts) (a : Act) → Holds M.maps M.spare M.limit core.old s l texts → KeepsPay s session
         → Holds M.maps M.spare M.limit core.new (does the_views s session Undoes) (logs s session a Undoes l) texts }
     ensures rest { core.new ≡ record core.old { store = core.new.store; book = core.new.book; next = core.new.next } }
 {
@@ -61,9 +61,9 @@ fn undo_pay<M: SortedMaps>(core: &mut CoreState<M>, session: u32)
 fn undo_put<M: SortedMaps>(core: &mut CoreState<M>, session: u32)
     requires session { IsSession session }
     requires next { core.old.next < 2 ^ 63 }
-    requires keeps { (s : Store) × (l : Log) × (texts : List (List ℕ)) × Holds M.maps M.spare M.limit core.old s l texts × (o : KeepsPut s session)
+    requires keeps { (s : Store) × (l : Log) × (texts : Texts) × Holds M.maps M.spare M.limit core.old s l texts × (o : KeepsPut s session)
         × FitsBack (M.maps core.old.store.tables) (M.limit core.old.store.tables) (schema_of s) o.change }
-    ensures holds { (s : Store) (l : Log) (texts : List (List ℕ)) (a : Act) → Holds M.maps M.spare M.limit core.old s l texts → KeepsPut s session
+    ensures holds { (s : Store) (l : Log) (texts : Texts) (a : Act) → Holds M.maps M.spare M.limit core.old s l texts → KeepsPut s session
         → Holds M.maps M.spare M.limit core.new (does the_views s session Undoes) (logs s session a Undoes l) texts }
     ensures rest { core.new ≡ record core.old { store = core.new.store; book = core.new.book; ahead = core.new.ahead; next = core.new.next } }
 {
@@ -99,9 +99,9 @@ fn is_pay(txn: &Open) -> bool
 pub fn undo<M: SortedMaps>(core: &mut CoreState<M>, session: u32)
     requires session { IsSession session }
     requires next { core.old.next < 2 ^ 63 }
-    requires keeps { (s : Store) × (l : Log) × (texts : List (List ℕ)) × Holds M.maps M.spare M.limit core.old s l texts × (o : KeepsOne s session)
+    requires keeps { (s : Store) × (l : Log) × (texts : Texts) × Holds M.maps M.spare M.limit core.old s l texts × (o : KeepsOne s session)
         × CanGoBack (M.maps core.old.store.tables) (M.limit core.old.store.tables) s session o }
-    ensures holds { (s : Store) (l : Log) (texts : List (List ℕ)) (a : Act) → Holds M.maps M.spare M.limit core.old s l texts → KeepsOne s session
+    ensures holds { (s : Store) (l : Log) (texts : Texts) (a : Act) → Holds M.maps M.spare M.limit core.old s l texts → KeepsOne s session
         → Holds M.maps M.spare M.limit core.new (does the_views s session Undoes) (logs s session a Undoes l) texts }
     ensures rest { core.new ≡ record core.old { store = core.new.store; book = core.new.book; ahead = core.new.ahead; next = core.new.next } }
 {

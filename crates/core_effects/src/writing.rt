@@ -5,7 +5,7 @@ ghost use Rattle.txn_machine.specs.Acts.{Act};
 ghost use Rattle.txn_machine.specs.Ghosts.{the_views};
 ghost use Rattle.txn_machine.specs.Log.{Log, logs};
 ghost use Rattle.txn_machine.specs.Store.{Store, Writes, does};
-ghost use Rattle.core_state.specs.Stands.{Holds};
+ghost use Rattle.core_state.specs.Stands.{Holds, Texts};
 ghost use Rattle.core_effects.specs.Writing.{CanWrite};
 
 use core_state::CoreState;
@@ -39,8 +39,8 @@ pub struct Writing {
 pub fn write<M: SortedMaps>(core: &mut CoreState<M>, session: u32, writing: Writing)
     requires session { IsSession session }
     requires next { core.old.next < 2 ^ 63 }
-    requires can { (s : Store) × (l : Log) × (texts : List (List ℕ)) × Holds M.maps M.spare M.limit core.old s l texts × CanWrite M.maps M.spare M.limit s core.old session writing }
-    ensures holds { (s : Store) (l : Log) (texts : List (List ℕ)) (a : Act) → Holds M.maps M.spare M.limit core.old s l texts → CanWrite M.maps M.spare M.limit s core.old session writing
+    requires can { (s : Store) × (l : Log) × (texts : Texts) × Holds M.maps M.spare M.limit core.old s l texts × CanWrite M.maps M.spare M.limit s core.old session writing }
+    ensures holds { (s : Store) (l : Log) (texts : Texts) (a : Act) → Holds M.maps M.spare M.limit core.old s l texts → CanWrite M.maps M.spare M.limit s core.old session writing
         → Holds M.maps M.spare M.limit core.new (does the_views s session (Writes (writing.ready.kept.change.table, writing.ready.kept.change.key) writing.ready.kept.change.after))
         (logs s session a (Writes (writing.ready.kept.change.table, writing.ready.kept.change.key) writing.ready.kept.change.after) l) texts }
     ensures rest { core.new ≡ record core.old { store = record core.old.store { tables = core.new.store.tables; pending = core.new.store.pending }; book = core.new.book; wants = core.new.wants; ahead = core.new.ahead; next = core.new.next } }

@@ -124,6 +124,7 @@ module _ {M : Type 0} (maps : M → ℕ → Map) (spare : M → ℕ → ℕ) (li
       locks = λ j js. subst (HasLocks (table.locks_of core.locks j)) (sym (locks_same s.store.open_of i (Some (machine.begun mode number)) (ap (λ o. (unwrap_or o idle).locks) (sym none)) j)) (h.holds.locks j js);
       begun = begun_is_more;
       next = h.holds.next;
+      texts = h.holds.texts;
       row_mark = h.holds.row_mark;
       delta_mark = h.holds.delta_mark;
       most = h.holds.most;
@@ -133,7 +134,7 @@ module _ {M : Type 0} (maps : M → ℕ → Map) (spare : M → ℕ → ℕ) (li
           (begun mode (number_of core.book) id) good is h.holds.rooms changes (λ index. omega arith) (elsewhere_same i core.store.views core.locks core.wants) (covered_begun core.store.catalog core.store.views core.locks (wants_at core.wants i) i mode (number_of core.book) id);
     };
     reserves = record {
-      data_room = reserved_one (schema_of s.store) s.store.open_of s.log.logged (with_one s.log.logged i (begins mode s.log)) i (Some (machine.begun mode number)) (begins mode s.log) (λ j. refl) core.data_room s.definitions
+      data_room = reserved_one (schema_of s.store) s.store.open_of s.log.logged (with_one s.log.logged i (begins mode s.log)) i (Some (machine.begun mode number)) (begins mode s.log) (λ j. refl) core.data_room
           (begun_keeps mode ∙ sym (ap (λ o. room_kept (schema_of s.store) o (s.log.logged i).ghosted) none)) h.reserves.data_room;
       log_room = log_room;
     };

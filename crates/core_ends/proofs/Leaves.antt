@@ -26,7 +26,7 @@ use Rattle.txn_machine.specs.Log.{Log, Logged, logs, log_all, appended, not_logg
 use Rattle.txn_machine.specs.State.{State, is_fault}
 use Rattle.txn_machine.specs.May.{IsOpen, IsReady}
 use Rattle.txn_machine.specs.Deltas.{RowChange}
-use Rattle.txn_machine.specs.Steps.{Says, CommitsAs, number_unchanged, log_after, definitions_after}
+use Rattle.txn_machine.specs.Steps.{Says, CommitsAs, number_unchanged, log_after, definitions_after, texts_of}
 use Rattle.txn_machine.proofs.Basics.{one_same, one_other}
 use Rattle.txn_machine.proofs.LogRoom.{logs_logged}
 use Rattle.txn_machine.proofs.Looking.{view_laws}
@@ -49,7 +49,8 @@ use Rattle.data_room.specs.declared.room.DataRoom.{DataRoom}
 use Rattle.data_room.proofs.Kept.{reserved_moved, settled_moves}
 use Rattle.log_room.specs.Rooms.{IsRoomOf}
 use Rattle.log_room.specs.declared.room.LogRoom.{LogRoom}
-use Rattle.core_state.specs.Stands.{IsOpening, Began, Told, Holds, Reserves, Counts, is_blocked}
+use Rattle.core_state.specs.Stands.{IsOpening, Began, Told, Holds, Reserves, Counts, is_blocked, HasTexts, its_texts}
+use Rattle.core_state.proofs.Texts.{same_texts}
 use Rattle.core_state.proofs.Data.{data_holds, log_holds}
 use Rattle.core_state.proofs.Unchanged.{not_blocked}
 use Rattle.core_state.specs.declared.state.CoreState.{CoreState}
@@ -142,6 +143,7 @@ module _ {M : Type 0} (maps : M → ℕ → Map) (spare : M → ℕ → ℕ) (li
       locks = left_locks (with_txn s.store i None) (λ j. refl);
       begun = begun ∙ h.holds.begun;
       next = next ∙ (ap (λ n. cond (s.log.logged i).wrote (n + 1) n) h.holds.next ∙ sym (appended_next (schema_of s.store) (Abort (s.log.logged i).transaction) (with_logged s.log i not_logged) (s.log.logged i).wrote));
+      texts = subst (λ ds. HasTexts (maps new.store.tables 0) ds (texts_of s)) (sym catalog) (same_texts (maps core.store.tables 0) (maps new.store.tables 0) core.store.catalog (texts_of s) h.holds.texts (ap (λ t. maps t 0) tables));
       row_mark = row_mark ∙ h.holds.row_mark;
       delta_mark = delta_mark ∙ h.holds.delta_mark;
       most = left_most;
@@ -155,7 +157,7 @@ module _ {M : Type 0} (maps : M → ℕ → Map) (spare : M → ℕ → ℕ) (li
     same_data = same_data;
     same_log = same_log;
     reserves = λ a room same moves. reserved_moved (schema_of s.store) s.store.open_of s.log.logged (log_all s.store i a (Ends ∷ []) s.log).logged i None not_logged (λ j. ap (λ (f : ℕ → Logged). f j) (logs_logged s.store i a Ends s.log))
-        core.data_room room s.definitions is same h.reserves.data_room moves;
+        core.data_room room is same h.reserves.data_room moves;
     appends_one = λ a. subst (λ n. n ≤ s.log.next + 1) (sym (appended_next (schema_of s.store) (Abort (s.log.logged i).transaction) (with_logged s.log i not_logged) (s.log.logged i).wrote)) (next_few (s.log.logged i).wrote s.log.next);
   }
 
@@ -181,6 +183,7 @@ module _ {M : Type 0} (maps : M → ℕ → Map) (spare : M → ℕ → ℕ) (li
           locks = left_locks u (λ j. refl);
           begun = begun ∙ h.holds.begun;
           next = next ∙ ap (λ n. n + 1) h.holds.next;
+          texts = subst (λ ds. HasTexts (maps new.store.tables 0) ds (texts_of s)) (sym catalog) (same_texts (maps core.store.tables 0) (maps new.store.tables 0) core.store.catalog (texts_of s) h.holds.texts (ap (λ t. maps t 0) tables));
           row_mark = row_mark ∙ h.holds.row_mark;
           delta_mark = delta_mark ∙ h.holds.delta_mark;
           most = left_most;
@@ -194,9 +197,9 @@ module _ {M : Type 0} (maps : M → ℕ → Map) (spare : M → ℕ → ℕ) (li
         same_data = same_data;
         same_log = same_log;
         reserves = λ a room same moves.
-            subst (λ os. IsReserved room os (with_one s.store.open_of i None) (log_all s.store i a (Commits ∷ []) s.log).logged s.definitions) (sym objects)
+            subst (λ os. IsReserved room os (with_one s.store.open_of i None) (log_all s.store i a (Commits ∷ []) s.log).logged) (sym objects)
             (reserved_moved (schema_of s.store) s.store.open_of s.log.logged (log_all s.store i a (Commits ∷ []) s.log).logged i None not_logged (λ j. ap (λ (f : ℕ → Logged). f j) (logs_logged s.store i a Commits s.log))
-            core.data_room room s.definitions is same h.reserves.data_room moves);
+            core.data_room room is same h.reserves.data_room moves);
         appends_one = λ a. omega arith;
       }
 
@@ -214,15 +217,14 @@ left_told {M} maps spare limit core new room log s i a said e h is left same non
   runs = h.runs;
   effects = e ∷ [];
   says = says;
-  holds = subst (λ ds. Holds maps spare limit last (run the_views s.store i (e ∷ [])) (log_after s i a said (e ∷ [])) ds) (sym definitions)
-      (subst (λ l. Holds maps spare limit last (run the_views s.store i (e ∷ [])) l s.definitions) (sym logs_same)
-      (log_holds maps spare limit (record new { data_room = room }) log (run the_views s.store i (e ∷ [])) (log_all s.store i a (e ∷ []) s.log) s.definitions
-      (data_holds maps spare limit new room (run the_views s.store i (e ∷ [])) (log_all s.store i a (e ∷ []) s.log) s.definitions same (left.holds a))));
-  reserves = subst (λ ds. Reserves maps spare limit last (run the_views s.store i (e ∷ [])) (log_after s i a said (e ∷ [])) ds) (sym definitions)
-      (subst (λ l. Reserves maps spare limit last (run the_views s.store i (e ∷ [])) l s.definitions) (sym logs_same) (record {
-        data_room = left.reserves a room (same ∙ ap (λ (d : DataRoom). d.limit) left.same_data) (settled_moves core.data_room new.data_room room i left.same_data none others total);
-        log_room = moves (subst (λ (x : LogRoom). IsRoomOf x s.store s.log) (sym left.same_log) h.reserves.log_room);
-      }));
+  holds = subst (λ ds. Holds maps spare limit last (run the_views s.store i (e ∷ [])) (log_after s i a said (e ∷ [])) (record { before = s.opening.definitions; since = ds })) (sym definitions)
+      (subst (λ l. Holds maps spare limit last (run the_views s.store i (e ∷ [])) l (its_texts s)) (sym logs_same)
+      (log_holds maps spare limit (record new { data_room = room }) log (run the_views s.store i (e ∷ [])) (log_all s.store i a (e ∷ []) s.log) (its_texts s)
+      (data_holds maps spare limit new room (run the_views s.store i (e ∷ [])) (log_all s.store i a (e ∷ []) s.log) (its_texts s) same (left.holds a))));
+  reserves = subst (λ l. Reserves maps spare limit last (run the_views s.store i (e ∷ [])) l) (sym logs_same) (record {
+    data_room = left.reserves a room (same ∙ ap (λ (d : DataRoom). d.limit) left.same_data) (settled_moves core.data_room new.data_room room i left.same_data none others total);
+    log_room = moves (subst (λ (x : LogRoom). IsRoomOf x s.store s.log) (sym left.same_log) h.reserves.log_room);
+  });
   own = λ sessions b. absurd (not_blocked said sessions b not);
   none = λ _ _. left.own;
   waiting = λ j js n. left.others j n ∙ h.waiting j js n;

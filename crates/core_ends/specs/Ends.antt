@@ -14,7 +14,7 @@ use Rattle.txn_machine.specs.May.{IsOpen}
 use Rattle.txn_machine.specs.State.{State}
 use Rattle.data_room.specs.Reserved.{Where, IsReserved, Moves}
 use Rattle.data_room.specs.declared.room.DataRoom.{DataRoom}
-use Rattle.core_state.specs.Stands.{Holds, Counts}
+use Rattle.core_state.specs.Stands.{Holds, Counts, its_texts}
 use Rattle.core_state.specs.declared.state.CoreState.{CoreState}
 
 -- the number in the log of a transaction of a mode, the latest of so many
@@ -43,14 +43,14 @@ pub record EndsAs (s : Store) (l : Log) (session : ℕ) (mode : Mode) (wrote : B
 -- The core holds what one effect of a session leaves that ends its transaction, whatever the act; the session waits for nothing, and
 -- the others for what they waited for.
 pub record Left {M : Type 0} (maps : M → ℕ → Map) (spare : M → ℕ → ℕ) (limit : M → Option ℕ) (s : State) (session : ℕ) (e : Effect) (old new : CoreState M) : Type 0 where
-  pub holds : (a : Act) → Holds maps spare limit new (run the_views s.store session (e ∷ [])) (log_all s.store session a (e ∷ []) s.log) s.definitions
+  pub holds : (a : Act) → Holds maps spare limit new (run the_views s.store session (e ∷ [])) (log_all s.store session a (e ∷ []) s.log) (its_texts s)
   pub own : table.waiting_of new.locks session ≡ []
   pub others : (other : ℕ) → other ≢ session → table.waiting_of new.locks other ≡ table.waiting_of old.locks other
   pub counts : Counts maps spare limit new s
   -- what is kept of the data is as before, and is what the machine says once nothing is kept for the session
   pub same_data : new.data_room ≡ old.data_room
   pub reserves : (a : Act) (room : DataRoom) → room.limit ≡ old.data_room.limit → Where old.data_room.limit (Moves old.data_room room session 0)
-      → IsReserved room (schema_of (run the_views s.store session (e ∷ []))) (run the_views s.store session (e ∷ [])).open_of (log_all s.store session a (e ∷ []) s.log).logged s.definitions
+      → IsReserved room (schema_of (run the_views s.store session (e ∷ []))) (run the_views s.store session (e ∷ [])).open_of (log_all s.store session a (e ∷ []) s.log).logged
   -- what is used and reserved of the log is as before
   pub same_log : new.log_room ≡ old.log_room
   pub appends_one : (a : Act) → (log_all s.store session a (e ∷ []) s.log).next ≤ s.log.next + 1

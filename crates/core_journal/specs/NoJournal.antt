@@ -11,8 +11,8 @@ use Rattle.core_journal.specs.declared.none.NoJournal.{NoJournal}
 abbrev pub has_any : NoJournal → Records → Type 0
 has_any journal rs = Unit {0}
 
-abbrev pub carries_any : NoJournal → Records → List Entry → ℕ → Type 0
-carries_any journal rs es used = Unit {0}
+abbrev pub carries_any : NoJournal → Records → ℕ → List Entry → ℕ → Type 0
+carries_any journal rs next es used = Unit {0}
 
 -- the limit that it was made with
 abbrev pub limit_of : NoJournal → Option ℕ

@@ -15,9 +15,9 @@ pub trait Journal {
     /// Whether it has these records.
     ghost has: { Self → Records → Type 0 };
 
-    /// Whether a checkpoint has begun, behind these records, that carries these, the latest first, which take so many bytes of
-    /// the area with those that begin and end their block.
-    ghost carries: { Self → Records → List Entry → ℕ → Type 0 };
+    /// Whether a checkpoint has begun, behind these records and with this number for the next one, that carries these, the latest
+    /// first, which take so many bytes of the area with those that begin and end their block.
+    ghost carries: { Self → Records → ℕ → List Entry → ℕ → Type 0 };
 
     /// The bytes of an area of its log, where there is such a limit.
     ghost limit: { Self → Option ℕ };
@@ -45,19 +45,20 @@ pub trait Journal {
         ensures err { OnErr result (Rose (faults self.old) (faults self.new)) }
         ensures limit { limit self.new ≡ limit self.old };
 
-    /// Begins a checkpoint, which is to take over all that its records say. It carries none yet.
+    /// Begins a checkpoint, which is to take over all that its records say. It carries none yet, and the next record is to have this
+    /// number.
     fn begin_checkpoint(&mut self, next: u64)
         requires few { (rs : Records) × has self.old rs × (rs.saves < 2 ^ 62) × Within (limit self.old) (block_bytes + 1) }
-        ensures carries { (rs : Records) → has self.old rs → carries self.new rs [] (block_bytes + 1) }
+        ensures carries { (rs : Records) → has self.old rs → carries self.new rs next [] (block_bytes + 1) }
         ensures limit { limit self.new ≡ limit self.old }
         ensures faults { faults self.new ≡ faults self.old };
 
     /// Carries a record under its number, for which the area has room.
     fn carry(&mut self, number: u64, lent: LentRecord<'_>)
         requires short { IsShort (stands_for lent) }
-        requires room { (rs : Records) × (es : List Entry) × (used : ℕ) × carries self.old rs es used × Within (limit self.old) (used + length (spelling number (stands_for lent))) }
-        ensures carries { (rs : Records) (es : List Entry) (used : ℕ) → carries self.old rs es used
-            → carries self.new rs (record { number = number; entry = stands_for lent.entry } ∷ es) (used + length (spelling number (stands_for lent.entry))) }
+        requires room { (rs : Records) × (next : ℕ) × (es : List Entry) × (used : ℕ) × carries self.old rs next es used × Within (limit self.old) (used + length (spelling number (stands_for lent))) }
+        ensures carries { (rs : Records) (next : ℕ) (es : List Entry) (used : ℕ) → carries self.old rs next es used
+            → carries self.new rs next (record { number = number; entry = stands_for lent.entry } ∷ es) (used + length (spelling number (stands_for lent.entry))) }
         ensures limit { limit self.new ≡ limit self.old }
         ensures faults { faults self.new ≡ faults self.old };
 
@@ -69,14 +70,16 @@ pub trait Journal {
 /// is saved.
 pub trait Checkpoints<M: SortedMaps>: Journal {
     /// Saves the checkpoint: what the maps have of these definitions, with their greatest commit number. It has then no record but
-    /// those that it carries.
+    /// those that it carries, and that is what was saved last.
     ///
     /// # Errors
     ///
     /// Where the disk fails. It may have the checkpoint or not.
     fn save(&mut self, maps: &mut M, catalog: &Catalog, commits: u64) -> Result<(), DiskFault>
-        requires { (rs : Records) × (es : List Entry) × (used : ℕ) × Self.carries self.old rs es used × (M.limit maps.old ≡ rs.image_limit) }
-        ensures ok { OnOk result (((rs : Records) (es : List Entry) (used : ℕ) → Self.carries self.old rs es used → Self.has self.new (restarted rs used)) × (Self.faults self.new ≡ Self.faults self.old)) }
+        requires { (rs : Records) × (next : ℕ) × (es : List Entry) × (used : ℕ) × Self.carries self.old rs next es used × (M.limit maps.old ≡ rs.image_limit) }
+        ensures ok { OnOk result (((rs : Records) (next : ℕ) (es : List Entry) (used : ℕ) → Self.carries self.old rs next es used
+            → Self.has self.new (restarted rs (record { maps = M.maps maps.old; definitions = catalog.now; commits = commits; next = next; carried = es }) used))
+            × (Self.faults self.new ≡ Self.faults self.old)) }
         ensures err { OnErr result (Rose (Self.faults self.old) (Self.faults self.new)) }
         ensures maps { M.maps maps.new ≡ M.maps maps.old }
         ensures spare { M.spare maps.new ≡ M.spare maps.old }

@@ -38,7 +38,7 @@ use Rattle.data_store.specs.Held.{IsHeld}
 use Rattle.data_room.proofs.Kept.{reserved_one}
 use Rattle.data_room.proofs.Transactions.{now_room}
 use Rattle.log_room.specs.Rooms.{SameRoomLaw}
-use Rattle.core_state.specs.Stands.{Began, Told, Holds, Reserves}
+use Rattle.core_state.specs.Stands.{Began, Told, Holds, Reserves, its_texts}
 use Rattle.core_state.specs.declared.state.CoreState.{CoreState}
 use Rattle.lock_desk.specs.PayWants.{wants_at}
 use Rattle.data_past.proofs.Aheads.{ahead_loses}
@@ -121,8 +121,8 @@ module _ {M : Type 0} (maps : M → ℕ → Map) (spare : M → ℕ → ℕ) (li
         }),
         refl,
       );
-      holds = subst (λ ds. Holds maps spare limit (record core { locks = after; wants = back }) s.store (log_after s i a (answer.Blocked sessions) []) ds) (sym (plain_definitions s.definitions a (answer.Blocked sessions) asks.0))
-          (subst (λ l. Holds maps spare limit (record core { locks = after; wants = back }) s.store l s.definitions) (sym same_log) (record {
+      holds = subst (λ ds. Holds maps spare limit (record core { locks = after; wants = back }) s.store (log_after s i a (answer.Blocked sessions) []) (record { before = s.opening.definitions; since = ds })) (sym (plain_definitions s.definitions a (answer.Blocked sessions) asks.0))
+          (subst (λ l. Holds maps spare limit (record core { locks = after; wants = back }) s.store l (its_texts s)) (sym same_log) (record {
             stored = h.holds.stored;
             book = h.holds.book;
             locks = λ k is. by_session k i
@@ -130,6 +130,7 @@ module _ {M : Type 0} (maps : M → ℕ → Map) (spare : M → ℕ → ℕ) (li
                 (λ n. subst (λ (x : SessionLocks). HasLocks x.locks (locks_of s.store k)) (sym (recorded.others k n)) (h.holds.locks k is));
             begun = h.holds.begun;
             next = h.holds.next;
+            texts = h.holds.texts;
             row_mark = h.holds.row_mark;
             delta_mark = h.holds.delta_mark;
             most = h.holds.most;
@@ -137,8 +138,7 @@ module _ {M : Type 0} (maps : M → ℕ → Map) (spare : M → ℕ → ℕ) (li
             ahead = h.holds.ahead;
             rooms = rooms;
           }));
-      reserves = subst (λ ds. Reserves maps spare limit (record core { locks = after; wants = back }) s.store (log_after s i a (answer.Blocked sessions) []) ds) (sym (plain_definitions s.definitions a (answer.Blocked sessions) asks.0))
-          (subst (λ l. Reserves maps spare limit (record core { locks = after; wants = back }) s.store l s.definitions) (sym same_log) (record { data_room = h.reserves.data_room; log_room = h.reserves.log_room }));
+      reserves = subst (λ l. Reserves maps spare limit (record core { locks = after; wants = back }) s.store l) (sym same_log) (record { data_room = h.reserves.data_room; log_room = h.reserves.log_room });
       own = λ all e. ap (λ (x : SessionLocks). x.waiting) recorded.changed ∙ sym asks.1;
       none = λ b. absurd (cc);
       waiting = λ k is n. ap (λ (x : SessionLocks). x.waiting) (recorded.others k n) ∙ h.waiting k is n;
@@ -168,8 +168,8 @@ module _ {M : Type 0} (maps : M → ℕ → Map) (spare : M → ℕ → ℕ) (li
         }),
         refl,
       );
-      holds = subst (λ ds. Holds maps spare limit (record core { book = after }) (with_txn s.store i (Some lost_one)) (log_after s i a (answer.Refused (refusal.Deadlock cycle)) (Loses ∷ [])) ds) (sym (plain_definitions s.definitions a (answer.Refused (refusal.Deadlock cycle)) asks.0))
-          (subst (λ l. Holds maps spare limit (record core { book = after }) (with_txn s.store i (Some lost_one)) l s.definitions) (sym same_log) (record {
+      holds = subst (λ ds. Holds maps spare limit (record core { book = after }) (with_txn s.store i (Some lost_one)) (log_after s i a (answer.Refused (refusal.Deadlock cycle)) (Loses ∷ [])) (record { before = s.opening.definitions; since = ds })) (sym (plain_definitions s.definitions a (answer.Refused (refusal.Deadlock cycle)) asks.0))
+          (subst (λ l. Holds maps spare limit (record core { book = after }) (with_txn s.store i (Some lost_one)) l (its_texts s)) (sym same_log) (record {
             stored = subst (IsHeld core.store.catalog (maps core.store.tables) core.store.views)
                 (contents_as (contents_of s.store) (contents_of (with_txn s.store i (Some lost_one))) refl refl refl (λ j. sym (kept_same s.store.open_of i (Some lost_one) refl j)))
                 h.holds.stored;
@@ -181,6 +181,7 @@ module _ {M : Type 0} (maps : M → ℕ → Map) (spare : M → ℕ → ℕ) (li
             locks = λ j js. subst (HasLocks (table.locks_of core.locks j)) (sym (locks_same s.store.open_of i (Some lost_one) refl j)) (h.holds.locks j js);
             begun = h.holds.begun;
             next = h.holds.next;
+            texts = h.holds.texts;
             row_mark = h.holds.row_mark;
             delta_mark = h.holds.delta_mark;
             most = h.holds.most;
@@ -190,12 +191,12 @@ module _ {M : Type 0} (maps : M → ℕ → Map) (spare : M → ℕ → ℕ) (li
                 (lost (txn_of own.txn)) good o.of_session h.holds.rooms changes (λ index. let same : gone_if index (open_at core.book.opens i) ≡ gone_if index (Some own.txn) = ap (gone_if index) own.there in omega (arith, same)) (elsewhere_same i core.store.views core.locks core.wants)
                 (covered_alike core.store.catalog core.store.views core.locks (wants_at core.wants i) i (txn_of own.txn) (lost (txn_of own.txn)) refl refl refl (h.holds.rooms.each i o.of_session own.txn own.there).small (h.holds.rooms.each i o.of_session own.txn own.there));
           }));
-      reserves = subst (λ ds. Reserves maps spare limit (record core { book = after }) (with_txn s.store i (Some lost_one)) (log_after s i a (answer.Refused (refusal.Deadlock cycle)) (Loses ∷ [])) ds) (sym (plain_definitions s.definitions a (answer.Refused (refusal.Deadlock cycle)) asks.0))
-          (subst (λ l. Reserves maps spare limit (record core { book = after }) (with_txn s.store i (Some lost_one)) l s.definitions) (sym same_log) (record {
+      reserves = subst (λ l. Reserves maps spare limit (record core { book = after }) (with_txn s.store i (Some lost_one)) l) (sym same_log)
+          (record {
             data_room = reserved_one (schema_of s.store) s.store.open_of s.log.logged (logs s.store i a Loses s.log).logged i (Some lost_one) (s.log.logged i) (λ j. ap (λ (f : ℕ → Logged). f j) (logs_logged s.store i a Loses s.log))
-                core.data_room s.definitions (now_room (schema_of s.store) (s.store.open_of i) (s.log.logged i).ghosted) h.reserves.data_room;
+                core.data_room (now_room (schema_of s.store) (s.store.open_of i) (s.log.logged i).ghosted) h.reserves.data_room;
             log_room = law.deadlocks core.log_room s.store s.log i a o.of_session (o.is_open ∙ ap Some (sym (now_is maps spare limit core s i h o))) h.reserves.log_room;
-          }));
+          });
       own = λ sessions e. absurd (cc);
       none = λ _ is. h.own is;
       waiting = h.waiting;

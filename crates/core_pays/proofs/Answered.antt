@@ -40,7 +40,7 @@ use Rattle.data_room.proofs.Kept.{reserved_one, reserved_back}
 use Rattle.data_room.proofs.Transactions.{now_room, paid_room}
 use Rattle.log_room.specs.Rooms as log
 use Rattle.log_room.specs.Rooms.{IsRoomOf, SameRoomLaw}
-use Rattle.core_state.specs.Stands.{Told, Holds, Reserves}
+use Rattle.core_state.specs.Stands.{Told, Holds, Reserves, its_texts}
 use Rattle.core_state.specs.declared.state.CoreState.{CoreState}
 use Rattle.core_state.proofs.Sessions.{kept_same}
 use Rattle.core_effects.specs.Owing.{OwesFirst, Allows, IsUnpaid}
@@ -107,7 +107,7 @@ module _ {M : Type 0} (maps : M → ℕ → Map) (spare : M → ℕ → ℕ) (li
 
   module _ (new : CoreState M) (u : IsUnderway maps spare limit s i new) where
     pub paid_told : (left : ℕ) → left ≡ length h.owes.others → Allows between i the_first → (get s.store.view (place_of h.owes.first) ≡ None → ⊥)
-        → Holds maps spare limit new (does the_views between i Pays) (logs between i act.Pay Pays log_between) s.definitions → Reserves maps spare limit new (does the_views between i Pays) (logs between i act.Pay Pays log_between) s.definitions → Told maps spare limit s i act.Pay (answer.Paid left) new
+        → Holds maps spare limit new (does the_views between i Pays) (logs between i act.Pay Pays log_between) (its_texts s) → Reserves maps spare limit new (does the_views between i Pays) (logs between i act.Pay Pays log_between) → Told maps spare limit s i act.Pay (answer.Paid left) new
     paid_told left left_is allowed there holds reserves =
         told_by maps spare limit new s i u act.Pay (answer.Paid left) (Takes (asked s.store i act.Pay) ∷ Pays ∷ [])
         (record {
@@ -118,7 +118,7 @@ module _ {M : Type 0} (maps : M → ℕ → Map) (spare : M → ℕ → ℕ) (li
           effects = refl;
         }) holds reserves refl refl (omega arith) (next_few (schema_of between) _ _)
 
-    pub unpaid_told : (why : PayRefusal) → IsUnpaid between i the_first why → Holds maps spare limit new between log_between s.definitions → Reserves maps spare limit new between log_between s.definitions → Told maps spare limit s i act.Pay (unpaid_as why) new
+    pub unpaid_told : (why : PayRefusal) → IsUnpaid between i the_first why → Holds maps spare limit new between log_between (its_texts s) → Reserves maps spare limit new between log_between → Told maps spare limit s i act.Pay (unpaid_as why) new
     unpaid_told Absent absent holds reserves =
         told_by maps spare limit new s i u act.Pay answer.NeedsGhost (Takes (asked s.store i act.Pay) ∷ []) (record { pays = pays_it; absent = absent; effects = refl }) holds reserves refl refl (omega arith) (omega arith)
     unpaid_told (Escrow column low high) refused holds reserves =
@@ -137,10 +137,10 @@ module _ {M : Type 0} (maps : M → ℕ → Map) (spare : M → ℕ → ℕ) (li
   session = h.owes.goes_on.of_session
 
   -- the lock moves nothing
-  pub between_reserves : IsReserved core.data_room (schema_of s.store) between.open_of log_between.logged s.definitions
+  pub between_reserves : IsReserved core.data_room (schema_of s.store) between.open_of log_between.logged
   between_reserves =
       reserved_one (schema_of s.store) s.store.open_of s.log.logged log_between.logged i (Some with_lock) (s.log.logged i) (λ j. ap (λ (f : ℕ → Logged). f j) (logs_logged s.store i act.Pay (Takes (asked s.store i act.Pay)) s.log))
-      core.data_room s.definitions (now_room (schema_of s.store) (s.store.open_of i) (s.log.logged i).ghosted) h.reserves.data_room
+      core.data_room (now_room (schema_of s.store) (s.store.open_of i) (s.log.logged i).ghosted) h.reserves.data_room
 
   -- nor does it in the log
   pub between_logged : SameRoomLaw → IsRoomOf core.log_room between log_between
@@ -171,7 +171,7 @@ module _ {M : Type 0} (maps : M → ℕ → Map) (spare : M → ℕ → ℕ) (li
 
   pub few_left : length h.owes.others < 2 ^ 32
   few_left =
-      let mine : Has (schema_of between) (open_at core.book.opens i) (now between i) (log_between.logged i) = own maps spare limit core between log_between s.definitions i h.holds the_first.is_open in
+      let mine : Has (schema_of between) (open_at core.book.opens i) (now between i) (log_between.logged i) = own maps spare limit core between log_between (its_texts s) i h.holds the_first.is_open in
       let small : mine.txn.txn_bytes ≤ most_of_transaction = (h.holds.rooms.each i h.owes.goes_on.of_session mine.txn mine.there).small in
       let bytes : mine.txn.txn_bytes ≡ sum (map (note_size (schema_of between)) (now between i).notes) + sum (map (kept_size (schema_of between)) (now between i).kept) = mine.is.txn_bytes in
       let same : sum (map (kept_size (schema_of between)) (now between i).kept) ≡ sum (map (kept_size (schema_of s.store)) (now s.store i).kept) = ap (λ (x : Open). sum (map (kept_size (schema_of s.store)) x.kept)) same_now in
@@ -192,23 +192,23 @@ module _ {M : Type 0} (maps : M → ℕ → Map) (spare : M → ℕ → ℕ) (li
 
   pub paid_reserved : (room was : DataRoom) (bytes : ℕ) → was ≡ core.data_room → room.limit ≡ was.limit → bytes ≡ min (first_bytes (log_between.logged i).ghosted h.owes.first) (2 ^ 64 - 1)
       → share_at was.shares i < 2 ^ 64 → share_at room.shares i ≡ share_at was.shares i - bytes → ((j : ℕ) → j ≢ i → share_at room.shares j ≡ share_at was.shares j) → room.total ≡ was.total - (share_at was.shares i - share_at room.shares i)
-      → IsReserved room (schema_of (does the_views between i Pays)) (does the_views between i Pays).open_of (logs between i act.Pay Pays log_between).logged s.definitions
+      → IsReserved room (schema_of (does the_views between i Pays)) (does the_views between i Pays).open_of (logs between i act.Pay Pays log_between).logged
   paid_reserved room was bytes same same_limit bytes_are small mine others total =
-      subst (λ (u : Store). IsReserved room (schema_of u) u.open_of (logs between i act.Pay Pays log_between).logged s.definitions) (sym after_is)
+      subst (λ (u : Store). IsReserved room (schema_of u) u.open_of (logs between i act.Pay Pays log_between).logged) (sym after_is)
       (reserved_back (schema_of s.store) between.open_of log_between.logged (logs between i act.Pay Pays log_between).logged i (Some paid_one) (keeps (log_between.logged i) log_between.next) (λ j. ap (λ (f : ℕ → Logged). f j) (logs_logged between i act.Pay Pays log_between))
-      core.data_room was room s.definitions session between_reserves same same_limit bytes (first_bytes (log_between.logged i).ghosted h.owes.first) bytes_are
+      core.data_room was room session between_reserves same same_limit bytes (first_bytes (log_between.logged i).ghosted h.owes.first) bytes_are
       (paid_room (schema_of s.store) (now between i) (log_between.logged i).ghosted h.owes.first h.owes.others the_first.owed_is the_first.none_back ∙ now_room (schema_of s.store) (between.open_of i) (log_between.logged i).ghosted)
       small mine others total)
 
-  mine_after : (new : CoreState M) (l : Log) → Holds maps spare limit new (does the_views between i Pays) l s.definitions → Has (schema_of store_after) (open_at new.book.opens i) (now store_after i) (l.logged i)
+  mine_after : (new : CoreState M) (l : Log) → Holds maps spare limit new (does the_views between i Pays) l (its_texts s) → Has (schema_of store_after) (open_at new.book.opens i) (now store_after i) (l.logged i)
   mine_after new l holds =
-      own maps spare limit new store_after l s.definitions i (subst (λ u. Holds maps spare limit new u l s.definitions) after_is holds)
+      own maps spare limit new store_after l (its_texts s) i (subst (λ u. Holds maps spare limit new u l (its_texts s)) after_is holds)
       (record { of_session = h.owes.goes_on.of_session; transaction = paid_one; is_open = one_same between.open_of i (Some paid_one) i refl })
 
-  pub is_there : (new : CoreState M) (l : Log) → Holds maps spare limit new (does the_views between i Pays) l s.definitions → IsSome (open_at new.book.opens i)
+  pub is_there : (new : CoreState M) (l : Log) → Holds maps spare limit new (does the_views between i Pays) l (its_texts s) → IsSome (open_at new.book.opens i)
   is_there new l holds = subst IsSome (sym (mine_after new l holds).there) refl
 
-  pub left_is : (new : CoreState M) (l : Log) → Holds maps spare limit new (does the_views between i Pays) l s.definitions → (t : BookOpen) → open_at new.book.opens i ≡ Some t → length t.owed.items ≡ length h.owes.others
+  pub left_is : (new : CoreState M) (l : Log) → Holds maps spare limit new (does the_views between i Pays) l (its_texts s) → (t : BookOpen) → open_at new.book.opens i ≡ Some t → length t.owed.items ≡ length h.owes.others
   left_is new l holds t there =
       let mine = mine_after new l holds in
       let one : Some t ≡ Some mine.txn = sym there ∙ mine.there in

@@ -19,7 +19,7 @@ use Rattle.txn_machine.specs.Steps.{asked, group_want, first_want}
 use Rattle.txn_machine.specs.Store.{now, schema_of}
 use Rattle.txn_machine.proofs.Shapes.{delta_law}
 use Rattle.core_state.specs.Rooms.{IsWanted, AreWanted}
-use Rattle.core_state.specs.Stands.{Began}
+use Rattle.core_state.specs.Stands.{Began, its_texts}
 use Rattle.core_state.specs.declared.state.CoreState.{CoreState}
 use Rattle.log_room.specs.Rooms as log
 use Rattle.core_effects.specs.Owing.{OwesFirst}
@@ -77,8 +77,8 @@ module _ {M : Type 0} (maps : M → ℕ → Map) (spare : M → ℕ → ℕ) (li
 
   pub firsts : AreFirst (table.room_of core.locks i) (table.locks_of core.locks i) (wants_at core.wants i) o.first o.others
   firsts =
-      let c = covered maps spare limit core s.store s.log s.definitions i h.holds owes_first in
-      let still = still_there maps spare limit core s.store s.log s.definitions i h.holds owes_first in
+      let c = covered maps spare limit core s.store s.log (its_texts s) i h.holds owes_first in
+      let still = still_there maps spare limit core s.store s.log (its_texts s) i h.holds owes_first in
       are_first (table.room_of core.locks i) (table.locks_of core.locks i) (wants_at core.wants i) o.first o.others
       (subst (λ ws. AreWanted (table.room_of core.locks i) (table.locks_of core.locks i) ws (wants_at core.wants i) (o.first ∷ o.others)) (h.own o.goes_on.of_session)
       (subst (AreWanted (table.room_of core.locks i) (table.locks_of core.locks i) (table.waiting_of core.locks i) (wants_at core.wants i)) still c.wanted))

@@ -22,7 +22,7 @@ use Rattle.data_room.specs.Reserved.{share_at, first_bytes, IsReserved}
 use Rattle.data_room.specs.declared.room.DataRoom.{DataRoom}
 use Rattle.data_room.proofs.Kept.{same_again, reserved_back}
 use Rattle.data_room.proofs.Transactions.{ghosted_room}
-use Rattle.core_state.specs.Stands.{Began, Told, Holds, Reserves}
+use Rattle.core_state.specs.Stands.{Began, Told, Holds, Reserves, its_texts}
 use Rattle.core_state.specs.declared.state.CoreState.{CoreState}
 use Rattle.core_effects.specs.Underway.{IsUnderway}
 use Rattle.lock_manager.specs.Table as table
@@ -48,24 +48,24 @@ module _ {M : Type 0} (maps : M → ℕ → Map) (spare : M → ℕ → ℕ) (li
   -- with what was kept for it given back
   pub ghosted_reserved : (l : Log) → l.logged ≡ with_one s.log.logged i (s.log.logged i) → (room was : DataRoom) (bytes : ℕ) → was ≡ core.data_room → room.limit ≡ was.limit → bytes ≡ min (first_bytes (s.log.logged i).ghosted o.first) (2 ^ 64 - 1)
       → share_at was.shares i < 2 ^ 64 → share_at room.shares i ≡ share_at was.shares i - bytes → ((j : ℕ) → j ≢ i → share_at room.shares j ≡ share_at was.shares j) → room.total ≡ was.total - (share_at was.shares i - share_at room.shares i)
-      → IsReserved room (schema_of s.store) s.store.open_of (with_ghost l i).logged s.definitions
+      → IsReserved room (schema_of s.store) s.store.open_of (with_ghost l i).logged
   ghosted_reserved l same_logged room was bytes same same_limit bytes_are small mine others total =
       let logged_is : l.logged ≡ s.log.logged = same_logged ∙ same_again s.log.logged i in
-      subst (λ (f : ℕ → Option Open). IsReserved room (schema_of s.store) f (with_ghost l i).logged s.definitions) (same_again s.store.open_of i)
+      subst (λ (f : ℕ → Option Open). IsReserved room (schema_of s.store) f (with_ghost l i).logged) (same_again s.store.open_of i)
       (reserved_back (schema_of s.store) s.store.open_of s.log.logged (with_ghost l i).logged i (s.store.open_of i) (record (s.log.logged i) { ghosted = true }) (λ j. ap (λ (f : ℕ → Logged). with_one f i (record (f i) { ghosted = true }) j) logged_is)
-      core.data_room was room s.definitions o.goes_on.of_session h.reserves.data_room same same_limit bytes (first_bytes (s.log.logged i).ghosted o.first) bytes_are
+      core.data_room was room o.goes_on.of_session h.reserves.data_room same same_limit bytes (first_bytes (s.log.logged i).ghosted o.first) bytes_are
       (subst (λ (x : Option Open). room_kept (schema_of s.store) x true + first_bytes (s.log.logged i).ghosted o.first ≡ room_kept (schema_of s.store) x (s.log.logged i).ghosted) (sym o.goes_on.is_open)
       (ghosted_room (schema_of s.store) o.goes_on.transaction (s.log.logged i).ghosted o.first o.others o.owed_is o.none_back))
       small mine others total)
 
 module _ {M : Type 0} (maps : M → ℕ → Map) (spare : M → ℕ → ℕ) (limit : M → Option ℕ) (core new : CoreState M) (s : State) (i : ℕ) (h : Began maps spare limit core s i) (o : Owes s.store i) (u : IsUnderway maps spare limit s i new) where
-  pub there_told : is_some (get s.store.view (place_of o.first)) ≡ true → Holds maps spare limit new s.store (with_ghost s.log i) s.definitions → Reserves maps spare limit new s.store (with_ghost s.log i) s.definitions → Told maps spare limit s i act.Ghost answer.Ghosted new
+  pub there_told : is_some (get s.store.view (place_of o.first)) ≡ true → Holds maps spare limit new s.store (with_ghost s.log i) (its_texts s) → Reserves maps spare limit new s.store (with_ghost s.log i) → Told maps spare limit s i act.Ghost answer.Ghosted new
   there_told there holds reserves =
       told_by maps spare limit new s i u act.Ghost answer.Ghosted [] (record { first = o.first; others = o.others; owed_is = owed_now maps spare limit core s i h o; effects = inr (there, refl) }) holds reserves refl refl (omega arith) (omega arith)
 
   pub made_told : get s.store.view (place_of o.first) ≡ None
-      → Holds maps spare limit new (does the_views s.store i (Ghosts (place_of o.first) (length (columns_of o.first)))) (with_ghost (logs s.store i act.Ghost (Ghosts (place_of o.first) (length (columns_of o.first))) s.log) i) s.definitions
-      → Reserves maps spare limit new (does the_views s.store i (Ghosts (place_of o.first) (length (columns_of o.first)))) (with_ghost (logs s.store i act.Ghost (Ghosts (place_of o.first) (length (columns_of o.first))) s.log) i) s.definitions
+      → Holds maps spare limit new (does the_views s.store i (Ghosts (place_of o.first) (length (columns_of o.first)))) (with_ghost (logs s.store i act.Ghost (Ghosts (place_of o.first) (length (columns_of o.first))) s.log) i) (its_texts s)
+      → Reserves maps spare limit new (does the_views s.store i (Ghosts (place_of o.first) (length (columns_of o.first)))) (with_ghost (logs s.store i act.Ghost (Ghosts (place_of o.first) (length (columns_of o.first))) s.log) i)
       → Told maps spare limit s i act.Ghost answer.Ghosted new
   made_told none holds reserves =
       told_by maps spare limit new s i u act.Ghost answer.Ghosted (Ghosts (place_of o.first) (length (columns_of o.first)) ∷ []) (record { first = o.first; others = o.others; owed_is = owed_now maps spare limit core s i h o; effects = inl (none, refl) }) holds reserves refl refl (omega arith) (omega arith)
@@ -78,5 +78,5 @@ ghosted_underway maps spare limit core middle new s i h one two =
     (λ js. (ap (λ x. table.waiting_of x.locks i) two ∙ ap (λ x. table.waiting_of x.locks i) one) ∙ h.own js) (λ j n. ap (λ x. table.waiting_of x.locks j) two ∙ ap (λ x. table.waiting_of x.locks j) one)
 
 -- a step that is under way, of a core that holds what it held, has begun
-pub began_by : {M : Type 0} (maps : M → ℕ → Map) (spare : M → ℕ → ℕ) (limit : M → Option ℕ) (new : CoreState M) (s : State) (i : ℕ) → IsUnderway maps spare limit s i new → Holds maps spare limit new s.store s.log s.definitions → Reserves maps spare limit new s.store s.log s.definitions → Began maps spare limit new s i
+pub began_by : {M : Type 0} (maps : M → ℕ → Map) (spare : M → ℕ → ℕ) (limit : M → Option ℕ) (new : CoreState M) (s : State) (i : ℕ) → IsUnderway maps spare limit s i new → Holds maps spare limit new s.store s.log (its_texts s) → Reserves maps spare limit new s.store s.log → Began maps spare limit new s i
 began_by maps spare limit new s i u holds reserves = record { reached = u.reached; opening = u.opening; runs = u.runs; holds = holds; reserves = reserves; own = u.own; waiting = u.waiting; counts = u.counts }

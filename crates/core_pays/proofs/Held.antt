@@ -24,7 +24,7 @@ use Rattle.txn_book.specs.Opens.{open_at}
 use Rattle.txn_book.specs.Txns.{txn_of}
 use Rattle.txn_book.specs.declared.open_table.Open.{Open as BookOpen}
 use Rattle.core_state.specs.Rooms.{AreWanted, HasRooms, still_owed}
-use Rattle.core_state.specs.Stands.{Began, Told, Holds}
+use Rattle.core_state.specs.Stands.{Began, Told, Holds, its_texts}
 use Rattle.core_state.specs.declared.state.CoreState.{CoreState}
 use Rattle.core_state.proofs.Rooms.{rooms_with}
 use Rattle.core_locks.specs.Asks.{Asks, others_wait}
@@ -45,10 +45,10 @@ module _ {M : Type 0} (maps : M → ℕ → Map) (spare : M → ℕ → ℕ) (li
   -- what the book has still to be paid
   still_all : (t : BookOpen) → open_at core.book.opens i ≡ Some t → still_owed (txn_of t) ≡ o.first ∷ o.others
   still_all t there =
-      let own = mine maps spare limit core s.store s.log s.definitions i h.holds (owes_first maps spare limit core s i h o) in
+      let own = mine maps spare limit core s.store s.log (its_texts s) i h.holds (owes_first maps spare limit core s i h o) in
       let one : Some t ≡ Some own.txn = sym there ∙ own.there in
       let same : t ≡ own.txn = cc in
-      ap (λ x. still_owed (txn_of x)) same ∙ still_there maps spare limit core s.store s.log s.definitions i h.holds (owes_first maps spare limit core s i h o)
+      ap (λ x. still_owed (txn_of x)) same ∙ still_there maps spare limit core s.store s.log (its_texts s) i h.holds (owes_first maps spare limit core s i h o)
 
   -- what stands ready where the first wants are taken out
   rooms_after : (after : Table) (back : List (List (List Want))) → ((j : ℕ) → j ≢ i → table.of_session after j ≡ table.of_session core.locks j) → ((j : ℕ) → j ≢ i → wants_at back j ≡ wants_at core.wants j)
@@ -106,8 +106,8 @@ module _ {M : Type 0} (maps : M → ℕ → Map) (spare : M → ℕ → ℕ) (li
               (λ _. granted_it.waiting) (λ j n. ap (λ (x : SessionLocks). x.waiting) (granted_it.others j n));
           owes = o;
           free = subst (IsFree s.store i) (sym (asked_is maps spare limit core s i h o)) free;
-          holds = subst (λ ws. Holds maps spare limit (record core { locks = after; wants = back }) (does the_views s.store i (Takes ws)) (logs s.store i act.Pay (Takes ws) s.log) s.definitions) (sym (asked_is maps spare limit core s i h o))
-              (taken_holds maps spare limit core s.store s.log s.definitions i h.holds (the_open maps spare limit core s i h o) act.Pay (want ∷ []) after back granted_it
+          holds = subst (λ ws. Holds maps spare limit (record core { locks = after; wants = back }) (does the_views s.store i (Takes ws)) (logs s.store i act.Pay (Takes ws) s.log) (its_texts s)) (sym (asked_is maps spare limit core s i h o))
+              (taken_holds maps spare limit core s.store s.log (its_texts s) i h.holds (the_open maps spare limit core s i h o) act.Pay (want ∷ []) after back granted_it
               (rooms_after after back granted_it.others others
               (subst (λ b. AreWanted (table.room_of after i) (table.locks_of after i) (table.waiting_of after i) b (o.first ∷ o.others)) (sym left_is)
               (inr (inl (refl, granted_it.waiting, (granted_it.locks want).1 (inr (0, omega arith, refl)), omega (arith, room, had))), first_there.3))));
@@ -136,7 +136,7 @@ module _ {M : Type 0} (maps : M → ℕ → Map) (spare : M → ℕ → ℕ) (li
       underway = begun_underway maps spare limit core s i h;
       owes = o;
       free = subst (IsFree s.store i) (sym (asked_is maps spare limit core s i h o)) free_already;
-      holds = subst (λ ws. Holds maps spare limit core (does the_views s.store i (Takes ws)) (logs s.store i act.Pay (Takes ws) s.log) s.definitions) (sym (asked_is maps spare limit core s i h o))
-          (taken_holds maps spare limit core s.store s.log s.definitions i h.holds (the_open maps spare limit core s i h o) act.Pay (want ∷ []) core.locks core.wants again h.holds.rooms);
+      holds = subst (λ ws. Holds maps spare limit core (does the_views s.store i (Takes ws)) (logs s.store i act.Pay (Takes ws) s.log) (its_texts s)) (sym (asked_is maps spare limit core s i h o))
+          (taken_holds maps spare limit core s.store s.log (its_texts s) i h.holds (the_open maps spare limit core s i h o) act.Pay (want ∷ []) core.locks core.wants again h.holds.rooms);
       reserves = h.reserves;
     }

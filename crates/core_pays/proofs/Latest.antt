@@ -12,7 +12,7 @@ use Rattle.txn_machine.specs.May.{IsOpen}
 use Rattle.txn_machine.specs.State.{State}
 use Rattle.txn_machine.specs.Store.{now}
 use Rattle.log_room.specs.Rooms.{IsSerial, KeepsLatest}
-use Rattle.core_state.specs.Stands.{Began}
+use Rattle.core_state.specs.Stands.{Began, its_texts}
 use Rattle.core_state.specs.declared.state.CoreState.{CoreState}
 use Rattle.core_state.proofs.Sessions.{snapshots_bare}
 use Rattle.core_effects.specs.Undoing.{KeepsPay, KeepsPut}
@@ -40,12 +40,12 @@ module _ {M : Type 0} (maps : M → ℕ → Map) (spare : M → ℕ → ℕ) (li
 
   pub keeps_change : (o : KeepsPut s.store i) → KeepsLatest s.store s.log i (Put o.change o.owed)
   keeps_change o =
-      let it = put.last maps spare limit core s.store s.log s.definitions i h.holds o in
+      let it = put.last maps spare limit core s.store s.log (its_texts s) i h.holds o in
       record { serial = serial o.is_open (Put o.change o.owed) o.earlier o.kept_is; earlier = o.earlier; kept_is = o.kept_is; number = it.number; numbers = it.numbers; logged_is = it.logged }
 
   pub keeps_pay : (o : KeepsPay s.store i) → KeepsLatest s.store s.log i (Pay o.latest)
   keeps_pay o =
-      let it = pay.last maps spare limit core s.store s.log s.definitions i h.holds o in
+      let it = pay.last maps spare limit core s.store s.log (its_texts s) i h.holds o in
       record { serial = serial o.is_open (Pay o.latest) o.earlier o.kept_is; earlier = o.earlier; kept_is = o.kept_is; number = it.number; numbers = it.numbers; logged_is = it.logged }
 
   -- what is told of it

@@ -53,7 +53,7 @@ use Rattle.data_room.proofs.Transactions.{now_room, first_least, unput_room}
 use Rattle.data_room.proofs.Wheres.{where_map, within_fewer}
 use Rattle.log_room.specs.Rooms.{IsRoomOf}
 use Rattle.log_room.specs.declared.room.LogRoom.{LogRoom}
-use Rattle.core_state.specs.Stands.{Began, Holds, Reserves}
+use Rattle.core_state.specs.Stands.{Began, Holds, Reserves, Texts, its_texts}
 use Rattle.core_state.specs.declared.state.CoreState.{CoreState}
 use Rattle.core_state.proofs.Data.{data_holds, log_holds, data_within}
 use Rattle.core_effects.specs.Owing.{OwesFirst}
@@ -68,7 +68,7 @@ use Rattle.core_pays.specs.Keeping.{change_in, latest_bytes}
 
 -- what is kept of the data and reserved in the log alone becomes another
 module _ {M : Type 0} (maps : M → ℕ → Map) (spare : M → ℕ → ℕ) (limit : M → Option ℕ) (core : CoreState M) (room : DataRoom) (log : LogRoom) (same : room.limit ≡ core.data_room.limit) where
-  pub rooms_hold : (b : Store) (l : Log) (texts : List (List ℕ)) → Holds maps spare limit core b l texts → Holds maps spare limit (record core { data_room = room; log_room = log }) b l texts
+  pub rooms_hold : (b : Store) (l : Log) (texts : Texts) → Holds maps spare limit core b l texts → Holds maps spare limit (record core { data_room = room; log_room = log }) b l texts
   rooms_hold b l texts h = log_holds maps spare limit (record core { data_room = room }) log b l texts (data_holds maps spare limit core room b l texts same h)
 
   pub rooms_underway : (s : State) (i : ℕ) → log.limit ≡ core.log_room.limit → IsUnderway maps spare limit s i core → IsUnderway maps spare limit s i (record core { data_room = room; log_room = log })
@@ -76,16 +76,16 @@ module _ {M : Type 0} (maps : M → ℕ → Map) (spare : M → ℕ → ℕ) (li
       still_underway maps spare limit core (record core { data_room = room; log_room = log }) s i u (record { steps = refl; seats = refl; cleaner = refl; stop = refl; limit = same; log_limit = same_log }) u.own (λ j n. refl)
 
 -- where neither does, as much is kept and reserved
-pub reserves_as : {M : Type 0} (maps : M → ℕ → Map) (spare : M → ℕ → ℕ) (limit : M → Option ℕ) (core new : CoreState M) (b : Store) (l : Log) (texts : List (List ℕ)) → new.data_room ≡ core.data_room → new.log_room ≡ core.log_room
-    → Reserves maps spare limit core b l texts → Reserves maps spare limit new b l texts
+pub reserves_as : {M : Type 0} (maps : M → ℕ → Map) (spare : M → ℕ → ℕ) (limit : M → Option ℕ) (core new : CoreState M) (b : Store) (l : Log) (texts : Texts) → new.data_room ≡ core.data_room → new.log_room ≡ core.log_room
+    → Reserves maps spare limit core b l → Reserves maps spare limit new b l
 reserves_as maps spare limit core new b l texts same same_log r = record {
-  data_room = subst (λ (d : DataRoom). IsReserved d (schema_of b) b.open_of l.logged texts) (sym same) r.data_room;
+  data_room = subst (λ (d : DataRoom). IsReserved d (schema_of b) b.open_of l.logged) (sym same) r.data_room;
   log_room = subst (λ (x : LogRoom). IsRoomOf x b l) (sym same_log) r.log_room;
 }
 
 -- ---- the first delta
 
-module _ {M : Type 0} (maps : M → ℕ → Map) (spare : M → ℕ → ℕ) (limit : M → Option ℕ) (core : CoreState M) (s : Store) (l : Log) (texts : List (List ℕ)) (i : ℕ) (h : Holds maps spare limit core s l texts) (o : OwesFirst s i) where
+module _ {M : Type 0} (maps : M → ℕ → Map) (spare : M → ℕ → ℕ) (limit : M → Option ℕ) (core : CoreState M) (s : Store) (l : Log) (texts : Texts) (i : ℕ) (h : Holds maps spare limit core s l texts) (o : OwesFirst s i) where
   pub is_open : IsSome (open_at core.book.opens i)
   is_open = subst IsSome (sym (mine maps spare limit core s l texts i h o).there) refl
 
@@ -100,13 +100,13 @@ module _ {M : Type 0} (maps : M → ℕ → Map) (spare : M → ℕ → ℕ) (li
 
 -- ---- room
 
-module _ {M : Type 0} (maps : M → ℕ → Map) (spare : M → ℕ → ℕ) (limit : M → Option ℕ) (core : CoreState M) (s : State) (i : ℕ) (u : IsUnderway maps spare limit s i core) (reserves : Reserves maps spare limit core s.store s.log s.definitions) where
-  module _ (b : Store) (l : Log) (h : Holds maps spare limit core b l s.definitions) (objects : schema_of b ≡ schema_of s.store) (rows : b.rows ≡ s.store.rows) (view_is : b.view ≡ s.store.view) where
+module _ {M : Type 0} (maps : M → ℕ → Map) (spare : M → ℕ → ℕ) (limit : M → Option ℕ) (core : CoreState M) (s : State) (i : ℕ) (u : IsUnderway maps spare limit s i core) (reserves : Reserves maps spare limit core s.store s.log) where
+  module _ (b : Store) (l : Log) (h : Holds maps spare limit core b l (its_texts s)) (objects : schema_of b ≡ schema_of s.store) (rows : b.rows ≡ s.store.rows) (view_is : b.view ≡ s.store.view) where
     limited_now : IsLimited (schema_of s.store)
     limited_now = subst IsLimited objects (subst IsLimited h.stored.objects h.rooms.limited)
 
     pub within_now : IsWithin (limit core.store.tables) (used (maps core.store.tables) + core.data_room.total)
-    within_now = subst (λ m. IsWithin m (used (maps core.store.tables) + core.data_room.total)) (sym h.most) (data_within maps spare limit core s u.opening reserves (contents_of b) h.stored objects rows view_is limited_now)
+    within_now = subst (λ m. IsWithin m (used (maps core.store.tables) + core.data_room.total)) (sym h.most) (data_within maps spare limit core s u.opening reserves (contents_of b) h.stored h.texts objects rows view_is limited_now)
 
     -- a row for which there is room where it is absent
     pub can_store_it : (d : GroupDelta) → IsDelta (schema_of s.store) d → (get s.store.view (place_of d) ≡ None → Where core.data_room.limit (delta_entry d ≤ core.data_room.total)) → CanStore (maps core.store.tables) (limit core.store.tables) (place_of d) (width d)
@@ -117,10 +117,10 @@ module _ {M : Type 0} (maps : M → ℕ → Map) (spare : M → ℕ → ℕ) (li
 
   -- what a session keeps is part of all that is kept
   module _ (session : IsSession i) where
-    of_session : AreReserved core.data_room (schema_of s.store) s.store.open_of s.log.logged s.definitions → room_kept (schema_of s.store) (s.store.open_of i) (s.log.logged i).ghosted ≤ core.data_room.total
+    of_session : AreReserved core.data_room (schema_of s.store) s.store.open_of s.log.logged → room_kept (schema_of s.store) (s.store.open_of i) (s.log.logged i).ghosted ≤ core.data_room.total
     of_session r =
         let own : share_at core.data_room.shares i ≡ kept_for (schema_of s.store) s.store.open_of s.log.logged i = r.each i session in
-        let least : share_at core.data_room.shares i ≤ core.data_room.total = share_least core.data_room (schema_of s.store) s.store.open_of s.log.logged s.definitions i session r in
+        let least : share_at core.data_room.shares i ≤ core.data_room.total = share_least core.data_room (schema_of s.store) s.store.open_of s.log.logged i session r in
         omega (arith, own, least)
 
     -- a delta whose row is absent had no Ghost
@@ -129,7 +129,7 @@ module _ {M : Type 0} (maps : M → ℕ → Map) (spare : M → ℕ → ℕ) (li
       where
         there : IsThere s.store.view (Some t) (s.log.logged i)
         there = subst (λ (o : Option Open). IsThere s.store.view o (s.log.logged i)) has
-            ((roomy_reached s u.reached (subst (λ (o : Opening). Within o.log_limit (block_bytes + 1)) (sym u.opening.is) u.opening.least) u.runs).there i session)
+            ((roomy_reached s u.reached (subst (λ m. Within m (block_bytes + 1)) (sym u.opening.log_is) u.opening.least) u.runs).there i session)
 
         no_ghost : (ghosted : Bool) → (s.log.logged i).ghosted ≡ ghosted → (s.log.logged i).ghosted ≡ false
         no_ghost false e = e
@@ -139,7 +139,7 @@ module _ {M : Type 0} (maps : M → ℕ → Map) (spare : M → ℕ → ℕ) (li
 
     -- the first delta that is owed has room for its row where it is absent
     pub first_fits : (t : Open) → s.store.open_of i ≡ Some t → (d : GroupDelta) (ds : List GroupDelta) → t.owed ≡ d ∷ ds → t.back ≡ 0 → get s.store.view (place_of d) ≡ None → Where core.data_room.limit (delta_entry d ≤ core.data_room.total)
-    first_fits t has d ds owed back none = where_map core.data_room.limit (λ (r : AreReserved core.data_room (schema_of s.store) s.store.open_of s.log.logged s.definitions).
+    first_fits t has d ds owed back none = where_map core.data_room.limit (λ (r : AreReserved core.data_room (schema_of s.store) s.store.open_of s.log.logged).
         let all = of_session r in
         let same : room_kept (schema_of s.store) (s.store.open_of i) (s.log.logged i).ghosted ≡ room_kept (schema_of s.store) (Some t) (s.log.logged i).ghosted = ap (λ (o : Option Open). room_kept (schema_of s.store) o (s.log.logged i).ghosted) has in
         let least : first_bytes (s.log.logged i).ghosted d ≤ room_kept (schema_of s.store) (Some t) (s.log.logged i).ghosted = first_least (schema_of s.store) t (s.log.logged i).ghosted d ds owed back in
@@ -149,17 +149,17 @@ module _ {M : Type 0} (maps : M → ℕ → Map) (spare : M → ℕ → ℕ) (li
 
 -- ---- the latest step
 
-module _ {M : Type 0} (maps : M → ℕ → Map) (spare : M → ℕ → ℕ) (limit : M → Option ℕ) (core : CoreState M) (s : State) (i : ℕ) (u : IsUnderway maps spare limit s i core) (reserves : Reserves maps spare limit core s.store s.log s.definitions) (h : Holds maps spare limit core s.store s.log s.definitions) where
+module _ {M : Type 0} (maps : M → ℕ → Map) (spare : M → ℕ → ℕ) (limit : M → Option ℕ) (core : CoreState M) (s : State) (i : ℕ) (u : IsUnderway maps spare limit s i core) (reserves : Reserves maps spare limit core s.store s.log) (h : Holds maps spare limit core s.store s.log (its_texts s)) where
   pub can_go_back : (o : KeepsOne s.store i) → CanGoBack (maps core.store.tables) (limit core.store.tables) s.store i o
   can_go_back (inl o) =
       can_store_it maps spare limit core s i u reserves s.store s.log h refl refl refl o.latest o.delta (λ none.
       let closed = (h.stored.pays o.latest.view o.delta.of o.delta.view_is o.latest.group).absent
       (h.stored.views o.latest.view o.delta.of o.delta.view_is o.latest.group ∙ ap (option_map numbers_bytes) none) i in
-      absurd (let bad : o.latest ∷ _ ≡ [] = sym (pay.paid_last maps spare limit core s.store s.log s.definitions i h o).latest ∙ closed in cc))
+      absurd (let bad : o.latest ∷ _ ≡ [] = sym (pay.paid_last maps spare limit core s.store s.log (its_texts s) i h o).latest ∙ closed in cc))
   can_go_back (inr o) =
       within_fewer (limit core.store.tables) (used (maps core.store.tables) + core.data_room.total) (used (maps core.store.tables) + perhaps_entries (schema_of s.store) o.change.key o.change.before - perhaps_entries (schema_of s.store) o.change.key o.change.after)
       (subst (λ m. Where m (used (maps core.store.tables) + perhaps_entries (schema_of s.store) o.change.key o.change.before - perhaps_entries (schema_of s.store) o.change.key o.change.after ≤ used (maps core.store.tables) + core.data_room.total)) (sym h.most)
-      (where_map core.data_room.limit (λ (r : AreReserved core.data_room (schema_of s.store) s.store.open_of s.log.logged s.definitions).
+      (where_map core.data_room.limit (λ (r : AreReserved core.data_room (schema_of s.store) s.store.open_of s.log.logged).
       let all = of_session maps spare limit core s i u reserves o.is_open.of_session r in
       let held : room_kept (schema_of s.store) (Some (now s.store i)) (s.log.logged i).ghosted ≡ room_kept (schema_of s.store) (s.store.open_of i) (s.log.logged i).ghosted = now_room (schema_of s.store) (s.store.open_of i) (s.log.logged i).ghosted in
       let kept = unput_room (schema_of s.store) (now s.store i) (s.log.logged i).ghosted o.change o.owed o.earlier [] o.kept_is in
@@ -185,8 +185,8 @@ module _ {M : Type 0} (maps : M → ℕ → Map) (spare : M → ℕ → ℕ) (li
   -- the rows of the change that is kept last fit their table
   pub rows_fit_back : (o : KeepsPut s.store i) (change : Change) → row_change change ≡ o.change → RowsFit (defined.schema_of core.store.catalog) change
   rows_fit_back o change same =
-      let it = put.last maps spare limit core s.store s.log s.definitions i h.holds o in
-      let found = put.back_of maps spare limit core s.store s.log s.definitions i h.holds o in
+      let it = put.last maps spare limit core s.store s.log (its_texts s) i h.holds o in
+      let found = put.back_of maps spare limit core s.store s.log (its_texts s) i h.holds o in
       let t : TableDef = found.0.0 in
       let key_is : (it.kept.change.table, it.kept.change.key) ≡ o.change.key = ap (λ (c : RowChange). c.key) it.change in
       let there : numbered (defined.schema_of core.store.catalog) it.kept.change.table ≡ Some (table t) = in_schema core.store.catalog it.kept.change.table t found.0.1 in
@@ -206,12 +206,12 @@ module _ {M : Type 0} (maps : M → ℕ → Map) (spare : M → ℕ → ℕ) (li
     module _ (found : Option Kept) (f : (k : Step) (ks : List Step) → reverse t.kept.items ≡ k ∷ ks → found ≡ change_in k) where
       pub latest_change : (k : Kept) → found ≡ Some k → KeepsOne s.store i → (o : KeepsPut s.store i) × (row_change k.change ≡ o.change)
       latest_change k is (inl o) =
-          let it = pay.last maps spare limit core s.store s.log s.definitions i h.holds o in
-          let none : found ≡ None = f (step.Pay o.latest it.before it.number) it.steps (pay.there_latest maps spare limit core s.store s.log s.definitions i h.holds o t there) in
+          let it = pay.last maps spare limit core s.store s.log (its_texts s) i h.holds o in
+          let none : found ≡ None = f (step.Pay o.latest it.before it.number) it.steps (pay.there_latest maps spare limit core s.store s.log (its_texts s) i h.holds o t there) in
           absurd (let bad : Some k ≡ None = sym is ∙ none in cc)
       latest_change k is (inr o) =
-          let it = put.last maps spare limit core s.store s.log s.definitions i h.holds o in
-          let some : found ≡ Some it.kept = f (step.Put it.kept it.txn_bytes it.history_bytes it.number) it.steps (put.there_latest maps spare limit core s.store s.log s.definitions i h.holds o t there) in
+          let it = put.last maps spare limit core s.store s.log (its_texts s) i h.holds o in
+          let some : found ≡ Some it.kept = f (step.Put it.kept it.txn_bytes it.history_bytes it.number) it.steps (put.there_latest maps spare limit core s.store s.log (its_texts s) i h.holds o t there) in
           let one : Some k ≡ Some it.kept = sym is ∙ some in
           let same : k ≡ it.kept = cc in
           (o, ap (λ (x : Kept). row_change x.change) same ∙ it.change)
@@ -219,8 +219,8 @@ module _ {M : Type 0} (maps : M → ℕ → Map) (spare : M → ℕ → ℕ) (li
       pub latest_pay : found ≡ None → KeepsOne s.store i → KeepsPay s.store i
       latest_pay is (inl o) = o
       latest_pay is (inr o) =
-          let it = put.last maps spare limit core s.store s.log s.definitions i h.holds o in
-          let some : found ≡ Some it.kept = f (step.Put it.kept it.txn_bytes it.history_bytes it.number) it.steps (put.there_latest maps spare limit core s.store s.log s.definitions i h.holds o t there) in
+          let it = put.last maps spare limit core s.store s.log (its_texts s) i h.holds o in
+          let some : found ≡ Some it.kept = f (step.Put it.kept it.txn_bytes it.history_bytes it.number) it.steps (put.there_latest maps spare limit core s.store s.log (its_texts s) i h.holds o t there) in
           absurd (let bad : Some it.kept ≡ None = sym some ∙ is in cc)
 
       pub no_change : found ≡ None → KeepsOne s.store i → latest_bytes (schema_of s.store) (now s.store i) (s.log.logged i).ghosted (now s.store i).kept ≡ 0
@@ -229,7 +229,7 @@ module _ {M : Type 0} (maps : M → ℕ → Map) (spare : M → ℕ → ℕ) (li
     -- what the book has still to be paid
     pub still_as : KeepsPut s.store i → (size : Bool → List GroupDelta → ℕ) → size t.is_ghosted (drop t.back (reverse t.owed.items)) ≡ size (s.log.logged i).ghosted (still_owed (now s.store i))
     still_as o size =
-        let own : Has (schema_of s.store) (open_at core.book.opens i) (now s.store i) (s.log.logged i) = put.mine maps spare limit core s.store s.log s.definitions i h.holds o in
+        let own : Has (schema_of s.store) (open_at core.book.opens i) (now s.store i) (s.log.logged i) = put.mine maps spare limit core s.store s.log (its_texts s) i h.holds o in
         let txn : Some t ≡ Some own.txn = sym there ∙ own.there in
         let here : t ≡ own.txn = cc in
         let ghosted : t.is_ghosted ≡ (s.log.logged i).ghosted = ap (λ (y : BookOpen). y.is_ghosted) here ∙ own.is.ghosted in

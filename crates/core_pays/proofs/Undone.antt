@@ -37,7 +37,7 @@ use Rattle.data_room.proofs.Kept.{reserved_back}
 use Rattle.data_room.proofs.Transactions.{now_room, unput_room, unpaid_room}
 use Rattle.log_room.specs.Rooms.{IsRoomOf}
 use Rattle.log_room.specs.declared.room.LogRoom.{LogRoom}
-use Rattle.core_state.specs.Stands.{Began, Told, Holds}
+use Rattle.core_state.specs.Stands.{Began, Told, Holds, its_texts}
 use Rattle.core_state.specs.declared.state.CoreState.{CoreState}
 use Rattle.core_effects.specs.Undoing.{KeepsOne}
 use Rattle.core_state.proofs.Few.{kept_few}
@@ -109,9 +109,9 @@ module _ {M : Type 0} (maps : M → ℕ → Map) (spare : M → ℕ → ℕ) (li
       let u = undone_kept s.store i (now s.store i) latest earlier in
       (u.0, ap (λ ks. (undone s.store i (now s.store i) ks).open_of i) kept_is ∙ u.1, u.2)
 
-  module _ (l : Log) (holds : Holds maps spare limit new after l s.definitions) where
+  module _ (l : Log) (holds : Holds maps spare limit new after l (its_texts s)) where
     mine : Has (schema_of after) (open_at new.book.opens i) (now after i) (l.logged i)
-    mine = own maps spare limit new after l s.definitions i holds (record { of_session = the_open.of_session; transaction = open_after.0; is_open = open_after.1 })
+    mine = own maps spare limit new after l (its_texts s) i holds (record { of_session = the_open.of_session; transaction = open_after.0; is_open = open_after.1 })
 
     pub is_there : IsSome (open_at new.book.opens i)
     is_there = subst IsSome (sym mine.there) refl
@@ -127,7 +127,7 @@ module _ {M : Type 0} (maps : M → ℕ → Map) (spare : M → ℕ → ℕ) (li
 
     pub few_left : length earlier < 2 ^ 32
     few_left =
-        let before : Has (schema_of s.store) (open_at core.book.opens i) (now s.store i) (s.log.logged i) = own maps spare limit core s.store s.log s.definitions i h.holds the_open in
+        let before : Has (schema_of s.store) (open_at core.book.opens i) (now s.store i) (s.log.logged i) = own maps spare limit core s.store s.log (its_texts s) i h.holds the_open in
         let small : before.txn.txn_bytes ≤ most_of_transaction = (h.holds.rooms.each i the_open.of_session before.txn before.there).small in
         let bytes : before.txn.txn_bytes ≡ sum (map (note_size (schema_of s.store)) (now s.store i).notes) + sum (map (kept_size (schema_of s.store)) (now s.store i).kept) = before.is.txn_bytes in
         let few : 128 * (length (now s.store i).kept + length (now s.store i).owed) ≤ sum (map (kept_size (schema_of s.store)) (now s.store i).kept) = kept_few (schema_of s.store) (now s.store i).kept (now s.store i).owed ((reached s h.reached).each i the_open.of_session).settled in
@@ -142,35 +142,35 @@ module _ {M : Type 0} (maps : M → ℕ → Map) (spare : M → ℕ → ℕ) (li
 
   module _ (room was : DataRoom) (bytes : ℕ) (same : was ≡ core.data_room) (same_limit : room.limit ≡ was.limit) (bytes_are : bytes ≡ min its_room (2 ^ 64 - 1)) (small : share_at was.shares i < 2 ^ 64)
       (own_share : share_at room.shares i ≡ share_at was.shares i - bytes) (others : (j : ℕ) → j ≢ i → share_at room.shares j ≡ share_at was.shares j) (total : room.total ≡ was.total - (share_at was.shares i - share_at room.shares i)) where
-    without : (o : KeepsOne s.store i) → IsReserved room (schema_of after) after.open_of logged_after s.definitions
+    without : (o : KeepsOne s.store i) → IsReserved room (schema_of after) after.open_of logged_after
     without (inl o) =
-        subst (λ (u : Store). IsReserved room (schema_of u) u.open_of logged_after s.definitions) (sym (ap (undone s.store i (now s.store i)) o.kept_is))
+        subst (λ (u : Store). IsReserved room (schema_of u) u.open_of logged_after) (sym (ap (undone s.store i (now s.store i)) o.kept_is))
         (reserved_back (schema_of s.store) s.store.open_of s.log.logged logged_after i (Some (record (now s.store i) { kept = o.earlier; owed = o.latest ∷ (now s.store i).owed; back = (now s.store i).back + 1 })) (undoes (s.log.logged i) (Pay o.latest ∷ o.earlier))
         (λ j. ap (λ (f : ℕ → Logged). f j) (logs_logged s.store i act.UndoOne Undoes s.log) ∙ ap (λ ks. with_one s.log.logged i (undoes (s.log.logged i) ks) j) o.kept_is)
-        core.data_room was room s.definitions the_open.of_session h.reserves.data_room same same_limit bytes 0 (bytes_are ∙ ap (λ ks. min (latest_bytes (schema_of s.store) (now s.store i) (s.log.logged i).ghosted ks) (2 ^ 64 - 1)) o.kept_is)
+        core.data_room was room the_open.of_session h.reserves.data_room same same_limit bytes 0 (bytes_are ∙ ap (λ ks. min (latest_bytes (schema_of s.store) (now s.store i) (s.log.logged i).ghosted ks) (2 ^ 64 - 1)) o.kept_is)
         (let same_room = unpaid_room (schema_of s.store) (now s.store i) (s.log.logged i).ghosted o.latest o.earlier o.kept_is in
         let held = now_room (schema_of s.store) (s.store.open_of i) (s.log.logged i).ghosted in
         let all : room_kept (schema_of s.store) (Some (record (now s.store i) { kept = o.earlier; owed = o.latest ∷ (now s.store i).owed; back = (now s.store i).back + 1 })) (s.log.logged i).ghosted + 0 ≡ kept_for (schema_of s.store) s.store.open_of s.log.logged i = omega (arith, same_room, held) in
         all)
         small own_share others total)
     without (inr o) =
-        subst (λ (u : Store). IsReserved room (schema_of u) u.open_of logged_after s.definitions) (sym (ap (undone s.store i (now s.store i)) o.kept_is))
+        subst (λ (u : Store). IsReserved room (schema_of u) u.open_of logged_after) (sym (ap (undone s.store i (now s.store i)) o.kept_is))
         (reserved_back (schema_of s.store) s.store.open_of s.log.logged logged_after i (Some (record (now s.store i) { kept = o.earlier; owed = []; back = 0; notes = notes_before (length o.earlier) (now s.store i).notes })) (undoes (s.log.logged i) (Put o.change o.owed ∷ o.earlier))
         (λ j. ap (λ (f : ℕ → Logged). f j) (logs_logged s.store i act.UndoOne Undoes s.log) ∙ ap (λ ks. with_one s.log.logged i (undoes (s.log.logged i) ks) j) o.kept_is)
-        core.data_room was room s.definitions the_open.of_session h.reserves.data_room same same_limit bytes (growth_back (schema_of s.store) o.change + sum (map delta_entry (unghosted (s.log.logged i).ghosted (still_owed (now s.store i)))))
+        core.data_room was room the_open.of_session h.reserves.data_room same same_limit bytes (growth_back (schema_of s.store) o.change + sum (map delta_entry (unghosted (s.log.logged i).ghosted (still_owed (now s.store i)))))
         (bytes_are ∙ ap (λ ks. min (latest_bytes (schema_of s.store) (now s.store i) (s.log.logged i).ghosted ks) (2 ^ 64 - 1)) o.kept_is)
         (unput_room (schema_of s.store) (now s.store i) (s.log.logged i).ghosted o.change o.owed o.earlier (notes_before (length o.earlier) (now s.store i).notes) o.kept_is ∙ now_room (schema_of s.store) (s.store.open_of i) (s.log.logged i).ghosted)
         small own_share others total)
 
     -- with what was kept for it given back
-    pub undone_reserved : IsReserved room (schema_of after) after.open_of logged_after s.definitions
+    pub undone_reserved : IsReserved room (schema_of after) after.open_of logged_after
     undone_reserved = without keeps_here
 
-  pub undone_told : new ≡ record core { store = new.store; book = new.book; ahead = new.ahead; next = new.next } → (room : DataRoom) (log : LogRoom) → room.limit ≡ new.data_room.limit → log.limit ≡ new.log_room.limit → (left : ℕ) → left ≡ length earlier → Holds maps spare limit new after (logs s.store i act.UndoOne Undoes s.log) s.definitions
-      → IsReserved room (schema_of after) after.open_of logged_after s.definitions → IsRoomOf log after (logs s.store i act.UndoOne Undoes s.log) → Told maps spare limit s i act.UndoOne (answer.Undone left) (record new { data_room = room; log_room = log })
+  pub undone_told : new ≡ record core { store = new.store; book = new.book; ahead = new.ahead; next = new.next } → (room : DataRoom) (log : LogRoom) → room.limit ≡ new.data_room.limit → log.limit ≡ new.log_room.limit → (left : ℕ) → left ≡ length earlier → Holds maps spare limit new after (logs s.store i act.UndoOne Undoes s.log) (its_texts s)
+      → IsReserved room (schema_of after) after.open_of logged_after → IsRoomOf log after (logs s.store i act.UndoOne Undoes s.log) → Told maps spare limit s i act.UndoOne (answer.Undone left) (record new { data_room = room; log_room = log })
   undone_told rest room log same_limit same_log left left_is holds reserves logged =
       told_by maps spare limit (record new { data_room = room; log_room = log }) s i
       (rooms_underway maps spare limit new room log same_limit s i same_log (still_underway maps spare limit core new s i (begun_underway maps spare limit core s i h)
       (record { steps = ap (λ (x : CoreState M). x.steps) rest; seats = ap (λ (x : CoreState M). x.seats) rest; cleaner = ap (λ (x : CoreState M). x.cleaner) rest; stop = ap (λ (x : CoreState M). x.stop) rest; limit = ap (λ (x : CoreState M). x.data_room.limit) rest; log_limit = ap (λ (x : CoreState M). x.log_room.limit) rest })
       (λ js. ap (λ (x : CoreState M). table.waiting_of x.locks i) rest ∙ h.own js) (λ j n. ap (λ (x : CoreState M). table.waiting_of x.locks j) rest)))
-      act.UndoOne (answer.Undone left) (Undoes ∷ []) (record { latest = latest; earlier = earlier; kept_is = kept_is; left_is = left_is; effects = refl }) (rooms_hold maps spare limit new room log same_limit after (logs s.store i act.UndoOne Undoes s.log) s.definitions holds) (record { data_room = reserves; log_room = logged }) refl refl (omega arith) (next_few (schema_of s.store) _ _)
+      act.UndoOne (answer.Undone left) (Undoes ∷ []) (record { latest = latest; earlier = earlier; kept_is = kept_is; left_is = left_is; effects = refl }) (rooms_hold maps spare limit new room log same_limit after (logs s.store i act.UndoOne Undoes s.log) (its_texts s) holds) (record { data_room = reserves; log_room = logged }) refl refl (omega arith) (next_few (schema_of s.store) _ _)

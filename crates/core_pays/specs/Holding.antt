@@ -18,7 +18,7 @@ use Rattle.txn_machine.specs.May.{Owes}
 use Rattle.txn_machine.specs.State.{State}
 use Rattle.txn_machine.specs.Steps.{IsFree, asked, group_want}
 use Rattle.txn_machine.specs.Store.{Takes, does}
-use Rattle.core_state.specs.Stands.{Holds, Reserves}
+use Rattle.core_state.specs.Stands.{Holds, Reserves, its_texts}
 use Rattle.core_state.specs.declared.state.CoreState.{CoreState}
 use Rattle.core_effects.specs.Underway.{IsUnderway}
 
@@ -32,8 +32,8 @@ pub record IsHolding {M : Type 0} (maps : M → ℕ → Map) (spare : M → ℕ 
   pub underway : IsUnderway maps spare limit s session core
   pub owes : Owes s.store session
   pub free : IsFree s.store session (asked s.store session act.Pay)
-  pub holds : Holds maps spare limit core (does the_views s.store session (Takes (asked s.store session act.Pay))) (logs s.store session act.Pay (Takes (asked s.store session act.Pay)) s.log) s.definitions
-  pub reserves : Reserves maps spare limit core s.store s.log s.definitions
+  pub holds : Holds maps spare limit core (does the_views s.store session (Takes (asked s.store session act.Pay))) (logs s.store session act.Pay (Takes (asked s.store session act.Pay)) s.log) (its_texts s)
+  pub reserves : Reserves maps spare limit core s.store s.log
 
 -- how a Pay is answered whose delta is not added
 abbrev pub unpaid_as : PayRefusal → Answer

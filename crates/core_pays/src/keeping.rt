@@ -8,7 +8,7 @@ ghost use Rattle.txn_machine.specs.May.{MayAct};
 ghost use Rattle.txn_machine.specs.State.{State};
 ghost use Rattle.txn_machine.specs.Store.{Store, now, schema_of};
 ghost use Rattle.data_room.specs.Reserved.{first_bytes};
-ghost use Rattle.core_state.specs.Stands.{Began, Holds};
+ghost use Rattle.core_state.specs.Stands.{Began, Holds, Texts};
 ghost use Rattle.core_effects.specs.Owing.{OwesFirst};
 ghost use Rattle.core_pays.specs.Keeping.{change_in, latest_bytes};
 
@@ -19,8 +19,8 @@ use txn_book::Open;
 
 /// What a session keeps for the first delta that it owes: its row, unless that had its Ghost.
 pub(crate) fn room_of_first<M: SortedMaps>(core: &CoreState<M>, session: u32) -> u64
-    requires { (s : Store) × (l : Log) × (texts : List (List ℕ)) × Holds M.maps M.spare M.limit core.now s l texts × OwesFirst s session }
-    ensures { (s : Store) (l : Log) (texts : List (List ℕ)) (o : OwesFirst s session) → Holds M.maps M.spare M.limit core.now s l texts → result ≡ min (first_bytes (l.logged session).ghosted o.first) (2 ^ 64 - 1) }
+    requires { (s : Store) × (l : Log) × (texts : Texts) × Holds M.maps M.spare M.limit core.now s l texts × OwesFirst s session }
+    ensures { (s : Store) (l : Log) (texts : Texts) (o : OwesFirst s session) → Holds M.maps M.spare M.limit core.now s l texts → result ≡ min (first_bytes (l.logged session).ghosted o.first) (2 ^ 64 - 1) }
 {
     first_room(core.open_of(session))
 }

@@ -12,7 +12,7 @@ ghost use Rattle.txn_machine.specs.Records as machine;
 ghost use Rattle.txn_machine.specs.State.{State};
 ghost use Rattle.txn_machine.specs.Store.{Store, Undoes, does};
 ghost use Rattle.log_room.specs.Rooms.{IsRoomOf, ghost_left};
-ghost use Rattle.core_state.specs.Stands.{Began, Holds};
+ghost use Rattle.core_state.specs.Stands.{Began, Holds, Texts};
 ghost use Rattle.core_effects.specs.Owing.{OwesFirst};
 ghost use Rattle.core_pays.specs.Keeping.{IsOwedOfLatest};
 
@@ -50,16 +50,16 @@ fn next_ghost(txn: &Open) -> u64
 
 /// What the record of the first delta that a session owes takes.
 pub(crate) fn record_of_first<M: SortedMaps>(core: &CoreState<M>, session: u32) -> u64
-    requires { (s : Store) × (l : Log) × (texts : List (List ℕ)) × Holds M.maps M.spare M.limit core.now s l texts × OwesFirst s session }
-    ensures { (s : Store) (l : Log) (texts : List (List ℕ)) (o : OwesFirst s session) → Holds M.maps M.spare M.limit core.now s l texts → result ≡ told_need (machine.delta_bytes o.first) }
+    requires { (s : Store) × (l : Log) × (texts : Texts) × Holds M.maps M.spare M.limit core.now s l texts × OwesFirst s session }
+    ensures { (s : Store) (l : Log) (texts : Texts) (o : OwesFirst s session) → Holds M.maps M.spare M.limit core.now s l texts → result ≡ told_need (machine.delta_bytes o.first) }
 {
     next_record(core.open_of(session))
 }
 
 /// What a session reserves for the Ghost of the first delta that it owes, unless that had it.
 pub(crate) fn ghost_of_first<M: SortedMaps>(core: &CoreState<M>, session: u32) -> u64
-    requires { (s : Store) × (l : Log) × (texts : List (List ℕ)) × Holds M.maps M.spare M.limit core.now s l texts × OwesFirst s session }
-    ensures { (s : Store) (l : Log) (texts : List (List ℕ)) (o : OwesFirst s session) → Holds M.maps M.spare M.limit core.now s l texts → result ≡ told_need (ghost_left (l.logged session).ghosted o.first) }
+    requires { (s : Store) × (l : Log) × (texts : Texts) × Holds M.maps M.spare M.limit core.now s l texts × OwesFirst s session }
+    ensures { (s : Store) (l : Log) (texts : Texts) (o : OwesFirst s session) → Holds M.maps M.spare M.limit core.now s l texts → result ≡ told_need (ghost_left (l.logged session).ghosted o.first) }
 {
     next_ghost(core.open_of(session))
 }

@@ -40,7 +40,7 @@ use Rattle.data_room.proofs.Kept.{reserved_one}
 use Rattle.data_room.proofs.Transactions.{now_room}
 use Rattle.log_room.specs.Rooms.{IsRoomOf, SameRoomLaw}
 use Rattle.log_room.specs.declared.room.LogRoom.{LogRoom}
-use Rattle.core_state.specs.Stands.{Began, Told, Holds, Reserves}
+use Rattle.core_state.specs.Stands.{Began, Told, Holds, Reserves, its_texts}
 use Rattle.core_state.specs.declared.state.CoreState.{CoreState}
 use Rattle.core_state.proofs.Sessions.{own_txn, now_is, of_ready}
 use Rattle.core_state.proofs.Unchanged.{unchanged_told}
@@ -125,13 +125,13 @@ module _ {M : Type 0} (maps : M → ℕ → Map) (spare : M → ℕ → ℕ) (li
 
   -- neither effect moves what is kept of the data or reserved of the log
   kept_on : (rows : List Row) → SameRoomLaw → new.data_room ≡ core.data_room → new.log_room ≡ core.log_room
-      → Reserves maps spare limit new (does the_views between i (Notes (note_of s.store i n interval rows))) (logs between i (act.Fetch n interval mode) (Notes (note_of s.store i n interval rows)) (logs s.store i (act.Fetch n interval mode) (Takes wants) s.log)) s.definitions
+      → Reserves maps spare limit new (does the_views between i (Notes (note_of s.store i n interval rows))) (logs between i (act.Fetch n interval mode) (Notes (note_of s.store i n interval rows)) (logs s.store i (act.Fetch n interval mode) (Takes wants) s.log))
   kept_on rows law same_data same_log = record {
-    data_room = subst (λ d. IsReserved d (schema_of s.store) (does the_views between i (Notes note)).open_of (logs between i a (Notes note) first).logged s.definitions) (sym same_data)
+    data_room = subst (λ d. IsReserved d (schema_of s.store) (does the_views between i (Notes note)).open_of (logs between i a (Notes note) first).logged) (sym same_data)
         (reserved_one (schema_of s.store) between.open_of first.logged (logs between i a (Notes note) first).logged i (Some (record (now between i) { notes = note ∷ (now between i).notes })) (first.logged i) (λ j. ap (λ (f : ℕ → Logged). f j) (logs_logged between i a (Notes note) first))
-        core.data_room s.definitions (now_room (schema_of s.store) (between.open_of i) (first.logged i).ghosted)
+        core.data_room (now_room (schema_of s.store) (between.open_of i) (first.logged i).ghosted)
         (reserved_one (schema_of s.store) s.store.open_of s.log.logged first.logged i (Some (record (now s.store i) { locks = wants ++ (now s.store i).locks })) (s.log.logged i) (λ j. ap (λ (f : ℕ → Logged). f j) (logs_logged s.store i a (Takes wants) s.log))
-        core.data_room s.definitions (now_room (schema_of s.store) (s.store.open_of i) (s.log.logged i).ghosted) can.fetches.began.reserves.data_room));
+        core.data_room (now_room (schema_of s.store) (s.store.open_of i) (s.log.logged i).ghosted) can.fetches.began.reserves.data_room));
     log_room = subst (λ (x : LogRoom). IsRoomOf x (does the_views between i (Notes note)) (logs between i a (Notes note) first)) (sym same_log)
         (law.notes core.log_room between first i a note r.goes_on.of_session (is_now between open_between)
         (law.locks core.log_room s.store s.log i a wants r.goes_on.of_session (is_now s.store open_here) can.fetches.began.reserves.log_room));
@@ -150,10 +150,10 @@ module _ {M : Type 0} (maps : M → ℕ → Map) (spare : M → ℕ → ℕ) (li
       first = logs s.store i a (Takes wants) s.log
 
   pub read_told : (rows : List Row) → Finds s.store n interval rows
-      → (Holds maps spare limit middle s.store s.log s.definitions → IsOpen s.store i → Holds maps spare limit taken between (logs s.store i (act.Fetch n interval mode) (Takes wants) s.log) s.definitions)
-      → (Holds maps spare limit taken between (logs s.store i (act.Fetch n interval mode) (Takes wants) s.log) s.definitions → IsOpen between i → note_size (schema_of between) (note_of s.store i n interval rows) ≡ need
+      → (Holds maps spare limit middle s.store s.log (its_texts s) → IsOpen s.store i → Holds maps spare limit taken between (logs s.store i (act.Fetch n interval mode) (Takes wants) s.log) (its_texts s))
+      → (Holds maps spare limit taken between (logs s.store i (act.Fetch n interval mode) (Takes wants) s.log) (its_texts s) → IsOpen between i → note_size (schema_of between) (note_of s.store i n interval rows) ≡ need
       → (note_of s.store i n interval rows).kept ≡ length (now between i).kept
-      → Holds maps spare limit new (does the_views between i (Notes (note_of s.store i n interval rows))) (logs between i (act.Fetch n interval mode) (Notes (note_of s.store i n interval rows)) (logs s.store i (act.Fetch n interval mode) (Takes wants) s.log)) s.definitions)
+      → Holds maps spare limit new (does the_views between i (Notes (note_of s.store i n interval rows))) (logs between i (act.Fetch n interval mode) (Notes (note_of s.store i n interval rows)) (logs s.store i (act.Fetch n interval mode) (Takes wants) s.log)) (its_texts s))
       → SameRoomLaw → new.data_room ≡ core.data_room → new.log_room ≡ core.log_room → AreUncounted core new → lock.waiting_of new.locks i ≡ [] → ((j : ℕ) → j ≢ i → lock.waiting_of new.locks j ≡ lock.waiting_of middle.locks j)
       → Told maps spare limit s i (act.Fetch n interval mode) (answer.Rows rows) new
   read_told rows found takes notes law same_data same_log same own others =

@@ -22,7 +22,7 @@ use Rattle.record_lending.specs.Steps as steps
 use Rattle.record_lending.specs.Steps.{HasItsEntries}
 use Rattle.log_room.specs.Rooms.{KeepsLatest}
 use Rattle.core_state.specs.Rooms.{CanBeTakenBack}
-use Rattle.core_state.specs.Stands.{Began, Holds}
+use Rattle.core_state.specs.Stands.{Began, Holds, Texts, its_texts}
 use Rattle.core_state.specs.declared.state.CoreState.{CoreState}
 use Rattle.core_effects.proofs.Opened.{Has, own}
 use Rattle.core_recording.specs.Appending.{kept_record}
@@ -54,7 +54,7 @@ first_of : (definitions : Definitions) (transaction : ℕ) (bs : List KeptStep) 
 first_of definitions transaction [] k ks n ns are can = absurd are
 first_of definitions transaction (b ∷ bs) k ks n ns are can = record { first = b; others = bs; are = refl; step = first_step definitions transaction b bs k ks n ns are can }
 
-module _ {M : Type 0} (maps : M → ℕ → Map) (spare : M → ℕ → ℕ) (limit : M → Option ℕ) (core : CoreState M) (s : Store) (l : Log) (texts : List (List ℕ)) (i : ℕ) (h : Holds maps spare limit core s l texts) (k : machine.KeptStep)
+module _ {M : Type 0} (maps : M → ℕ → Map) (spare : M → ℕ → ℕ) (limit : M → Option ℕ) (core : CoreState M) (s : Store) (l : Log) (texts : Texts) (i : ℕ) (h : Holds maps spare limit core s l texts) (k : machine.KeptStep)
     (o : KeepsLatest s l i k) where
   mine : Has (schema_of s) (open_at core.book.opens i) (now s i) (l.logged i)
   mine = own maps spare limit core s l texts i h (record { of_session = o.serial.of_session; transaction = now s i; is_open = o.serial.is_open })
@@ -103,7 +103,7 @@ module _ {M : Type 0} (maps : M → ℕ → Map) (spare : M → ℕ → ℕ) (li
 module _ {M : Type 0} (maps : M → ℕ → Map) (spare : M → ℕ → ℕ) (limit : M → Option ℕ) (core : CoreState M) (s : State) (i : ℕ) (h : Began maps spare limit core s i) where
   pub id_is : (o : IsOpen s.store i) (t : Open) → open_at core.book.opens i ≡ Some t → t.id ≡ (s.log.logged i).transaction
   id_is o t there =
-      let mine : Has (schema_of s.store) (open_at core.book.opens i) (now s.store i) (s.log.logged i) = own maps spare limit core s.store s.log s.definitions i h.holds o in
+      let mine : Has (schema_of s.store) (open_at core.book.opens i) (now s.store i) (s.log.logged i) = own maps spare limit core s.store s.log (its_texts s) i h.holds o in
       let one : Some t ≡ Some mine.txn = sym there ∙ mine.there in
       let same : t ≡ mine.txn = cc in
       ap (λ (x : Open). x.id) same ∙ mine.is.id

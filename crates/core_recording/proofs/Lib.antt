@@ -6,6 +6,7 @@ pub mod Kept
 pub mod Made
 pub mod Newest
 pub mod Ones
+pub mod Plain
 pub mod Results
 pub mod Told
 pub mod Used

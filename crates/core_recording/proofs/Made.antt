@@ -18,7 +18,7 @@ use Rattle.txn_machine.specs.Log.{Within}
 use Rattle.txn_machine.specs.May.{Owes}
 use Rattle.txn_machine.specs.Records.{Ghost}
 use Rattle.txn_machine.specs.State.{State}
-use Rattle.txn_machine.specs.Steps.{Says, log_after, definitions_after}
+use Rattle.txn_machine.specs.Steps.{Says, log_after}
 use Rattle.txn_machine.specs.Store.{Effect, Ghosts, now, run, schema_of}
 use Rattle.txn_machine.proofs.Reached.{reached}
 use Rattle.txn_book.specs.Opens.{open_at}
@@ -29,7 +29,7 @@ use Rattle.txn_log.specs.Fitting.{IsKnown}
 use Rattle.txn_log.proofs.Knowing.{all_owed}
 use Rattle.record_lending.specs.Known.{ShortLaw}
 use Rattle.core_journal.specs.Records.{Records, with_one, recorded_all, records_after}
-use Rattle.core_state.specs.Stands.{Told}
+use Rattle.core_state.specs.Stands.{Told, texts_after}
 use Rattle.core_state.specs.declared.state.CoreState.{CoreState}
 use Rattle.core_effects.proofs.Opened.{Has, own}
 use Rattle.core_recording.specs.Appending.{CanAppend}
@@ -103,7 +103,7 @@ module _ (s : State) (i : ℕ) (o : Owes s.store i) where
 
 module _ {M : Type 0} (maps : M → ℕ → Map) (spare : M → ℕ → ℕ) (limit : M → Option ℕ) (s : State) (i : ℕ) (o : Owes s.store i) (said : Answer) (core : CoreState M) (told : Told maps spare limit s i act.Ghost said core) (it : HasMade s i o said told.effects) where
   mine : Has (schema_of (run the_views s.store i told.effects)) (open_at core.book.opens i) (now (run the_views s.store i told.effects) i) ((log_after s i act.Ghost said told.effects).logged i)
-  mine = own maps spare limit core (run the_views s.store i told.effects) (log_after s i act.Ghost said told.effects) (definitions_after s.definitions act.Ghost said) i told.holds
+  mine = own maps spare limit core (run the_views s.store i told.effects) (log_after s i act.Ghost said told.effects) (texts_after s act.Ghost said) i told.holds
       (record { of_session = o.goes_on.of_session; transaction = o.goes_on.transaction; is_open = it.open_is })
 
   pub is_open : IsSome (open_at core.book.opens i)

@@ -18,10 +18,11 @@ use Rattle.log_records.specs.declared.record.Record as bytes
 use Rattle.log_records.specs.Spelling.{IsShort}
 use Rattle.log_disk.specs.Spelled.{in_bytes}
 use Rattle.core_journal.specs.Records.{Records, with_one, with_perhaps, records_after}
+use Rattle.core_recording.proofs.Plain.{IsPlain, plain_gives}
 use Rattle.core_state.specs.Stands.{Began, Told}
 use Rattle.core_state.specs.declared.state.CoreState.{CoreState}
 use Rattle.core_recording.specs.Appending.{CanAppend}
-use Rattle.core_recording.specs.Giving.{IsBehind, IsUngiven, Gave}
+use Rattle.core_recording.specs.Giving.{IsSaved, IsBehind, IsUngiven, Gave}
 use Rattle.core_recording.proofs.Given.{one, ended, undo_gives, end_gives}
 use Rattle.core_recording.proofs.Used.{told_within, next_small, limit_stays, image_stays}
 
@@ -60,19 +61,19 @@ module _ {M J : Type 0} (maps : M → ℕ → Map) (spare : M → ℕ → ℕ) (
   -- the journal has it then
   pub gave_one : (r : Record) (lent : bytes.Record) (after : J) → ((rs : Records) → records_after s i a said told.effects rs ≡ with_one (schema_of s.store) (record { number = s.log.next; of = r }) rs) → lent ≡ in_bytes (schema_of s.store) r
       → ((objects : Schema) (x : Record) (rs : Records) → lent ≡ in_bytes objects x → has journal rs → has after (with_one objects (record { number = core.next; of = x }) rs)) → area after ≡ area journal
-      → Gave maps spare limit has area s i a said core journal then after
-  gave_one r lent after gives is given same = record {
+      → IsPlain a → Gave maps spare limit has area s i a said core journal then after
+  gave_one r lent after gives is given same plain = record {
     told = told;
-    gave = λ rs behind. subst (has after) ((λ x. with_one (schema_of s.store) (record { number = began.holds.next x; of = r }) rs) ∙ sym (gives rs)) (given (schema_of s.store) r rs is behind.has_them);
+    gave = λ rs behind. plain_gives (has after) (IsSaved s) a said _ plain (subst (has after) ((λ x. with_one (schema_of s.store) (record { number = began.holds.next x; of = r }) rs) ∙ sym (gives rs)) (given (schema_of s.store) r rs is behind.has_them));
     same_limit = same;
   }
 
   -- and one that is given perhaps
   pub gave_perhaps : (r : Option Record) (after : J) → ((rs : Records) → records_after s i a said told.effects rs ≡ with_perhaps (schema_of s.store) s.log.next r rs)
-      → ((objects : Schema) (rs : Records) → has journal rs → has after (with_perhaps objects core.next r rs)) → area after ≡ area journal → Gave maps spare limit has area s i a said core journal then after
-  gave_perhaps r after gives given same = record {
+      → ((objects : Schema) (rs : Records) → has journal rs → has after (with_perhaps objects core.next r rs)) → area after ≡ area journal → IsPlain a → Gave maps spare limit has area s i a said core journal then after
+  gave_perhaps r after gives given same plain = record {
     told = told;
-    gave = λ rs behind. subst (has after) ((λ x. with_perhaps (schema_of s.store) (began.holds.next x) r rs) ∙ sym (gives rs)) (given (schema_of s.store) rs behind.has_them);
+    gave = λ rs behind. plain_gives (has after) (IsSaved s) a said _ plain (subst (has after) ((λ x. with_perhaps (schema_of s.store) (began.holds.next x) r rs) ∙ sym (gives rs)) (given (schema_of s.store) rs behind.has_them));
     same_limit = same;
   }
 
@@ -86,5 +87,5 @@ module _ {M J : Type 0} (maps : M → ℕ → Map) (spare : M → ℕ → ℕ) (
     behind = record { has_them = behind.has_them; used = behind.used; same_limit = behind.same_limit ∙ sym (limit_stays maps spare limit s i a said then told core began); same_image = behind.same_image ∙ sym (image_stays maps spare limit s i a said then told core began) };
   }
 
-  pub gave_all : (after : J) → ((rs : Records) → has journal rs → has after (records_after s i a said told.effects rs)) → area after ≡ area journal → Gave maps spare limit has area s i a said core journal then after
-  gave_all after given same = record { told = told; gave = λ rs behind. given rs behind.has_them; same_limit = same }
+  pub gave_all : (after : J) → ((rs : Records) → has journal rs → has after (records_after s i a said told.effects rs)) → area after ≡ area journal → IsPlain a → Gave maps spare limit has area s i a said core journal then after
+  gave_all after given same plain = record { told = told; gave = λ rs behind. plain_gives (has after) (IsSaved s) a said _ plain (given rs behind.has_them); same_limit = same }

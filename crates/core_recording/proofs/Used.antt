@@ -57,11 +57,11 @@ used_within (Some most) used reserved_bytes s l h = let are = h.used_are in let 
 
 -- a record's number is one of 63 bits
 pub small_next : {M : Type 0} (maps : M → ℕ → Map) (spare : M → ℕ → ℕ) (limit : M → Option ℕ) (core : CoreState M) (s : State) (i : ℕ) → Began maps spare limit core s i → s.log.next < 2 ^ 63
-small_next maps spare limit core s i h = let next = h.counts.next in let few : s.steps < most_steps = h.counts.running h.runs in omega (arith, next, few)
+small_next maps spare limit core s i h = let next = h.counts.next in let early = h.opening.early in let few : s.steps < most_steps = h.counts.running h.runs in omega (arith, next, early, few)
 
 module _ {M : Type 0} (maps : M → ℕ → Map) (spare : M → ℕ → ℕ) (limit : M → Option ℕ) (s : State) (i : ℕ) (a : Act) (said : Answer) (core : CoreState M) (told : Told maps spare limit s i a said core) where
   pub next_small : s.log.next < 2 ^ 63
-  next_small = let next = told.counts.next in let few : s.steps < most_steps = told.counts.running told.runs in omega (arith, next, few)
+  next_small = let next = told.counts.next in let early = told.opening.early in let few : s.steps < most_steps = told.counts.running told.runs in omega (arith, next, early, few)
 
   -- what was told of an act has kept its records within the limit
   pub told_within : (most : Option ℕ) → most ≡ core.log_room.limit → (rs : Records) → rs.used ≡ s.log.used → Within most (records_after s i a said told.effects rs).used
@@ -72,8 +72,8 @@ module _ {M : Type 0} (maps : M → ℕ → Map) (spare : M → ℕ → ℕ) (li
 
   -- the log's limit is that of the core before
   pub limit_stays : (before : CoreState M) → Began maps spare limit before s i → core.log_room.limit ≡ before.log_room.limit
-  limit_stays before began = sym (ap (λ (x : Opening). x.log_limit) told.opening.is) ∙ ap (λ (x : Opening). x.log_limit) began.opening.is
+  limit_stays before began = sym told.opening.log_is ∙ began.opening.log_is
 
   -- and that of the data too
   pub image_stays : (before : CoreState M) → Began maps spare limit before s i → core.data_room.limit ≡ before.data_room.limit
-  image_stays before began = sym (ap (λ (x : Opening). x.data_limit) told.opening.is) ∙ ap (λ (x : Opening). x.data_limit) began.opening.is
+  image_stays before began = sym told.opening.data_is ∙ began.opening.data_is

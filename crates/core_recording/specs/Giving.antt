@@ -1,17 +1,39 @@
 -- No clause of `run` rests on this module: it serves contracts between crates.
 --
 -- What an act gives to the journal.
-use Rattle.std.specs.Prelude.{◌≡◌, ◌⊎◌, ℕ, ◌<◌, ◌^◌, Option}
+use Rattle.std.specs.Prelude.{◌≡◌, ◌⊎◌, ℕ, ◌<◌, ◌^◌, List, Option}
 use Rattle.iv_types.specs.Maps.{Map}
 use Rattle.iv_types.specs.declared.refusal.EngineRefusal.TheVariants.{DiskFault}
+use Rattle.iv_meaning.specs.Escrow.{IsSession}
 use Rattle.txn_machine.specs.Acts.{Act}
 use Rattle.txn_machine.specs.Answers.{Answer, Refused}
 use Rattle.txn_machine.specs.Log.{Log}
 use Rattle.txn_machine.specs.May.{MayAct}
 use Rattle.txn_machine.specs.State.{State}
-use Rattle.core_journal.specs.Records.{Records, records_after}
-use Rattle.core_state.specs.Stands.{Began, Told, Failed}
+use Rattle.txn_machine.specs.Store.{committed, schema_of}
+use Rattle.txn_machine.specs.Steps.{texts_of}
+use Rattle.txn_book.specs.Holding.{IsSame}
+use Rattle.txn_book.specs.Opens.{open_at}
+use Rattle.txn_book.specs.declared.open_table.Open as book
+use Rattle.ghost_rows.specs.State as views
+use Rattle.data_store.specs.Contents.{contents_of}
+use Rattle.data_store.specs.Held.{IsHeld}
+use Rattle.core_journal.specs.Records.{Records, Saved, records_after, GivesTo}
+use Rattle.core_state.specs.Stands.{HasTexts, Began, Told, Failed}
 use Rattle.core_state.specs.declared.state.CoreState.{CoreState}
+use Rattle.core_recording.specs.Carried.{CarriesAll}
+
+-- What a checkpoint saves in this state of the machine: the maps and the definitions hold what is stored, the texts of definitions among
+-- that, with the greatest commit number and the number that comes next, and the records are those of what open transactions keep.
+pub record IsSaved (s : State) (saved : Saved) : Type 0 where
+  pub rows : views.State
+  pub held : IsHeld saved.definitions saved.maps rows (contents_of s.store)
+  pub texts : HasTexts (saved.maps 0) saved.definitions (texts_of s)
+  pub number : saved.commits ≡ (committed s.store).number
+  pub next_number : saved.next ≡ s.log.next
+  pub opens : List (Option book.Open)
+  pub same : (session : ℕ) → IsSession session → IsSame (schema_of s.store) (open_at opens session) (s.store.open_of session) (s.log.logged session)
+  pub records : CarriesAll (schema_of s.store) opens saved.carried
 
 module _ {M J : Type 0} (maps : M → ℕ → Map) (spare : M → ℕ → ℕ) (limit : M → Option ℕ) (has : J → Records → Type 0) (area : J → Option ℕ) where
   -- the journal has these records, which take what the log counts as used; its limit is the log's, and that of what it saves the data's
@@ -40,10 +62,10 @@ module _ {M J : Type 0} (maps : M → ℕ → Map) (spare : M → ℕ → ℕ) (
     pub behind : IsBehind core journal state.log records
 
   -- what is told of an act, and the journal has the records of its effects beside those that it had, or after a checkpoint what that
-  -- leaves
+  -- saves
   pub record Gave (s : State) (session : ℕ) (a : Act) (said : Answer) (core : CoreState M) (journal : J) (then : CoreState M) (after : J) : Type 0 where
     pub told : Told maps spare limit s session a said then
-    pub gave : (rs : Records) → IsBehind core journal s.log rs → has after (records_after s session a said told.effects rs)
+    pub gave : (rs : Records) → IsBehind core journal s.log rs → GivesTo (has after) (IsSaved s) a said (records_after s session a said told.effects rs)
     pub same_limit : area after ≡ area journal
 
   -- the disk failed: nothing is changed, and what the journal has is not told

@@ -6,7 +6,7 @@ ghost use Rattle.txn_machine.specs.Log.{Log};
 ghost use Rattle.txn_machine.specs.Store.{Store, schema_of};
 ghost use Rattle.log_room.specs.Rooms.{KeepsLatest};
 ghost use Rattle.core_journal.specs.Records.{Records, with_one};
-ghost use Rattle.core_state.specs.Stands.{Holds};
+ghost use Rattle.core_state.specs.Stands.{Holds, Texts};
 ghost use Rattle.core_recording.specs.Appending.{CanAppend, kept_record};
 
 use core_journal::Journal;
@@ -28,9 +28,9 @@ pub(crate) fn latest_of(txn: &Open) -> &KeptStep
 
 /// Gives the record of the step that a session's transaction kept last, under its number.
 pub fn give_latest<M: SortedMaps, J: Journal>(core: &CoreState<M>, journal: &mut J, session: u32)
-    requires { (s : Store) × (l : Log) × (texts : List (List ℕ)) × (rs : Records) × (k : Step) × Holds M.maps M.spare M.limit core.now s l texts × (h : KeepsLatest s l session k)
+    requires { (s : Store) × (l : Log) × (texts : Texts) × (rs : Records) × (k : Step) × Holds M.maps M.spare M.limit core.now s l texts × (h : KeepsLatest s l session k)
         × J.has journal.old rs × CanAppend (J.limit journal.old) (schema_of s) h.number (kept_record (l.logged session).transaction k) rs }
-    ensures has { (s : Store) (l : Log) (texts : List (List ℕ)) (rs : Records) (k : Step) (h : KeepsLatest s l session k) → Holds M.maps M.spare M.limit core.now s l texts → J.has journal.old rs
+    ensures has { (s : Store) (l : Log) (texts : Texts) (rs : Records) (k : Step) (h : KeepsLatest s l session k) → Holds M.maps M.spare M.limit core.now s l texts → J.has journal.old rs
         → J.has journal.new (with_one (schema_of s) (record { number = h.number; of = kept_record (l.logged session).transaction k }) rs) }
     ensures limit { J.limit journal.new ≡ J.limit journal.old }
     ensures faults { J.faults journal.new ≡ J.faults journal.old }

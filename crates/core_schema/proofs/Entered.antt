@@ -4,7 +4,7 @@ use Rattle.std.specs.List.{sum}
 use Rattle.std.specs.Option.{option_and_then}
 use mathlib.Core.Path.{refl, sym, ap, subst, ◌∙◌}
 use mathlib.Core.Logic.{inl, inr}
-use Rattle.std.proofs.Common.{arith}
+use Rattle.std.proofs.Common.{arith, append_assoc}
 use Rattle.iv_types.specs.Maps.{Map}
 use Rattle.iv_types.specs.Syntax.{StatementTree}
 use Rattle.iv_types.specs.Printing.{statement_text}
@@ -25,7 +25,7 @@ use Rattle.txn_machine.specs.Ghosts.{the_views}
 use Rattle.txn_machine.specs.Keeping.{Open}
 use Rattle.txn_machine.specs.Log.{Logged, logs, definition_entries}
 use Rattle.txn_machine.specs.State.{State}
-use Rattle.txn_machine.specs.Steps.{DefinesIt, history_bytes}
+use Rattle.txn_machine.specs.Steps.{DefinesIt, history_bytes, texts_of}
 use Rattle.txn_machine.specs.Store.{Store, committed, schema_of, locks_of, Defines, does}
 use Rattle.txn_machine.specs.Stored.{add_all}
 use Rattle.txn_machine.proofs.Looking.{view_laws}
@@ -47,8 +47,9 @@ use Rattle.data_store.specs.Held.{IsHeld}
 use Rattle.data_defining.specs.Defining.{with_object, AreFirst, CanDefine}
 use Rattle.lock_manager.specs.Table as table
 use Rattle.lock_desk.specs.Asking.{HasLocks}
+use Rattle.data_room.specs.Reserved.{IsReserved}
 use Rattle.data_room.specs.declared.room.DataRoom.{DataRoom}
-use Rattle.core_state.specs.Stands.{Began, Told, Counts, IsOpening}
+use Rattle.core_state.specs.Stands.{Began, Told, Counts, IsOpening, HasTexts}
 use Rattle.core_state.proofs.Rooms.{no_rooms}
 use Rattle.core_state.proofs.Sessions.{contents_as}
 use Rattle.data_past.specs.Ahead.{IsAhead}
@@ -166,9 +167,9 @@ module _ {M : Type 0} (maps : M → ℕ → Map) (spare : M → ℕ → ℕ) (li
         omega (arith, one, other, same, alone)
 
     module _ (new : CoreState M) (change : Change) (is_text : IsTextOf text change) (did : Defined core.book new.book i (change ∷ []) need)
-        (stored : IsHeld new.store.catalog (maps new.store.tables) new.store.views (with_object (contents_of s.store) o)) (limits : limit new.store.tables ≡ limit core.store.tables)
-        (rest : new ≡ record core { store = record core.store { catalog = new.store.catalog; tables = new.store.tables; views = new.store.views }; book = new.book; data_room = new.data_room; log_room = new.log_room; next = core.next + 1 })
-        (bytes : ℕ) (bytes_are : bytes ≡ min (definition_entries text) (2 ^ 64 - 1)) (room_is : new.data_room ≡ record core.data_room { total = new.data_room.total }) (more : core.data_room.total + bytes < 2 ^ 64 → new.data_room.total ≡ core.data_room.total + bytes)
+        (stored : IsHeld new.store.catalog (maps new.store.tables) new.store.views (with_object (contents_of s.store) o)) (texts : HasTexts (maps new.store.tables 0) new.store.catalog ((texts_of s) ++ statement_text statement ∷ []))
+        (limits : limit new.store.tables ≡ limit core.store.tables)
+        (rest : new ≡ record core { store = record core.store { catalog = new.store.catalog; tables = new.store.tables; views = new.store.views }; book = new.book; log_room = new.log_room; next = core.next + 1 })
         (log_limit : new.log_room.limit ≡ core.log_room.limit) (log_then : IsRoomOf new.log_room u (logs s.store i a (Defines o) s.log)) where
       book_then : book.Holds new.book (schema_of u) u.open_of (logs s.store i a (Defines o) s.log).logged u.history (committed u).number (definition_sizes (s.definitions ++ statement_text statement ∷ []))
       book_then =
@@ -187,6 +188,9 @@ module _ {M : Type 0} (maps : M → ℕ → Map) (spare : M → ℕ → ℕ) (li
             bytes = omega (arith, bytes, more, same);
           }
 
+      room_is : new.data_room ≡ core.data_room
+      room_is = ap (λ (x : CoreState M). x.data_room) rest
+
       counts_then : Counts maps spare limit new s
       counts_then = subst (λ (x : CoreState M). Counts maps spare limit x s) (sym rest)
           (record { steps = h.counts.steps; seats = h.counts.seats; few = h.counts.few; cleaner = h.counts.cleaner; removed = h.counts.removed; running = h.counts.running; begun = h.counts.begun; next = h.counts.next; stop = h.counts.stop })
@@ -204,6 +208,7 @@ module _ {M : Type 0} (maps : M → ℕ → Map) (spare : M → ℕ → ℕ) (li
           locks = λ j js. subst (λ ls. HasLocks (table.locks_of ls j) (locks_of s.store j)) (sym (ap (λ (x : CoreState M). x.locks) rest)) (h.holds.locks j js);
           begun = ap (λ (x : CoreState M). x.begun) rest ∙ h.holds.begun;
           next = ap (λ (x : CoreState M). x.next) rest ∙ ap (λ n. n + 1) h.holds.next;
+          texts = subst (HasTexts (maps new.store.tables 0) new.store.catalog) (append_assoc s.opening.definitions s.definitions (statement_text statement ∷ [])) texts;
           row_mark = ap (λ (x : CoreState M). x.store.row_versions.pruned) rest ∙ h.holds.row_mark;
           delta_mark = ap (λ (x : CoreState M). x.store.delta_versions.pruned) rest ∙ h.holds.delta_mark;
           most = limits ∙ (h.holds.most ∙ sym (ap (λ (x : DataRoom). x.limit) room_is));
@@ -215,7 +220,7 @@ module _ {M : Type 0} (maps : M → ℕ → Map) (spare : M → ℕ → ℕ) (li
           rooms = no_rooms (spare new.store.tables) new.store.catalog new.store.views new.book.opens new.locks new.wants (subst IsLimited (sym stored.objects) can.evaluated.limited) (λ j. ap (λ os. open_at os j) did.opens ∙ nobody j);
         };
         reserves = record {
-          data_room = defined_reserved maps spare limit core s i statement d m.may first m.first_are (schema_of u) (logs s.store i a (Defines o) s.log).logged text m.text_is new.data_room bytes bytes_are m.data_small room_is more;
+          data_room = subst (λ x. IsReserved x (schema_of u) u.open_of (logs s.store i a (Defines o) s.log).logged) (sym room_is) (defined_reserved maps spare limit core s i statement d m.may first m.first_are (schema_of u) (logs s.store i a (Defines o) s.log).logged);
           log_room = log_then;
         };
         own = λ sessions e. absurd (cc);

@@ -1,4 +1,5 @@
 pub mod Names
+pub mod Short
 pub mod Made
 pub mod Needs
 pub mod Roomier

@@ -144,8 +144,8 @@ module _ {M : Type 0} (maps : M → ℕ → Map) (spare : M → ℕ → ℕ) (li
     can_define = record {
       evaluated = can_evaluate;
       unkept = none_kept;
-      in_range = λ p column. subst (λ rows. Rattle.iv_types.specs.Encoding.IsHuge (fresh (schema_of s.store ++ o ∷ []) rows p column)) (sym rows_stay)
-          ((may_define s.store statement o (reached s h.reached) m.makes m.none 0 (defines o ∷ []) accepted).in_range p column);
+      in_range = λ v e group column. subst (λ rows. Rattle.iv_types.specs.Encoding.IsHuge (fresh (schema_of s.store ++ o ∷ []) rows (v.number, group) column)) (sym rows_stay)
+          ((may_define s.store statement o (reached s h.reached) m.makes m.none 0 (defines o ∷ []) accepted).in_range (v.number, group) column);
       first = first_are;
     }
 

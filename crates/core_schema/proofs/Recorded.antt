@@ -55,9 +55,9 @@ no_records s i statement rs (answer.Refused refusal.DiskFault) es left fine says
 no_records s i statement rs said es left fine says = ap (λ xs. recorded_all s.store i (act.Schema statement) xs s.log rs) (no_effects s i statement said es left says)
 
 -- it is ready under the number that its definition has
-pub at_number : {M : Type 0} (maps : M → ℕ → Map) (spare : M → ℕ → ℕ) (limit : M → Option ℕ) {s : State} {core : CoreState M} {i : ℕ} {statement : StatementTree} {n number : ℕ} {first : List IndexEntry} {changes : List Change} {need : ℕ}
-    → number ≡ n → IsReady maps spare limit s core i statement n first changes need → IsReady maps spare limit s core i statement number first changes need
-at_number maps spare limit {s = s} {core = core} {i = i} {statement = statement} {first = first} {changes = changes} {need = need} e r = subst (λ k. IsReady maps spare limit s core i statement k first changes need) (sym e) r
+pub at_number : {M : Type 0} (maps : M → ℕ → Map) (spare : M → ℕ → ℕ) (limit : M → Option ℕ) {s : State} {core : CoreState M} {i : ℕ} {statement : StatementTree} {n number : ℕ} {first parts : List IndexEntry} {changes : List Change} {need : ℕ}
+    → number ≡ n → IsReady maps spare limit s core i statement n first parts changes need → IsReady maps spare limit s core i statement number first parts changes need
+at_number maps spare limit {s = s} {core = core} {i = i} {statement = statement} {first = first} {parts = parts} {changes = changes} {need = need} e r = subst (λ k. IsReady maps spare limit s core i statement k first parts changes need) (sym e) r
 
 module _ {M J : Type 0} (maps : M → ℕ → Map) (spare : M → ℕ → ℕ) (limit : M → Option ℕ) (has : J → Records → Type 0) (area : J → Option ℕ) (core : CoreState M) (journal : J) (s : State) (i : ℕ) (statement : StatementTree) where
   -- what was told where nothing was defined gives nothing

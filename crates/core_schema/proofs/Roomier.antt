@@ -6,6 +6,7 @@ use Rattle.std.proofs.Common.{arith}
 use Rattle.iv_types.specs.Maps.{Map}
 use Rattle.txn_machine.specs.State.{State}
 use Rattle.txn_machine.specs.Store.{schema_of}
+use Rattle.txn_machine.specs.Steps.{texts_of}
 use Rattle.txn_book.specs.Books.{Books, IsSame}
 use Rattle.txn_book.specs.Holding as book
 use Rattle.txn_book.specs.Opens.{open_at}
@@ -14,6 +15,7 @@ use Rattle.data_store.specs.Contents.{contents_of}
 use Rattle.data_store.specs.Held.{IsHeld}
 use Rattle.core_state.specs.Rooms.{all_gone}
 use Rattle.core_state.specs.Stands.{Began}
+use Rattle.core_state.proofs.Texts.{same_texts}
 use Rattle.core_state.specs.declared.state.CoreState.{CoreState}
 
 -- what holds after whatever error
@@ -40,6 +42,7 @@ roomier maps spare limit core s i after tables h same as_before more limits = re
     locks = h.holds.locks;
     begun = h.holds.begun;
     next = h.holds.next;
+    texts = same_texts (maps core.store.tables 0) (maps tables 0) core.store.catalog (texts_of s) h.holds.texts (as_before 0);
     row_mark = h.holds.row_mark;
     delta_mark = h.holds.delta_mark;
     most = limits ∙ h.holds.most;

@@ -18,6 +18,8 @@ use Rattle.txn_machine.specs.State.{State}
 use Rattle.txn_machine.specs.Log.{definition_need}
 use Rattle.txn_machine.specs.Steps.{Makes, NoneIsOpen, FitsLog, FitsData, made_need, used_data, history_bytes}
 use Rattle.txn_book.specs.Books.{how_many_open}
+use Rattle.txn_log.specs.Stored.{in_parts}
+use Rattle.definition_parts.specs.Parts.{part_entries}
 use Rattle.data_store.specs.Contents.{contents_of}
 use Rattle.data_defining.specs.Defining.{AreFirst, IsLast}
 use Rattle.data_room.specs.Reserved.{Where}
@@ -91,12 +93,14 @@ module _ {M : Type 0} (maps : M → ℕ → Map) (spare : M → ℕ → ℕ) (li
     pub room : history_bytes s + need ≤ most_of_history
 
   -- the definition stands last in the catalog, without which it may be entered; what that takes memory for is there
-  pub record IsReady (s : State) (core : CoreState M) (session : ℕ) (statement : StatementTree) (number : ℕ) (first : List IndexEntry) (changes : List Change) (need : ℕ) : Type 0 where
+  pub record IsReady (s : State) (core : CoreState M) (session : ℕ) (statement : StatementTree) (number : ℕ) (first parts : List IndexEntry) (changes : List Change) (need : ℕ) : Type 0 where
     pub before : Definitions
     pub definition : Definition
     pub text : List ℕ
     pub may : MayEnter s (with_catalog before core) session statement definition first text need
     pub last : IsLast core.store.catalog before definition number
     pub texts : HaveText text changes
+    pub parts_are : parts ≡ part_entries number text
     pub first_room : length first ≤ spare core.store.tables number
+    pub parts_room : length (in_parts text) ≤ spare core.store.tables 0
     pub entry_room : how_many_open core.book.opens + 1 ≤ core.book.room

@@ -1,5 +1,5 @@
 //! A definition is entered.
-ghost use Rattle.std.specs.Prelude.{◌≡◌, ◌+◌, ◌-◌, ◌^◌, ◌≤◌, ◌<◌, ◌∷◌, ◌++◌, [], ℕ, List, length, min, true, false, IfOk, OnOk, OnErr};
+ghost use Rattle.std.specs.Prelude.{◌≡◌, ◌≢◌, ◌+◌, ◌-◌, ◌^◌, ◌≤◌, ◌<◌, ◌∷◌, ◌++◌, [], ℕ, List, length, min, true, false, IfOk, OnOk, OnErr};
 ghost use Rattle.iv_types.specs.Definitions.{Definitions, number_of};
 ghost use Rattle.iv_types.specs.Faults.{Rose};
 ghost use Rattle.iv_types.specs.declared.catalog.Definition.{Definition as AnyDefinition};
@@ -16,6 +16,9 @@ ghost use Rattle.txn_book.specs.Books.{how_many_open};
 ghost use Rattle.core_journal.specs.Records.{Records};
 ghost use Rattle.core_state.specs.Stands.{Began, Told};
 ghost use Rattle.core_recording.specs.Giving.{IsBehind, Did};
+ghost use Rattle.definition_parts.specs.Parts.{part_entries};
+ghost use Rattle.iv_types.specs.declared.lock.IndexEntry.{IndexEntry as AnyEntry};
+ghost use Rattle.txn_log.specs.Stored.{in_parts};
 ghost use Rattle.core_schema.specs.Making.{MayEnter, IsReady, IsTextOf, HaveText, with_catalog};
 
 use core_journal::Journal;
@@ -23,6 +26,7 @@ use core_recording::{give_and_flush, next_commit};
 use core_state::CoreState;
 use data_defining::{enter_first, reserve_first};
 use data_store::{definition_entries as text_entries, definition_need, definition_size};
+use definition_parts::{parts_of, put_parts, reserve_parts};
 use iv_types::{
     Bytes, Change, ChangeList, Definition, EngineRefusal, IndexEntry, IndexEntryList, NoMemory,
     Row, SortedMaps, Value,
@@ -84,22 +88,27 @@ fn text_changes(alloc: Global, number: u32, text: Bytes) -> Result<ChangeList, N
     Ok(changes)
 }
 
-// Makes room for an entry in the history, and for the entries that an object of this number begins with.
+// Makes room for an entry in the history, for the entries that an object of this number begins with, and for the parts of its text.
 fn reserve<M: SortedMaps>(
     core: &mut CoreState<M>,
     number: u32,
     first: &[IndexEntry],
+    text: &[u8],
 ) -> Result<(), NoMemory>
-    requires { length first.now < 2 ^ 32 }
+    requires first { length first.now < 2 ^ 32 }
+    requires text { length text.now < 2 ^ 32 }
     ensures entry { OnOk result (how_many_open core.new.book.opens + 1 ≤ core.new.book.room) }
     ensures first { OnOk result (length first.now ≤ M.spare core.new.store.tables number) }
+    ensures parts { OnOk result (length (in_parts text.now) ≤ M.spare core.new.store.tables 0) }
     ensures maps { (i : ℕ) → M.maps core.new.store.tables i ≡ M.maps core.old.store.tables i }
     ensures limit { M.limit core.new.store.tables ≡ M.limit core.old.store.tables }
     ensures began { (s : State) (session : ℕ) → Began M.maps M.spare M.limit core.old s session → Began M.maps M.spare M.limit core.new s session }
     ensures rest { core.new ≡ record core.old { store = record core.old.store { tables = core.new.store.tables }; book = core.new.book } }
 {
     core.book.reserve_entry()?;
-    reserve_first(&mut core.store, number, first)
+    reserve_first(&mut core.store, number, first)?;
+    reserve_parts(core.store.tables.maps_mut(), text)?;
+    Ok(())
 }
 
 // The bytes of a row of one Word.
@@ -139,38 +148,38 @@ fn make_ready<M: SortedMaps>(
 ) -> Result<ChangeList, NoMemory>
     requires { (s : State) × (session : ℕ) × (statement : StatementTree) × (need : ℕ) × MayEnter M.maps M.spare M.limit s core.old session statement definition first.now text need }
     ensures ready { IfOk result (λ changes. (s : State) (session : ℕ) (statement : StatementTree) (need : ℕ) → MayEnter M.maps M.spare M.limit s core.old session statement definition first.now text need
-        → IsReady M.maps M.spare M.limit s core.new session statement (number_of definition) first.now changes need) }
+        → (parts : List AnyEntry) → parts ≡ part_entries (number_of definition) text → IsReady M.maps M.spare M.limit s core.new session statement (number_of definition) first.now parts changes need) }
     ensures err { OnErr result ((s : State) (session : ℕ) → Began M.maps M.spare M.limit core.old s session → Began M.maps M.spare M.limit core.new s session) }
 {
     let number = definition.number();
     let changes = text_changes(core.alloc, number, text)?;
-    reserve(core, number, first.as_slice())?;
+    reserve(core, number, first.as_slice(), text_of(&changes))?;
     core.book.book_law();
     core.store.catalog.add(definition)?;
     Ok(changes)
 }
 
-// Enters the definition that stands last in the catalog, whose record is on the disk, with the entries that it begins with, and gives
-// its number in the history. Takes no memory.
+// Enters the definition that stands last in the catalog, whose record is on the disk, with the entries that it begins with and the
+// parts of its text, and gives its number in the history. Takes no memory.
 fn enter_flushed<M: SortedMaps>(
     core: &mut CoreState<M>,
     session: u32,
     number: u32,
     first: IndexEntryList,
+    parts: IndexEntryList,
     changes: ChangeList,
     need: u64,
 ) -> u64
-    requires { (s : State) × (statement : StatementTree) × IsReady M.maps M.spare M.limit s core.old session statement number first changes need }
-    ensures { (s : State) (statement : StatementTree) → IsReady M.maps M.spare M.limit s core.old session statement number first changes need
+    requires { (s : State) × (statement : StatementTree) × IsReady M.maps M.spare M.limit s core.old session statement number first parts changes need }
+    ensures { (s : State) (statement : StatementTree) → IsReady M.maps M.spare M.limit s core.old session statement number first parts changes need
         → Told M.maps M.spare M.limit s session (act.Schema statement) (answer.Committed result) core.new }
 {
-    let text_bytes = text_entries(text_of(&changes));
     let log_bytes = definition_need(text_of(&changes));
     core.book.book_law();
     enter_first(&mut core.store, number, first);
+    put_parts(core.store.tables.maps_mut(), parts);
     let commit = core.book.define(session, changes, need);
     core.next += 1;
-    core.data_room.define(text_bytes);
     core.log_room.define(log_bytes);
     commit
 }
@@ -186,9 +195,9 @@ fn take_back<M: SortedMaps>(core: &mut CoreState<M>)
     }
 }
 
-/// Enters a definition, for which the log, the data and the history have room, with the entries that it begins with. No transaction is
-/// open. Its record is given to the journal and flushed once all memory is taken, before anything but the catalog is changed; where the
-/// disk fails, the answer is that fault, and the definition is taken out of the catalog again.
+/// Enters a definition, for which the log, the data and the history have room, with the entries that it begins with and the parts of
+/// its text. No transaction is open. Its record is given to the journal and flushed once all memory is taken, before anything but the
+/// catalog is changed; where the disk fails, the answer is that fault, and the definition is taken out of the catalog again.
 ///
 /// # Errors
 ///
@@ -213,11 +222,12 @@ pub(crate) fn enter<M: SortedMaps, J: Journal>(
     let number = definition.number();
     let next = core.next;
     let commit = next_commit(core);
+    let parts = parts_of(core.alloc, number, text.as_slice())?;
     let changes = make_ready(core, definition, &first, text)?;
     let lent = definition_of(commit, session, text_of(&changes));
     match give_and_flush(journal, next, lent) {
         Ok(()) => {
-            let entered = enter_flushed(core, session, number, first, changes, need);
+            let entered = enter_flushed(core, session, number, first, parts, changes, need);
             Ok(Answer::Committed(entered))
         }
         Err(_fault) => {

@@ -33,7 +33,7 @@ use Rattle.txn_book.specs.Acts.{answer_of}
 use Rattle.txn_book.specs.declared.step.Answer.{Answer as Said}
 use Rattle.txn_book.specs.declared.step.Answer.TheVariants as said
 use Rattle.core_state.specs.Seats.{machine_seat, machine_cleaner, seat_at, refusal_in, tells, told, cleaned}
-use Rattle.core_state.specs.Stands.{Stands, Began, Told, Failed, Moved, waiting_after, is_blocked, Holds, Reserves, Counts, IsOpening}
+use Rattle.core_state.specs.Stands.{Stands, Began, Told, Failed, Moved, waiting_after, is_blocked, Holds, Reserves, Counts, IsOpening, its_texts, texts_after}
 use Rattle.core_state.proofs.Data.{steps_on}
 use Rattle.core_state.specs.declared.seat.Seat.{Seat}
 use Rattle.core_state.specs.declared.seat.Cleaner.{Cleaner}
@@ -209,7 +209,7 @@ record Acted {M : Type 0} (maps : M → ℕ → Map) (spare : M → ℕ → ℕ)
   pub runs : s.stop ≡ None
   pub effects : List Effect
   pub says : Says s i a m effects
-  pub holds : Holds maps spare limit core (run the_views s.store i effects) (log_after s i a m effects) (definitions_after s.definitions a m)
+  pub holds : Holds maps spare limit core (run the_views s.store i effects) (log_after s i a m effects) (texts_after s a m)
   pub own : (sessions : Sessions) → m ≡ answer.Blocked sessions → table.waiting_of core.locks i ≡ asked s.store i a
   pub none : is_blocked m ≡ false → IsSession i → table.waiting_of core.locks i ≡ []
   pub waiting : (other : ℕ) → IsSession other → other ≢ i → table.waiting_of core.locks other ≡ s.waiting other
@@ -227,14 +227,14 @@ module _ {M : Type 0} (maps : M → ℕ → Map) (spare : M → ℕ → ℕ) (li
   abbrev the_after : State
   the_after = counted s i a (answer_of x) after_store the_waits (definitions_after s.definitions a (answer_of x)) (log_after s i a (answer_of x) t.effects)
 
-  closed : (the_after.stop ≡ None → Reserves maps spare limit core after_store (log_after s i a (answer_of x) t.effects) (definitions_after s.definitions a (answer_of x)))
+  closed : (the_after.stop ≡ None → Reserves maps spare limit core after_store (log_after s i a (answer_of x) t.effects))
       → (steps : ℕ) (seats : List Seat) (cleaner : Cleaner) (stop : Option ℕ) → steps ≡ core.steps + 1 → seat_at seats i ≡ told (seat_at core.seats i) steps (refusal_in x) → ((j : ℕ) → j ≢ i → seat_at seats j ≡ seat_at core.seats j)
       → cleaner ≡ cleaned core.cleaner steps (length core.book.history) x → stop ≡ option_map (λ (y : Stop). y.step) (stop_after s.stop steps a (answer_of x)) → s.steps < most_steps
       → Moved maps spare limit s i a (answer_of x) t.effects (record core { steps = steps; seats = seats; cleaner = cleaner; stop = stop })
   closed reserves steps seats cleaner stop more own others clean stops lt =
       let number : steps ≡ s.steps + 1 = more ∙ ap (λ n. n + 1) t.counts.steps in
       let does : Step s i a (answer_of x) the_after = record { may = may; does = inl (record { runs = t.runs; effects = t.effects; says = t.says; left = refl }) } in
-      let h : Holds maps spare limit core after_store (log_after s i a (answer_of x) t.effects) (definitions_after s.definitions a (answer_of x)) = t.holds in
+      let h : Holds maps spare limit core after_store (log_after s i a (answer_of x) t.effects) (texts_after s a (answer_of x)) = t.holds in
       record {
         after = the_after;
         does = does;
@@ -243,7 +243,7 @@ module _ {M : Type 0} (maps : M → ℕ → Map) (spare : M → ℕ → ℕ) (li
           reached = leads_on s i a (answer_of x) the_after t.reached does;
           opening = steps_on core.log_room.limit core.data_room.limit s i a (answer_of x) the_after t.opening does refl;
           reserves = reserves;
-          holds = record { stored = h.stored; book = h.book; locks = h.locks; begun = h.begun; next = h.next; row_mark = h.row_mark; delta_mark = h.delta_mark; past = h.past; ahead = h.ahead; rooms = h.rooms; most = h.most };
+          holds = record { stored = h.stored; texts = h.texts; book = h.book; locks = h.locks; begun = h.begun; next = h.next; row_mark = h.row_mark; delta_mark = h.delta_mark; past = h.past; ahead = h.ahead; rooms = h.rooms; most = h.most };
           waiting = λ j js. by_session j i
               (λ e. subst (λ k. table.waiting_of core.locks k ≡ with_one s.waiting i the_waits k) (sym e)
               (waits_are s.store i a (answer_of x) (table.waiting_of core.locks i) t.own (λ not. t.none not (subst IsSession e js)) ∙ sym (one_same s.waiting i the_waits i refl)))
@@ -357,13 +357,14 @@ fault_closed maps spare limit core s i a may within f steps next seats stop more
       runs = h.runs;
       effects = [];
       says = f.says;
-      holds = subst (λ ds. Holds maps spare limit (record core { next = next }) s.store (log_after s i a (answer.Refused refused.DiskFault) []) ds) (sym log.2)
-          (subst (λ l. Holds maps spare limit (record core { next = next }) s.store l s.definitions) (sym log.1) (record {
+      holds = subst (λ ds. Holds maps spare limit (record core { next = next }) s.store (log_after s i a (answer.Refused refused.DiskFault) []) (record { before = s.opening.definitions; since = ds })) (sym log.2)
+          (subst (λ l. Holds maps spare limit (record core { next = next }) s.store l (its_texts s)) (sym log.1) (record {
             stored = h.holds.stored;
             book = h.holds.book;
             locks = h.holds.locks;
             begun = h.holds.begun;
             next = appends ∙ ap (λ n. n + waiting_after a) h.holds.next;
+            texts = h.holds.texts;
             row_mark = h.holds.row_mark;
             delta_mark = h.holds.delta_mark;
             past = h.holds.past;
@@ -414,7 +415,7 @@ stop_told maps spare limit core s i a stop seats may within h stopped own others
         reached = leads_on s i a (answer.Refused (refused.Stopped stop.step)) (machine.told_of_stop s i) h.reached does;
         opening = steps_on core.log_room.limit core.data_room.limit s i a (answer.Refused (refused.Stopped stop.step)) (machine.told_of_stop s i) h.opening does refl;
         reserves = λ none. absurd (let bad : Some stop ≡ None = sym stopped ∙ none in cc);
-        holds = record { stored = h.holds.stored; book = h.holds.book; locks = h.holds.locks; begun = h.holds.begun; next = h.holds.next; row_mark = h.holds.row_mark; delta_mark = h.holds.delta_mark; past = h.holds.past; ahead = h.holds.ahead; rooms = h.holds.rooms; most = h.holds.most };
+        holds = record { stored = h.holds.stored; texts = h.holds.texts; book = h.holds.book; locks = h.holds.locks; begun = h.holds.begun; next = h.holds.next; row_mark = h.holds.row_mark; delta_mark = h.holds.delta_mark; past = h.holds.past; ahead = h.holds.ahead; rooms = h.holds.rooms; most = h.holds.most };
         waiting = h.waiting;
         counts = record {
           steps = h.counts.steps;

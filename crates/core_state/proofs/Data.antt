@@ -3,7 +3,7 @@ use Rattle.std.specs.Prelude.{◌≡◌, ℕ, ◌+◌, ◌-◌, ◌<◌, ◌≤�
 use Rattle.std.specs.List.{sum}
 use mathlib.Core.Path.{sym, ap, subst, ◌∙◌}
 use Rattle.std.proofs.Common.{arith}
-use Rattle.iv_types.specs.Maps.{Map, IsWithin, used}
+use Rattle.iv_types.specs.Maps.{Map, IsWithin, used, map_size}
 use Rattle.iv_meaning.specs.Database.{Rows}
 use Rattle.iv_meaning.specs.Schema.{Schema}
 use Rattle.query_laws.specs.Limited.{IsLimited}
@@ -29,21 +29,23 @@ use Rattle.data_store.specs.Held.{IsHeld}
 use Rattle.data_room.specs.Reserved.{Where, kept_for, AreReserved}
 use Rattle.data_room.specs.declared.room.DataRoom.{DataRoom}
 use Rattle.data_room.proofs.Used.{used_is}
+use Rattle.definition_parts.proofs.Sizes.{sizes_are}
 use Rattle.data_room.proofs.Wheres.{where_always, where_map, where_two, where_above, within_is, is_within, within_fewer, above_more}
 use Rattle.log_room.specs.declared.room.LogRoom.{LogRoom}
-use Rattle.core_state.specs.Stands.{IsOpening, Began, Reserves, Holds, Counts}
+use Rattle.core_state.specs.Stands.{IsOpening, Began, Reserves, Holds, Counts, HasTexts, Texts}
 use Rattle.core_state.specs.declared.state.CoreState.{CoreState}
 
 -- ---- what is kept of the data alone becomes another
 
 module _ {M : Type 0} (maps : M → ℕ → Map) (spare : M → ℕ → ℕ) (limit : M → Option ℕ) (core : CoreState M) (room : DataRoom) where
-  pub data_holds : (store : Store) (l : Log) (texts : List (List ℕ)) → room.limit ≡ core.data_room.limit → Holds maps spare limit core store l texts → Holds maps spare limit (record core { data_room = room }) store l texts
+  pub data_holds : (store : Store) (l : Log) (texts : Texts) → room.limit ≡ core.data_room.limit → Holds maps spare limit core store l texts → Holds maps spare limit (record core { data_room = room }) store l texts
   data_holds store l texts same h = record {
     stored = h.stored;
     book = h.book;
     locks = h.locks;
     begun = h.begun;
     next = h.next;
+    texts = h.texts;
     row_mark = h.row_mark;
     delta_mark = h.delta_mark;
     past = h.past;
@@ -56,13 +58,14 @@ module _ {M : Type 0} (maps : M → ℕ → Map) (spare : M → ℕ → ℕ) (li
   data_counts s h = record { steps = h.steps; seats = h.seats; few = h.few; cleaner = h.cleaner; removed = h.removed; running = h.running; begun = h.begun; next = h.next; stop = h.stop }
 
 -- what is used and reserved of the log alone becomes another
-pub log_holds : {M : Type 0} (maps : M → ℕ → Map) (spare : M → ℕ → ℕ) (limit : M → Option ℕ) (core : CoreState M) (room : LogRoom) (store : Store) (l : Log) (texts : List (List ℕ)) → Holds maps spare limit core store l texts → Holds maps spare limit (record core { log_room = room }) store l texts
+pub log_holds : {M : Type 0} (maps : M → ℕ → Map) (spare : M → ℕ → ℕ) (limit : M → Option ℕ) (core : CoreState M) (room : LogRoom) (store : Store) (l : Log) (texts : Texts) → Holds maps spare limit core store l texts → Holds maps spare limit (record core { log_room = room }) store l texts
 log_holds maps spare limit core room store l texts h = record {
   stored = h.stored;
   book = h.book;
   locks = h.locks;
   begun = h.begun;
   next = h.next;
+  texts = h.texts;
   row_mark = h.row_mark;
   delta_mark = h.delta_mark;
   past = h.past;
@@ -79,7 +82,8 @@ run_more s (x ∷ ds) middle d after r step = (r.0, r.1, run_more r.0 ds middle 
 
 pub steps_on : (log most : Option ℕ) (s : State) (i : ℕ) (a : Act) (said : Answer) (after : State) → IsOpening log most s → Step s i a said after → after.opening ≡ s.opening → IsOpening log most after
 steps_on log most s i a said after h step same = record {
-  is = same ∙ h.is;
+  log_is = ap (λ (o : Opening). o.log_limit) same ∙ h.log_is;
+  data_is = ap (λ (o : Opening). o.data_limit) same ∙ h.data_is;
   reached = record {
     db = h.reached.db;
     view = h.reached.view;
@@ -88,38 +92,40 @@ steps_on log most s i a said after h step same = record {
     steps = h.reached.steps ++ record { session = i; act = a; said = said } ∷ [];
     run = run_more _ h.reached.steps s (record { session = i; act = a; said = said }) after h.reached.run step;
   };
-  was = h.was;
+  was = h.was ∙ sym same;
   least = h.least;
   bounded = h.bounded;
-  within = h.within;
+  within = subst (λ (o : Opening). OpensWithin o (record { db = h.reached.db; view = h.reached.view })) (sym same) h.within;
+  early = subst (λ (o : Opening). o.next ≤ 2 ^ 62) (sym same) h.early;
 }
 
 -- ---- what the data use
 
-module _ {M : Type 0} (maps : M → ℕ → Map) (spare : M → ℕ → ℕ) (limit : M → Option ℕ) (core : CoreState M) (s : State) (opening : IsOpening core.log_room.limit core.data_room.limit s) (reserves : Reserves maps spare limit core s.store s.log s.definitions)
-    (c : Contents) (held : IsHeld core.store.catalog (maps core.store.tables) core.store.views c) (objects : c.objects ≡ schema_of s.store) (rows : c.rows ≡ s.store.rows) (view : c.view ≡ s.store.view) (limited : IsLimited (schema_of s.store)) where
+module _ {M : Type 0} (maps : M → ℕ → Map) (spare : M → ℕ → ℕ) (limit : M → Option ℕ) (core : CoreState M) (s : State) (opening : IsOpening core.log_room.limit core.data_room.limit s) (reserves : Reserves maps spare limit core s.store s.log)
+    (c : Contents) (held : IsHeld core.store.catalog (maps core.store.tables) core.store.views c) (texts : HasTexts (maps core.store.tables 0) core.store.catalog (texts_of s)) (objects : c.objects ≡ schema_of s.store) (rows : c.rows ≡ s.store.rows) (view : c.view ≡ s.store.view) (limited : IsLimited (schema_of s.store)) where
   sound : AreSound (schema_of s.store) s.store.rows
   sound = stored_sound the_views fresh view_laws (committed s.store) s.store (reached s opening.reached)
 
-  pub entries_are : used (maps core.store.tables) ≡ rows_bytes (schema_of s.store) s.store.rows + view_entries s.store.view
+  pub entries_are : used (maps core.store.tables) ≡ rows_bytes (schema_of s.store) s.store.rows + view_entries s.store.view + sum (map definition_entries (texts_of s))
   entries_are =
       used_is core.store.catalog (maps core.store.tables) core.store.views c held
       (subst (λ (o : Schema). AreSound o c.rows) (sym objects) (subst (λ (r : Rows). AreSound (schema_of s.store) r) (sym rows) sound))
       (subst (λ (o : Schema). AreStored o c.view) (sym objects) (subst (AreStored (schema_of s.store)) (sym view) (stored_row_law s opening.reached)))
       (subst IsLimited (sym objects) limited)
-      ∙ (λ x. rows_bytes (objects x) (rows x) + view_entries (view x))
+      ∙ ((λ x. rows_bytes (objects x) (rows x) + view_entries (view x) + map_size (texts.are x))
+      ∙ ap (λ n. rows_bytes (schema_of s.store) s.store.rows + view_entries s.store.view + n) (sizes_are (texts_of s) texts.short texts.few))
 
   pub all_used : Where core.data_room.limit (used (maps core.store.tables) + core.data_room.total ≡ used_data s)
-  all_used = where_map core.data_room.limit (λ (r : AreReserved core.data_room (schema_of s.store) s.store.open_of s.log.logged s.definitions).
+  all_used = where_map core.data_room.limit (λ (r : AreReserved core.data_room (schema_of s.store) s.store.open_of s.log.logged).
       let stored = entries_are in
-      let total : core.data_room.total ≡ sum_over 64 (kept_for (schema_of s.store) s.store.open_of s.log.logged) + sum (map definition_entries s.definitions) = r.total in
-      let texts : sum (map definition_entries (texts_of s)) ≡ sum (map definition_entries s.definitions) = ap (λ (o : Opening). sum (map definition_entries (o.definitions ++ s.definitions))) opening.is in
-      let same : used (maps core.store.tables) + core.data_room.total ≡ used_data s = omega (arith, stored, total, texts) in
+      let total : core.data_room.total ≡ sum_over 64 (kept_for (schema_of s.store) s.store.open_of s.log.logged) = r.total in
+      let same : used (maps core.store.tables) + core.data_room.total ≡ used_data s = omega (arith, stored, total) in
       same) reserves.data_room
 
   pub data_fits : Within core.data_room.limit (used_data s)
-  data_fits = subst (λ (o : Opening). Within o.data_limit (used_data s)) opening.was
-      (data_limit s opening.reached (subst (λ (o : Opening). OpensWithin o (record { db = opening.reached.db; view = opening.reached.view })) (sym opening.was) opening.within))
+  data_fits = subst (λ m. Within m (used_data s)) opening.data_is
+      (subst (λ (o : Opening). Within o.data_limit (used_data s)) opening.was
+      (data_limit s opening.reached (subst (λ (o : Opening). OpensWithin o (record { db = opening.reached.db; view = opening.reached.view })) (sym opening.was) opening.within)))
 
   pub data_within : IsWithin core.data_room.limit (used (maps core.store.tables) + core.data_room.total)
   data_within = within_fewer core.data_room.limit (used_data s) (used (maps core.store.tables) + core.data_room.total)
@@ -131,20 +137,20 @@ module _ {M : Type 0} (maps : M → ℕ → Map) (spare : M → ℕ → ℕ) (li
   limited_here : IsLimited (schema_of s.store)
   limited_here = subst IsLimited h.holds.stored.objects h.holds.rooms.limited
 
-  pub began_entries : used (maps core.store.tables) ≡ rows_bytes (schema_of s.store) s.store.rows + view_entries s.store.view
-  began_entries = entries_are maps spare limit core s h.opening h.reserves (contents_of s.store) h.holds.stored refl refl refl limited_here
+  pub began_entries : used (maps core.store.tables) ≡ rows_bytes (schema_of s.store) s.store.rows + view_entries s.store.view + sum (map definition_entries (texts_of s))
+  began_entries = entries_are maps spare limit core s h.opening h.reserves (contents_of s.store) h.holds.stored h.holds.texts refl refl refl limited_here
 
   pub began_used : Where core.data_room.limit (used (maps core.store.tables) + core.data_room.total ≡ used_data s)
-  began_used = all_used maps spare limit core s h.opening h.reserves (contents_of s.store) h.holds.stored refl refl refl limited_here
+  began_used = all_used maps spare limit core s h.opening h.reserves (contents_of s.store) h.holds.stored h.holds.texts refl refl refl limited_here
 
   pub began_within : IsWithin core.data_room.limit (used (maps core.store.tables) + core.data_room.total)
-  began_within = data_within maps spare limit core s h.opening h.reserves (contents_of s.store) h.holds.stored refl refl refl limited_here
+  began_within = data_within maps spare limit core s h.opening h.reserves (contents_of s.store) h.holds.stored h.holds.texts refl refl refl limited_here
 
   pub began_fits : Within core.data_room.limit (used_data s)
-  began_fits = data_fits maps spare limit core s h.opening h.reserves (contents_of s.store) h.holds.stored refl refl refl limited_here
+  began_fits = data_fits maps spare limit core s h.opening h.reserves (contents_of s.store) h.holds.stored h.holds.texts refl refl refl limited_here
 
   pub limit_of : s.opening.data_limit ≡ core.data_room.limit
-  limit_of = ap (λ (o : Opening). o.data_limit) h.opening.is
+  limit_of = h.opening.data_is
 
   abbrev in_all : ℕ
   in_all = used (maps core.store.tables) + core.data_room.total

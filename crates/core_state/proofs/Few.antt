@@ -16,7 +16,7 @@ use Rattle.txn_machine.specs.Store.{Store, schema_of, now, changes_by}
 use Rattle.txn_book.specs.Holding.{IsSame}
 use Rattle.txn_book.specs.Opens.{open_at}
 use Rattle.txn_book.specs.declared.open_table.Open.{Open as BookOpen}
-use Rattle.core_state.specs.Stands.{Holds}
+use Rattle.core_state.specs.Stands.{Holds, Texts}
 use Rattle.core_state.specs.declared.state.CoreState.{CoreState}
 
 pub many_deltas : (ds : List GroupDelta) → 128 * length ds ≤ sum (map delta_size ds)
@@ -38,7 +38,7 @@ kept_few objects (Put c ds ∷ ks) owed h =
     let rest : 128 * (length ks + 0) ≤ sum (map (kept_size objects) ks) = kept_few objects ks [] h.1 in
     omega (arith, same, rest, many_deltas ds, sum_by-cons (λ n. n) (put_size objects c ds) (map (kept_size objects) ks))
 
-module _ {M : Type 0} (maps : M → ℕ → Map) (spare : M → ℕ → ℕ) (limit : M → Option ℕ) (core : CoreState M) (s : Store) (l : Log) (texts : List (List ℕ)) (h : Holds maps spare limit core s l texts) where
+module _ {M : Type 0} (maps : M → ℕ → Map) (spare : M → ℕ → ℕ) (limit : M → Option ℕ) (core : CoreState M) (s : Store) (l : Log) (texts : Texts) (h : Holds maps spare limit core s l texts) where
   -- what it keeps and owes
   pub steps_few : (j : ℕ) → IsSession j → IsSettled (now s j).kept (now s j).owed → length (now s j).kept + length (now s j).owed ≤ 524288
   steps_few j js = by (open_at core.book.opens j) (s.open_of j) refl (h.book.txns j js)

@@ -7,3 +7,4 @@ pub mod Counted
 pub mod Few
 pub mod Data
 pub mod Logged
+pub mod Texts

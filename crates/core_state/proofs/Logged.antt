@@ -25,7 +25,7 @@ exact_above (Some most) all need exact is above = omega (arith, is, above)
 
 module _ {M : Type 0} (maps : M → ℕ → Map) (spare : M → ℕ → ℕ) (limit : M → Option ℕ) (core : CoreState M) (s : State) (i : ℕ) (h : Began maps spare limit core s i) where
   pub log_limit_of : s.opening.log_limit ≡ core.log_room.limit
-  log_limit_of = ap (λ (o : Opening). o.log_limit) h.opening.is
+  log_limit_of = h.opening.log_is
 
   -- it has room for a need, or has none
   pub log_fits : (need exact : ℕ) → need ≡ told_need exact → Within core.log_room.limit (s.log.used + reserved s.store s.log + need) → FitsLog s exact

@@ -4,7 +4,7 @@ use Rattle.std.specs.List.{AllZip, sum}
 use Rattle.std.specs.FinMap.{empty, entries, len-entries, len-empty}
 use mathlib.Core.Path.{sym, ap, subst, ◌∙◌}
 use Rattle.std.proofs.Common.{arith}
-use Rattle.std.proofs.lemmas.List.{nil_from_length}
+use Rattle.std.proofs.lemmas.List.{nil_from_length, length-map}
 use Rattle.table_laws.specs.Place.{Place, place_cmp}
 use Rattle.table_laws.proofs.Stored.{by_session}
 use Rattle.iv_types.specs.Maps.{Map}
@@ -17,6 +17,7 @@ use Rattle.query_laws.specs.Limited.{IsLimited}
 use Rattle.query_laws.proofs.LimitedLemmas.{numbers_law}
 use Rattle.core_state.proofs.Rooms.{rooms_back, no_rooms}
 use Rattle.iv_meaning.specs.Database.{Row, Database}
+use Rattle.iv_meaning.specs.Objects as defined
 use Rattle.txn_machine.specs.Laws.{EmptyLaw, IsReached}
 use Rattle.txn_machine.specs.Counts.{sum_over}
 use Rattle.txn_machine.specs.Log.{Within, block_bytes, opened_log, not_logged, row_entries, view_entry, view_entries}
@@ -64,6 +65,7 @@ module _ {M : Type 0} (maps : M → ℕ → Map) (spare : M → ℕ → ℕ) (li
       locks = λ j js. subst (λ ls. HasLocks ls (locks_of s.store j)) (sym (locks_same cancelled j)) (h.holds.locks j js);
       begun = h.holds.begun;
       next = h.holds.next;
+      texts = h.holds.texts;
       row_mark = h.holds.row_mark;
       delta_mark = h.holds.delta_mark;
       past = h.holds.past;
@@ -122,13 +124,13 @@ module _ {M : Type 0} (maps : M → ℕ → Map) (spare : M → ℕ → ℕ) (li
       (subst (λ (p : Pendings). IsPast [] [] p (opened the_db empty)) (sym none) (past_opened the_db empty)))
 
   -- it stands where the machine begins
-  pub made : EmptyLaw → IsHeld core.store.catalog (maps core.store.tables) core.store.views no_contents → (core.store.row_versions.pruned ≡ number) × (core.store.delta_versions.pruned ≡ number)
+  pub made : EmptyLaw → IsHeld core.store.catalog (maps core.store.tables) core.store.views no_contents → maps core.store.tables 0 ≡ empty → (core.store.row_versions.pruned ≡ number) × (core.store.delta_versions.pruned ≡ number)
       → (core.store.row_versions.versions ≡ []) × (core.store.delta_versions.versions ≡ []) × (core.store.pending.entries ≡ empty) → core.book.opened ≡ number → core.book.history ≡ [] → core.book.entry_bytes ≡ 0 → ((session : ℕ) → open_at core.book.opens session ≡ None)
       → IsRoomOf core.log_room (opened the_db empty) (opened_log 1) → Within core.log_room.limit (block_bytes + 1) → IsSome core.data_room.limit
       → IsNew core.locks → ((session : ℕ) → rows_at core.ahead session ≡ []) → ((session : ℕ) → deltas_at core.ahead session ≡ []) → limit core.store.tables ≡ core.data_room.limit → core.data_room.total ≡ 0 → ((session : ℕ) → share_at core.data_room.shares session ≡ 0) → core.begun ≡ 0 → core.next ≡ 1 → core.steps ≡ 0 → ((session : ℕ) → seat_at core.seats session ≡ new_seat) → machine_cleaner core.cleaner ≡ the_state.cleaner → core.stop ≡ None → Stands maps spare limit core the_state
-  made law stored marks past opened_at history bytes none log_room least bounded new no_rows no_deltas most total shares begun next steps seats cleaner stop = record {
+  made law stored no_texts marks past opened_at history bytes none log_room least bounded new no_rows no_deltas most total shares begun next steps seats cleaner stop = record {
     reached = reached_here law;
-    opening = record { is = refl; reached = reached_here law; was = refl; least = least; bounded = bounded; within = within_here core.data_room.limit };
+    opening = record { log_is = refl; data_is = refl; reached = reached_here law; was = refl; least = least; bounded = bounded; within = within_here core.data_room.limit; early = omega arith };
     reserves = λ _. record { data_room = reserved_none core.data_room [] (λ session. None) (λ session. not_logged) total shares (λ session. refl); log_room = log_room };
     holds = record {
       stored = stored;
@@ -142,6 +144,7 @@ module _ {M : Type 0} (maps : M → ℕ → Map) (spare : M → ℕ → ℕ) (li
       locks = λ j js. subst (λ ls. HasLocks ls []) (sym (ap (λ (x : SessionLocks). x.locks) (new j))) (λ w. (λ h. h, λ h. h));
       begun = begun;
       next = next;
+      texts = record { are = no_texts; many = let none : length (defined.schema_of core.store.catalog) ≡ 0 = ap length stored.objects in let same = length-map core.store.catalog defined.object_of in omega (arith, none, same); short = tt; few = omega arith };
       row_mark = marks.0;
       delta_mark = marks.1;
       past = past_of past.0 past.1 past.2;

@@ -25,7 +25,7 @@ use Rattle.txn_book.specs.Books.{IsBook}
 use Rattle.txn_book.specs.Txns.{txn_of, changes_in}
 use Rattle.txn_book.specs.Holding.{IsTxn, IsSame, AreKept}
 use Rattle.txn_book.specs.declared.open_table.Open.{Open as BookOpen}
-use Rattle.data_store.specs.Contents.{Contents}
+use Rattle.data_store.specs.Contents.{Contents, with_texts}
 use Rattle.core_state.specs.Rooms.{still_owed}
 use Rattle.core_state.specs.Stands.{Began}
 use Rattle.iv_types.specs.declared.statement.Mode.{Mode}
@@ -34,8 +34,8 @@ use Rattle.core_state.specs.declared.state.CoreState.{CoreState}
 -- ---- one session's transaction is another
 
 -- contents with the same parts
-pub contents_as : (c d : Contents) → c.objects ≡ d.objects → c.rows ≡ d.rows → c.view ≡ d.view → ((j : ℕ) → c.kept j ≡ d.kept j) → c ≡ d
-contents_as c d objects rows view kept = λ i. record { objects = objects i; rows = rows i; view = view i; kept = λ j. kept j i }
+pub contents_as : (c d : Contents) → c.objects ≡ d.objects → c.rows ≡ d.rows → c.view ≡ d.view → ((j : ℕ) → c.kept j ≡ d.kept j) → c ≡ with_texts c.texts d
+contents_as c d objects rows view kept = λ i. record { objects = objects i; rows = rows i; view = view i; kept = λ j. kept j i; texts = c.texts }
 
 -- what sessions keep
 pub kept_of : (open_of : ℕ → Option Open) (i : ℕ) (o : Option Open) (j : ℕ) → (unwrap_or (with_one open_of i o j) idle).kept ≡ with_one (λ k. (unwrap_or (open_of k) idle).kept) i (unwrap_or o idle).kept j
@@ -111,7 +111,7 @@ module _ {M : Type 0} (maps : M → ℕ → Map) (spare : M → ℕ → ℕ) (li
 
   -- a snapshot keeps nothing
   pub bare : (j : ℕ) → IsSession j → IsBare (s.store.open_of j) (s.log.logged j)
-  bare j js = (roomy_reached s h.reached (subst (λ o. Within o.log_limit (block_bytes + 1)) (sym h.opening.is) h.opening.least) h.runs).bare j js
+  bare j js = (roomy_reached s h.reached (subst (λ m. Within m (block_bytes + 1)) (sym h.opening.log_is) h.opening.least) h.runs).bare j js
 
   pub snapshots_bare : (j : ℕ) (t : Open) → IsSession j → s.store.open_of j ≡ Some t → t.mode ≡ Snapshot → t.kept ≡ []
   snapshots_bare j t js e mode = (subst (λ o. IsBare o (s.log.logged j)) e (bare j js) mode).0

@@ -10,7 +10,7 @@ use Rattle.txn_machine.specs.Answers.{Answer}
 use Rattle.txn_machine.specs.Log.{Log}
 use Rattle.txn_machine.specs.State.{State, is_fault}
 use Rattle.txn_machine.specs.Steps.{Says, definitions_after, log_after}
-use Rattle.core_state.specs.Stands.{Began, Told, Holds, Reserves, is_blocked}
+use Rattle.core_state.specs.Stands.{Began, Told, Holds, Reserves, is_blocked, its_texts}
 use Rattle.core_state.specs.declared.state.CoreState.{CoreState}
 
 -- nobody is in the way of an answer that is not that
@@ -25,8 +25,8 @@ unchanged_told maps spare limit core s i a said h says log_same definitions not 
   runs = h.runs;
   effects = [];
   says = says;
-  holds = subst (λ ds. Holds maps spare limit core s.store (log_after s i a said []) ds) (sym definitions) (subst (λ l. Holds maps spare limit core s.store l s.definitions) (sym log_same) h.holds);
-  reserves = subst (λ ds. Reserves maps spare limit core s.store (log_after s i a said []) ds) (sym definitions) (subst (λ l. Reserves maps spare limit core s.store l s.definitions) (sym log_same) h.reserves);
+  holds = subst (λ ds. Holds maps spare limit core s.store (log_after s i a said []) (record { before = s.opening.definitions; since = ds })) (sym definitions) (subst (λ l. Holds maps spare limit core s.store l (its_texts s)) (sym log_same) h.holds);
+  reserves = subst (λ l. Reserves maps spare limit core s.store l) (sym log_same) h.reserves;
   own = λ sessions b. absurd (not_blocked said sessions b not);
   none = λ _ is. h.own is;
   waiting = h.waiting;

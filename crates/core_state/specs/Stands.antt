@@ -1,8 +1,10 @@
 -- No clause of `run` rests on this module: it serves contracts between crates.
 --
 -- In which state of the machine a core is. Its data have a limit, its log may have one; what a crash leaves is not told.
-use Rattle.std.specs.Prelude.{◌≡◌, ◌≢◌, ℕ, ◌+◌, ◌<◌, ◌≤◌, List, [], None, IsSome, false, true, Bool, Option}
+use Rattle.std.specs.Prelude.{◌≡◌, ◌≢◌, ℕ, ◌+◌, ◌<◌, ◌≤◌, ◌^◌, List, [], ◌++◌, length, None, Some, IsSome, false, true, Bool, Option}
+use Rattle.std.specs.List.{AllByRecursion}
 use Rattle.std.specs.Option.{option_map}
+use Rattle.iv_types.specs.Definitions.{Definitions}
 use Rattle.iv_types.specs.Maps.{Map}
 use Rattle.iv_types.specs.declared.refusal.EngineRefusal.TheVariants.{DiskFault}
 use Rattle.iv_types.specs.declared.session.Sessions.{Sessions}
@@ -21,7 +23,8 @@ use Rattle.txn_machine.specs.Steps.{Says, Step, asked, definitions_after, log_af
 use Rattle.txn_machine.specs.Laws.{IsReached}
 use Rattle.txn_log.specs.Room.{OpensWithin}
 use Rattle.txn_book.specs.Holding as book
-use Rattle.data_store.specs.Contents.{contents_of}
+use Rattle.definition_parts.specs.Parts.{parts_map, IsShort}
+use Rattle.data_store.specs.Contents.{Contents, contents_of, with_texts}
 use Rattle.data_store.specs.Held.{IsHeld}
 use Rattle.data_store.specs.Machine.{IsPast}
 use Rattle.data_past.specs.Ahead.{IsAhead}
@@ -37,21 +40,51 @@ use Rattle.core_state.specs.declared.state.CoreState.{CoreState}
 abbrev pub limited : Option ℕ → Option ℕ → Opening
 limited log most = record unlimited { log_limit = log; data_limit = most }
 
--- the opening is so, and steps lead to the state from a database that was within the limits as it was opened
+-- the opening has these limits, and steps lead to the state from a database that was within them as it was opened
 pub record IsOpening (log most : Option ℕ) (s : State) : Type 0 where
-  pub is : s.opening ≡ limited log most
+  pub log_is : s.opening.log_limit ≡ log
+  pub data_is : s.opening.data_limit ≡ most
   pub reached : IsReached s
-  pub was : reached.opening ≡ limited log most
+  pub was : reached.opening ≡ s.opening
   -- an area of the log holds an empty block
   pub least : Within log (block_bytes + 1)
   -- the data have a limit
   pub bounded : IsSome most
-  pub within : OpensWithin (limited log most) (record { db = reached.db; view = reached.view })
+  pub within : OpensWithin s.opening (record { db = reached.db; view = reached.view })
+  -- the numbers of its records do not end
+  pub early : s.opening.next ≤ 2 ^ 62
 
--- what open transactions and these definitions keep of the data, and what is used and reserved of the log
-pub record AreKept (of_data : DataRoom) (of_log : LogRoom) (store : Store) (log : Log) (definitions : List (List ℕ)) : Type 0 where
-  pub data_room : IsReserved of_data (schema_of store) store.open_of log.logged definitions
+-- what open transactions keep of the data, and what is used and reserved of the log
+pub record AreKept (of_data : DataRoom) (of_log : LogRoom) (store : Store) (log : Log) : Type 0 where
+  pub data_room : IsReserved of_data (schema_of store) store.open_of log.logged
   pub log_room : IsRoomOf of_log store log
+
+-- the texts of definitions: of those that were there as the database was opened, and of those since
+pub record Texts : Type 0 where
+  pub before : List (List ℕ)
+  pub since : List (List ℕ)
+
+abbrev pub all_texts : Texts → List (List ℕ)
+all_texts t = t.before ++ t.since
+
+-- in a state
+abbrev pub its_texts : State → Texts
+its_texts s = record { before = s.opening.definitions; since = s.definitions }
+
+-- after an act is answered so
+abbrev pub texts_after : State → Act → Answer → Texts
+texts_after s a said = record { before = s.opening.definitions; since = definitions_after s.definitions a said }
+
+-- these are the entries of the parts of texts, one for each definition, whose numbers tell them apart
+pub record HasTexts (entries : Map) (definitions : Definitions) (texts : List (List ℕ)) : Type 0 where
+  pub are : entries ≡ parts_map texts
+  pub many : length texts ≡ length definitions
+  pub short : AllByRecursion IsShort texts
+  pub few : length texts < 2 ^ 32
+
+-- what a store has, with the texts of these definitions
+abbrev pub told : Store → Texts → Contents
+told store texts = with_texts (Some (parts_map (all_texts texts))) (contents_of store)
 
 -- how many records wait where the disk failed an act: a checkpoint has none of its own
 abbrev pub waiting_after : Act → ℕ
@@ -65,9 +98,11 @@ is_blocked _ = false
 
 module _ {M : Type 0} (maps : M → ℕ → Map) (spare : M → ℕ → ℕ) (limit : M → Option ℕ) where
   -- what is stored, the open transactions with their locks, and the history
-  pub record Holds (core : CoreState M) (store : Store) (log : Log) (definitions : List (List ℕ)) : Type 0 where
+  pub record Holds (core : CoreState M) (store : Store) (log : Log) (definitions : Texts) : Type 0 where
     pub stored : IsHeld core.store.catalog (maps core.store.tables) core.store.views (contents_of store)
-    pub book : book.Holds core.book (schema_of store) store.open_of log.logged store.history (committed store).number (definition_sizes definitions)
+    -- the texts of definitions, in their parts, stand under index 0
+    pub texts : HasTexts (maps core.store.tables 0) core.store.catalog (all_texts definitions)
+    pub book : book.Holds core.book (schema_of store) store.open_of log.logged store.history (committed store).number (definition_sizes definitions.since)
     pub locks : (session : ℕ) → IsSession session → HasLocks (table.locks_of core.locks session) (locks_of store session)
     pub begun : core.begun ≡ log.begun
     pub next : core.next ≡ log.next
@@ -84,8 +119,8 @@ module _ {M : Type 0} (maps : M → ℕ → Map) (spare : M → ℕ → ℕ) (li
     pub most : limit core.store.tables ≡ core.data_room.limit
 
   -- the core knows that
-  abbrev pub Reserves : CoreState M → Store → Log → List (List ℕ) → Type 0
-  Reserves core store log definitions = AreKept core.data_room core.log_room store log definitions
+  abbrev pub Reserves : CoreState M → Store → Log → Type 0
+  Reserves core store log = AreKept core.data_room core.log_room store log
 
   -- the counts of steps, and what sessions were told
   pub record Counts (core : CoreState M) (s : State) : Type 0 where
@@ -96,15 +131,15 @@ module _ {M : Type 0} (maps : M → ℕ → Map) (spare : M → ℕ → ℕ) (li
     pub removed : s.cleaner.removed ≤ s.steps
     pub running : s.stop ≡ None → s.steps < most_steps
     pub begun : s.log.begun ≤ s.steps
-    pub next : s.log.next ≤ s.steps + 1
+    pub next : s.log.next ≤ s.steps + s.opening.next
     pub stop : core.stop ≡ option_map (λ x. x.step) s.stop
 
   -- a core is in a state that steps lead to
   pub record Stands (core : CoreState M) (s : State) : Type 0 where
     pub reached : IsReached s
     pub opening : IsOpening core.log_room.limit core.data_room.limit s
-    pub holds : Holds core s.store s.log s.definitions
-    pub reserves : s.stop ≡ None → Reserves core s.store s.log s.definitions
+    pub holds : Holds core s.store s.log (its_texts s)
+    pub reserves : s.stop ≡ None → Reserves core s.store s.log
     pub waiting : (session : ℕ) → IsSession session → table.waiting_of core.locks session ≡ s.waiting session
     pub counts : Counts core s
 
@@ -113,8 +148,8 @@ module _ {M : Type 0} (maps : M → ℕ → Map) (spare : M → ℕ → ℕ) (li
     pub reached : IsReached s
     pub opening : IsOpening core.log_room.limit core.data_room.limit s
     pub runs : s.stop ≡ None
-    pub holds : Holds core s.store s.log s.definitions
-    pub reserves : Reserves core s.store s.log s.definitions
+    pub holds : Holds core s.store s.log (its_texts s)
+    pub reserves : Reserves core s.store s.log
     pub own : IsSession session → table.waiting_of core.locks session ≡ []
     pub waiting : (other : ℕ) → IsSession other → other ≢ session → table.waiting_of core.locks other ≡ s.waiting other
     pub counts : Counts core s
@@ -126,8 +161,8 @@ module _ {M : Type 0} (maps : M → ℕ → Map) (spare : M → ℕ → ℕ) (li
     pub runs : s.stop ≡ None
     pub effects : List Effect
     pub says : Says s session a said effects
-    pub holds : Holds core (run the_views s.store session effects) (log_after s session a said effects) (definitions_after s.definitions a said)
-    pub reserves : Reserves core (run the_views s.store session effects) (log_after s session a said effects) (definitions_after s.definitions a said)
+    pub holds : Holds core (run the_views s.store session effects) (log_after s session a said effects) (texts_after s a said)
+    pub reserves : Reserves core (run the_views s.store session effects) (log_after s session a said effects)
     pub own : (sessions : Sessions) → said ≡ Blocked sessions → table.waiting_of core.locks session ≡ asked s.store session a
     pub none : is_blocked said ≡ false → IsSession session → table.waiting_of core.locks session ≡ []
     pub waiting : (other : ℕ) → IsSession other → other ≢ session → table.waiting_of core.locks other ≡ s.waiting other

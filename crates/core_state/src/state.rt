@@ -37,7 +37,7 @@ pub struct CoreState<M: SortedMaps> {
     pub wants: PayWants,
     /// The versions that commits of open transactions will leave, made ahead.
     pub ahead: VersionsAhead,
-    /// What open transactions keep of the data, and the texts of definitions, with the limit of the data.
+    /// What open transactions keep of the data, with the limit of the data.
     pub data_room: DataRoom,
     /// What is used and reserved of the log, with its limit.
     pub log_room: LogRoom,

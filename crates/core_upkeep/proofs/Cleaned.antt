@@ -35,4 +35,4 @@ module _ (s : State) (rs : Records) where
 pub gave_none : {M J : Type 0} (maps : M → ℕ → Map) (spare : M → ℕ → ℕ) (limit : M → Option ℕ) (has : J → Records → Type 0) (area : J → Option ℕ) (core : CoreState M) (journal : J) (s : State) (said : Answer) (then : CoreState M)
     → Began maps spare limit core s 0 → (told : Told maps spare limit s 0 act.Clean said then) → ((rs : Records) → records_after s 0 act.Clean said told.effects rs ≡ rs) → Gave maps spare limit has area s 0 act.Clean said core journal then journal
 gave_none maps spare limit has area core journal s said then began told quiet =
-    gave_all maps spare limit has area core journal s 0 act.Clean said then began told journal (λ rs mine. subst (has journal) (sym (quiet rs)) mine) refl
+    gave_all maps spare limit has area core journal s 0 act.Clean said then began told journal (λ rs mine. subst (has journal) (sym (quiet rs)) mine) refl tt

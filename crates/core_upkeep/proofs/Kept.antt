@@ -60,6 +60,7 @@ module _ {M : Type 0} (maps : M → ℕ → Map) (spare : M → ℕ → ℕ) (li
       locks = h.holds.locks;
       begun = h.holds.begun;
       next = h.holds.next;
+      texts = h.holds.texts;
       row_mark = rows_are ∙ marked core.store.row_versions.pruned h.holds.row_mark;
       delta_mark = deltas_are ∙ marked core.store.delta_versions.pruned h.holds.delta_mark;
       most = h.holds.most;
@@ -68,7 +69,7 @@ module _ {M : Type 0} (maps : M → ℕ → Map) (spare : M → ℕ → ℕ) (li
       rooms = h.holds.rooms;
     };
     reserves = record {
-      data_room = subst (λ l. IsReserved core.data_room (schema_of s.store) s.store.open_of l s.definitions) (sym (logs_logged s.store 0 act.Prune Prunes s.log ∙ same_logged)) h.reserves.data_room;
+      data_room = subst (λ l. IsReserved core.data_room (schema_of s.store) s.store.open_of l) (sym (logs_logged s.store 0 act.Prune Prunes s.log ∙ same_logged)) h.reserves.data_room;
       log_room = law.prunes core.log_room s.store s.log 0 act.Prune h.reserves.log_room;
     };
     own = λ sessions e. absurd (cc);

@@ -29,6 +29,7 @@ use Rattle.txn_machine.specs.Records.{Clean, group_bytes}
 use Rattle.txn_machine.specs.State.{State}
 use Rattle.txn_machine.specs.Stored.{IsStoredRow, stored_number, zeros}
 use Rattle.txn_machine.specs.Store.{now, schema_of, committed, does, Cleans}
+use Rattle.txn_machine.specs.Steps.{texts_of}
 use Rattle.txn_machine.proofs.Basics.{one_same, one_other}
 use Rattle.txn_machine.proofs.Bounds.{over_zero}
 use Rattle.txn_machine.proofs.Columns.{number_in_row}
@@ -53,7 +54,9 @@ use Rattle.record_lending.specs.Known.{ShortLaw}
 use Rattle.log_room.specs.Rooms.{IsRoomOf}
 use Rattle.log_room.specs.declared.room.LogRoom.{LogRoom}
 use Rattle.core_state.specs.Rooms.{HasRooms}
-use Rattle.core_state.specs.Stands.{Began, Told, Holds}
+use Rattle.core_state.specs.Stands.{Began, Told, Holds, told, its_texts}
+use Rattle.core_state.proofs.Texts.{told_stored, texts_now}
+use Rattle.data_store.proofs.Told.{untold_held}
 use Rattle.core_state.specs.declared.state.CoreState.{CoreState}
 use Rattle.core_state.proofs.Logged.{log_fits, log_full}
 use Rattle.core_state.proofs.Data.{log_holds}
@@ -93,9 +96,9 @@ module _ {M : Type 0} (maps : M → ℕ → Map) (spare : M → ℕ → ℕ) (li
       let here : stored_number s.store.view place column ≡ get_or numbers column (pos 0) = ap (number_in_row column) there in
       omega (arith, ints, stored, fresh_is, kept, here)
 
-  pub has_ghost : HasGhost core.store.catalog (maps core.store.tables) core.store.views place (contents_of s.store)
+  pub has_ghost : HasGhost core.store.catalog (maps core.store.tables) core.store.views place (told s.store (its_texts s))
   has_ghost = record {
-    held = h.holds.stored;
+    held = told_stored maps spare limit core s.store s.log (its_texts s) h.holds;
     of = row_is.of;
     is = row_is.view_is;
     zero = there ∙ ap Some (all_zeros numbers number_is ∙ ap zeros row_is.width);
@@ -125,10 +128,10 @@ module _ {M : Type 0} (maps : M → ℕ → Map) (spare : M → ℕ → ℕ) (li
   as_logged j = by_session j 0 (λ e. one_same s.log.logged 0 (s.log.logged 0) j e ∙ ap s.log.logged (sym e)) (λ n. one_other s.log.logged 0 (s.log.logged 0) j n)
 
   -- it is nothing that a transaction keeps
-  pub removed_reserves : (room : DataRoom) → room ≡ core.data_room → IsReserved room (schema_of s.store) s.store.open_of (logs s.store 0 act.Clean (Cleans place) s.log).logged s.definitions
+  pub removed_reserves : (room : DataRoom) → room ≡ core.data_room → IsReserved room (schema_of s.store) s.store.open_of (logs s.store 0 act.Clean (Cleans place) s.log).logged
   removed_reserves room same =
-      subst (λ f. IsReserved room (schema_of s.store) s.store.open_of f s.definitions) (sym (logs_logged s.store 0 act.Clean (Cleans place) s.log ∙ (λ x j. as_logged j x)))
-      (subst (λ d. IsReserved d (schema_of s.store) s.store.open_of s.log.logged s.definitions) (sym same) h.reserves.data_room)
+      subst (λ f. IsReserved room (schema_of s.store) s.store.open_of f) (sym (logs_logged s.store 0 act.Clean (Cleans place) s.log ∙ (λ x j. as_logged j x)))
+      (subst (λ d. IsReserved d (schema_of s.store) s.store.open_of s.log.logged) (sym same) h.reserves.data_room)
 
   module _ (tables : M) (views : ViewState) (same_limit : limit tables ≡ limit core.store.tables) (rows : views.rows ≡ core.store.views.rows) (rooms : views.rooms ≡ core.store.views.rooms) (spares : (n : ℕ) → spare core.store.tables n ≤ spare tables n) where
     rooms_left : HasRooms (spare tables) core.store.catalog views core.book.opens core.locks core.wants
@@ -144,14 +147,15 @@ module _ {M : Type 0} (maps : M → ℕ → Map) (spare : M → ℕ → ℕ) (li
       };
     }
 
-    pub removed_holds : IsHeld core.store.catalog (maps tables) views (without_ghost (contents_of s.store) place)
-        → Holds maps spare limit (record core { store = record core.store { tables = tables; views = views }; next = core.next + 1 }) (does the_views s.store 0 (Cleans place)) (logs s.store 0 act.Clean (Cleans place) s.log) s.definitions
+    pub removed_holds : IsHeld core.store.catalog (maps tables) views (without_ghost (told s.store (its_texts s)) place)
+        → Holds maps spare limit (record core { store = record core.store { tables = tables; views = views }; next = core.next + 1 }) (does the_views s.store 0 (Cleans place)) (logs s.store 0 act.Clean (Cleans place) s.log) (its_texts s)
     removed_holds stored = record {
-      stored = stored;
+      stored = untold_held core.store.catalog (maps tables) views (without_ghost (told s.store (its_texts s)) place) stored;
       book = subst (λ f. book.Holds core.book (schema_of s.store) s.store.open_of f s.store.history (committed s.store).number (definition_sizes s.definitions)) (sym (logs_logged s.store 0 act.Clean (Cleans place) s.log ∙ (λ x j. as_logged j x))) h.holds.book;
       locks = h.holds.locks;
       begun = h.holds.begun;
       next = ap (λ n. n + 1) h.holds.next;
+      texts = texts_now (maps core.store.tables 0) (maps tables 0) core.store.catalog (texts_of s) h.holds.texts stored.texts;
       row_mark = h.holds.row_mark;
       delta_mark = h.holds.delta_mark;
       most = same_limit ∙ h.holds.most;
@@ -178,14 +182,14 @@ module _ {M : Type 0} (maps : M → ℕ → Map) (spare : M → ℕ → ℕ) (li
         (unchanged_told maps spare limit core s 0 act.Clean (answer.Refused (LogFull s.log.used (reserved s.store s.log) need)) h
         (refl, place, first, exact, log_full maps spare limit core s 0 h need need told above) refl refl refl refl)
 
-    pub removed_told : (new : CoreState M) (room : LogRoom) → Within core.log_room.limit (s.log.used + reserved s.store s.log + need) → Holds maps spare limit new (does the_views s.store 0 (Cleans place)) (logs s.store 0 act.Clean (Cleans place) s.log) s.definitions
+    pub removed_told : (new : CoreState M) (room : LogRoom) → Within core.log_room.limit (s.log.used + reserved s.store s.log + need) → Holds maps spare limit new (does the_views s.store 0 (Cleans place)) (logs s.store 0 act.Clean (Cleans place) s.log) (its_texts s)
         → new.data_room ≡ core.data_room → IsRoomOf room (does the_views s.store 0 (Cleans place)) (logs s.store 0 act.Clean (Cleans place) s.log) → AreUncounted core (record new { log_room = room }) → ((j : ℕ) → table.waiting_of new.locks j ≡ table.waiting_of core.locks j)
         → (told : Told maps spare limit s 0 act.Clean (answer.Cleaned 1) (record new { log_room = room })) × (told.effects ≡ Cleans place ∷ [])
     unfolding done_told
     removed_told new room fits holds same_data logged same others = (
       done_told maps spare limit core (record new { log_room = room }) s 0 h act.Clean (answer.Cleaned 1) (Cleans place ∷ [])
           (place, first, refl, log_fits maps spare limit core s 0 h need (group_bytes place) is fits)
-          (log_holds maps spare limit new room (does the_views s.store 0 (Cleans place)) (logs s.store 0 act.Clean (Cleans place) s.log) s.definitions holds)
+          (log_holds maps spare limit new room (does the_views s.store 0 (Cleans place)) (logs s.store 0 act.Clean (Cleans place) s.log) (its_texts s) holds)
           (record { data_room = removed_reserves maps spare limit core s h place first.is new.data_room same_data; log_room = logged }) same (λ js. others 0 ∙ h.own js) (λ j js n. others j ∙ h.waiting j js n) refl refl (omega arith) (omega arith),
       refl,
     )

@@ -10,7 +10,7 @@ ghost use Rattle.txn_machine.specs.State.{State};
 ghost use Rattle.txn_machine.specs.Store.{Cleans, does};
 ghost use Rattle.txn_book.specs.Acts.{answer_of};
 ghost use Rattle.data_store.specs.ViewPast.{view_of};
-ghost use Rattle.core_state.specs.Stands.{Began, Holds, Told};
+ghost use Rattle.core_state.specs.Stands.{Began, Holds, Told, its_texts};
 ghost use Rattle.core_recording.specs.Giving.{CanGive, Gave, Gives};
 ghost use Rattle.core_upkeep.specs.Cleaning.{IsUnlocked};
 
@@ -84,7 +84,7 @@ fn first_cleanable<M: SortedMaps>(core: &CoreState<M>) -> Option<(u32, &[u8])>
 fn remove<M: SortedMaps>(core: &mut CoreState<M>, view: u32, group: &[u8])
     requires { (s : State) × Began M.maps M.spare M.limit core.old s 0 × IsCleanable s.store (view, group.now) }
     ensures holds { (s : State) → Began M.maps M.spare M.limit core.old s 0 → IsCleanable s.store (view, group.now)
-        → Holds M.maps M.spare M.limit core.new (does the_views s.store 0 (Cleans (view, group.now))) (logs s.store 0 act.Clean (Cleans (view, group.now)) s.log) s.definitions }
+        → Holds M.maps M.spare M.limit core.new (does the_views s.store 0 (Cleans (view, group.now))) (logs s.store 0 act.Clean (Cleans (view, group.now)) s.log) (its_texts s) }
     ensures rest { core.new ≡ record core.old { store = core.new.store; next = core.new.next } }
 {
     remove_ghost(&mut core.store, view, group);

@@ -42,6 +42,7 @@ use Rattle.ghost_rows.proofs.RowLemmas.{huge_fit}
 use Rattle.ghost_rows.proofs.NumberSteps.{numbers_same}
 use Rattle.data_store.specs.Contents.{Contents, pays_on}
 use Rattle.data_store.specs.Held.{IsHeld}
+use Rattle.data_store.proofs.Told.{texts_stay}
 
 -- ---- objects by their numbers
 
@@ -129,11 +130,16 @@ row_changed ds maps new state after c place v found kept h is only rows listed s
       (subst (λ q. AreKept after new q (suc (length v.sums)) (λ s. pays_on q (kept s))) (sym e) keeps))
       (λ ne. as_before (n, group) (suc (length u.sums)) ne (h.pays n u at group));
   ghosts = λ n u at group. listed (n, group) (h.ghosts n u at group);
-  unused = λ index past.
-      same_table nat_list_cmp_total bytes_same (new index) empty
-      (λ key. only (index, key) (λ e. let bad : None ≡ Some (schema.view v) = sym past ∙ (ap (λ (q : Place). schema.numbered c.objects q.0) e ∙ is) in absurd (cc)) ∙ ap (λ (m : Map). get m key) (h.unused index past));
+  texts = texts_stay c.texts (maps 0) (new 0) (apart 0 refl) h.texts;
+  unused = λ index other past. apart index past ∙ h.unused index other past;
 }
   where
+    -- what is under a number of no view stays
+    apart : (index : ℕ) → schema.numbered c.objects index ≡ None → new index ≡ maps index
+    apart index past =
+        same_table nat_list_cmp_total bytes_same (new index) (maps index)
+        (λ key. only (index, key) (λ e. let bad : None ≡ Some (schema.view v) = sym past ∙ (ap (λ (q : Place). schema.numbered c.objects q.0) e ∙ is) in absurd (cc)))
+
     huge_here : (numbers : List ℤ) → found ≡ Some numbers → AllByRecursion IsHuge numbers
     huge_here numbers there =
         let bytes : stored_at new place ≡ Some (numbers_bytes numbers) = stored.bytes ∙ ap (option_map numbers_bytes) there in
@@ -164,8 +170,12 @@ unchanged ds maps new state after c same listed h = record {
       subst (λ o. StandsFor (row_at after.rows (n, group)) o (suc (length u.sums)) (λ s. pays_on (n, group) (c.kept s))) (sym (same (n, group)).1)
       (subst (λ r. StandsFor r (stored_at maps (n, group)) (suc (length u.sums)) (λ s. pays_on (n, group) (c.kept s))) (sym (same (n, group)).0) (h.pays n u at group));
   ghosts = λ n u at group. listed (n, group) (h.ghosts n u at group);
-  unused = λ index past. same_table nat_list_cmp_total bytes_same (new index) empty (λ key. (same (index, key)).1 ∙ ap (λ (m : Map). get m key) (h.unused index past));
+  texts = texts_stay c.texts (maps 0) (new 0) (same_at 0) h.texts;
+  unused = λ index other past. same_at index ∙ h.unused index other past;
 }
+  where
+    same_at : (index : ℕ) → new index ≡ maps index
+    same_at index = same_table nat_list_cmp_total bytes_same (new index) (maps index) (λ key. (same (index, key)).1)
 
 -- seats stay where those of one row do, and all other rows are as before
 pub seats_stay : (place : Place) (old new : State) → OnlyAt place old new → ((s : ℕ) → HasSeat old place s → HasSeat new place s) → (s : ℕ) (q : Place) → HasSeat old q s → HasSeat new q s
@@ -189,7 +199,8 @@ rows_changed ds maps new state c rows kept h held same past others = record {
       subst (λ o. StandsFor (row_at state.rows (n, group)) o (suc (length u.sums)) (λ s. pays_on (n, group) (kept s))) (sym (ap (λ (m : Map). get m group) (same n u at)))
       (subst (λ ps. StandsFor (row_at state.rows (n, group)) (stored_at maps (n, group)) (suc (length u.sums)) ps) pays (h.pays n u at group));
   ghosts = λ n u at group. subst (λ o. IsGhostRow (row_at state.rows (n, group)) o → IsCandidate state (n, group)) (sym (ap (λ (m : Map). get m group) (same n u at))) (h.ghosts n u at group);
-  unused = λ index behind. past index behind ∙ h.unused index behind;
+  texts = texts_stay c.texts (maps 0) (new 0) (past 0 refl) h.texts;
+  unused = λ index other behind. past index behind ∙ h.unused index other behind;
 }
 
 -- a change of a row of a table leaves the maps of views

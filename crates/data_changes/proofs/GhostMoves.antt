@@ -74,6 +74,7 @@ settled_held ds maps state after session c keeps listed h = record {
   pays = λ n u at group. subst (λ ps. AreKept after maps (n, group) (suc (length u.sums)) ps) (sym (pays_kept (n, group) c.kept session []))
       (keeps maps (n, group) (length u.sums) (λ s. pays_on (n, group) (c.kept s)) (h.pays n u at group));
   ghosts = λ n u at group. listed maps (n, group) (length u.sums) (λ s. pays_on (n, group) (c.kept s)) (h.pays n u at group) (h.ghosts n u at group);
+  texts = h.texts;
   unused = h.unused;
 }
 

@@ -167,5 +167,6 @@ reserved_held ds maps state after c d has only listed keeps = record {
       (subst (λ w. AreKept after maps (place_of d) w (λ s. pays_on (place_of d) (c.kept s))) wide (keeps (λ s. pays_on (place_of d) (c.kept s)) (kept_here ds maps state c d has))))
       (λ ne. subst (λ o. StandsFor o (stored_at maps (n, group)) (suc (length u.sums)) (λ s. pays_on (n, group) (c.kept s))) (sym (only (n, group) ne)) (has.held.pays n u at group));
   ghosts = λ n u at group. listed (n, group) (has.held.ghosts n u at group);
+  texts = has.held.texts;
   unused = has.held.unused;
 }

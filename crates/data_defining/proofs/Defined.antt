@@ -60,6 +60,7 @@ use Rattle.ghost_rows.proofs.GhostLemmas.{counted_closed, ghost_all, same_ghost,
 use Rattle.data_store.specs.Contents.{Contents, pays_on}
 use Rattle.data_store.specs.Held.{IsHeld}
 use Rattle.data_store.proofs.Finding.{object_at}
+use Rattle.data_store.proofs.Told.{texts_stay}
 use Rattle.data_defining.specs.Defining.{with_object, AreViewEntries, AreFirst, CanDefine}
 use Rattle.data_defining.proofs.NewRows.{added_elsewhere, map_has, own_keys, all_sorted, each_entry, many_numbers, entries_for, entries_were, filled_as_stored, has_count, numbers_are, widths_are}
 
@@ -180,7 +181,7 @@ module _ (ds : Definitions) (maps : ℕ → Map) (state : State) (d : Definition
   old_def k x e same = let le = within_number ds k x e in absurd (omega (arith, le, same))
 
   pub bare : maps n ≡ empty
-  bare = held.unused n (ap (numbered objects) (ap suc (sym long)) ∙ none_past objects)
+  bare = held.unused n (λ e. absurd (omega (arith, e))) (ap (numbered objects) (ap suc (sym long)) ∙ none_past objects)
 
   view_number : (v : ViewTree) → o ≡ schema.view v → v.number ≡ n
   view_number v e = (subst (IsObject more n) e (can.evaluated.after.objects n o last_object)).0
@@ -267,7 +268,7 @@ module _ (ds : Definitions) (maps : ℕ → Map) (state : State) (d : Definition
 
     numbers_huge : (q : List ℕ) (ns : List ℤ) → get after_view (v.number, q) ≡ Some ns → AllByRecursion IsHuge ns
     numbers_huge q ns e = each_huge ns (λ i. subst IsHuge (sym (numbers_are db sound_then n v there c.view stored_more none_yet q ns e i))
-        (subst (λ x. IsHuge (fresh (objects ++ object_of x ∷ []) c.rows (v.number, q) i)) is (can.in_range (v.number, q) i)))
+        (subst (λ x. IsHuge (fresh (objects ++ object_of x ∷ []) c.rows (v.number, q) i)) is (can.in_range w is q i)))
 
     stands_now : (pays : Pays) → ((s : ℕ) → pays s ≡ []) → (q : List ℕ) (x : Option (List ℤ)) → get after_view (v.number, q) ≡ x → StandsFor None (option_map numbers_bytes x) (suc (length v.sums)) pays
     stands_now pays none q None e = record {
@@ -447,5 +448,6 @@ module _ (ds : Definitions) (maps : ℕ → Map) (state : State) (d : Definition
       in_range = λ k v is q ns e. (row_held k v is q).huge ns e;
       pays = λ k v is q. subst (λ r. StandsFor r (stored_at new (k, q)) (suc (length v.sums)) (λ s. pays_on (k, q) (c.kept s))) (sym (no_row_there (k, q))) (row_held k v is q).pays;
       ghosts = λ k v is q g. (row_held k v is q).ghost (subst (λ r. IsGhostRow r (stored_at new (k, q))) (no_row_there (k, q)) g);
-      unused = λ index none. let h = last_none objects o index none in others index (λ same. h.1 (same ∙ ap suc (sym long))) ∙ held.unused index h.0;
+      texts = texts_stay c.texts (maps 0) (new 0) (others 0 (λ e. absurd (omega (arith, e)))) held.texts;
+      unused = λ index other none. let h = last_none objects o index none in others index (λ same. h.1 (same ∙ ap suc (sym long))) ∙ held.unused index other h.0;
     }

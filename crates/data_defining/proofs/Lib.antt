@@ -2,3 +2,4 @@ pub mod NewRows
 pub mod Defined
 pub mod Adding
 pub mod TableReads
+pub mod Beside

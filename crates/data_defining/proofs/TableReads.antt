@@ -1,6 +1,7 @@
 -- What a new object reads of tables.
-use Rattle.std.specs.Prelude.{◌≡◌, ◌⊎◌, ℕ, suc, ◌<◌, Bool, true, List, [], ◌∷◌, ◌++◌, map, filter, length, cond, slice_get, Option, None, Some, Err, IsSome}
-use Rattle.std.specs.List.{AllByRecursion, filter_map, cons_option}
+use Rattle.std.specs.Prelude.{◌≡◌, ◌⊎◌, ℕ, suc, ◌<◌, Bool, true, List, [], ◌∷◌, ◌++◌, map, filter, length, cond, slice_get, Option, None, Some, Ok, Err, IsSome}
+use Rattle.std.specs.List.{AllByRecursion, cons_option}
+use Rattle.std.specs.Option.{option_map}
 use mathlib.Core.Path.{refl, sym, ap, subst, ◌∙◌}
 use mathlib.Core.Logic.{inl, inr}
 use Rattle.std.proofs.Common.{arith}
@@ -36,7 +37,7 @@ use Rattle.ghost_rows.specs.State.{State}
 use Rattle.data_store.specs.Contents.{Contents}
 use Rattle.data_store.specs.Reading.{CanBeRead, CanFind, HasRows}
 use Rattle.data_store.proofs.Finding.{is_some_table, table_there}
-use Rattle.data_defining.specs.Defining.{CanEvaluate}
+use Rattle.data_defining.specs.Defining.{CanEvaluate, CanReadView}
 use Rattle.data_defining.proofs.Defined.{last_cases, at_last}
 use Rattle.data_defining.proofs.NewRows.{was_table, tables_were}
 
@@ -119,7 +120,7 @@ module _ (objects : Schema) (rows : Rows) (v : ViewTree) (sound : AreSound objec
       subst (λ (x : Option Object). AreAlike (kinds_of_table x) (kinds_of_table (numbered objects second.table)) second.joined (primary_of (numbered objects second.table))) (sym first)
       (subst (λ (x : Option Object). AreAlike (kinds_of j.first) (kinds_of_table x) second.joined (primary_of x)) (sym other) so)
 
-  pub readable : (tables : List RowsOf) → map (table_rows tables) (sources_of v) ≡ map (rows_of rows) (sources_of v) → IsReadable objects tables v
+  readable : (tables : List RowsOf) → map (table_rows tables) (sources_of v) ≡ map (rows_of rows) (sources_of v) → IsReadable objects tables v
   readable tables same = record { rows = rows_fit_each objects rows tables sound (sources_of v) (tables_were objects v is joined) same; joined = joins v.second joined }
 
 -- ---- by what can be evaluated
@@ -128,14 +129,20 @@ module _ (ds : Definitions) (maps : ℕ → Map) (state : State) (c : Contents) 
   last_there : (o : Object) → numbered (c.objects ++ o ∷ []) (suc (length c.objects)) ≡ Some o
   last_there o = at_last c.objects o
 
-  pub view_reads : (v : ViewTree) → CanEvaluate ds maps state (schema.view v) c → IsView (c.objects ++ schema.view v ∷ []) v × IsJoined (c.objects ++ schema.view v ∷ []) v
-  view_reads v e = ((e.after.objects (suc (length c.objects)) (schema.view v) (last_there (schema.view v))).1, e.after.joins (suc (length c.objects)) v (last_there (schema.view v)))
+  -- a new view
+  pub may_read : (v : ViewTree) → CanEvaluate ds maps state (schema.view v) c → CanReadView ds maps state v c
+  may_read v e = record {
+    readable = e.readable;
+    sound = e.sound;
+    is_view = (e.after.objects (suc (length c.objects)) (schema.view v) (last_there (schema.view v))).1;
+    is_joined = e.after.joins (suc (length c.objects)) v (last_there (schema.view v));
+  }
 
-  pub its_tables : (v : ViewTree) → CanEvaluate ds maps state (schema.view v) c → AllByRecursion (IsTable c.objects) (sources_of v)
-  its_tables v e = let r = view_reads v e in tables_were c.objects v r.0 r.1
+  pub its_tables : (v : ViewTree) → CanReadView ds maps state v c → AllByRecursion (IsTable c.objects) (sources_of v)
+  its_tables v r = tables_were c.objects v r.is_view r.is_joined
 
-  pub can_recompute : (v : ViewTree) → CanEvaluate ds maps state (schema.view v) c → (tables : List RowsOf) → map (table_rows tables) (sources_of v) ≡ map (rows_of c.rows) (sources_of v) → IsReadable (schema_of ds) tables v
-  can_recompute v e tables same = let r = view_reads v e in subst (λ os. IsReadable os tables v) (sym e.readable.held.objects) (readable c.objects c.rows v e.sound r.0 r.1 tables same)
+  pub can_recompute : (v : ViewTree) → CanReadView ds maps state v c → (tables : List RowsOf) → map (table_rows tables) (sources_of v) ≡ map (rows_of c.rows) (sources_of v) → IsReadable (schema_of ds) tables v
+  can_recompute v r tables same = subst (λ os. IsReadable os tables v) (sym r.readable.held.objects) (readable c.objects c.rows v r.sound r.is_view r.is_joined tables same)
 
   pub its_table : (i : IndexDef) → CanEvaluate ds maps state (schema.index i) c → IsTable c.objects i.table
   its_table i e =
@@ -154,9 +161,14 @@ module _ (ds : Definitions) (maps : ℕ → Map) (state : State) (c : Contents) 
       let same : has.0 ≡ t = Rattle.table_store.proofs.Rows.some_same has.0 t (sym has.1 ∙ is) in
       subst (λ n. AreRows t (maps n)) (sym number) (subst (λ (u : TableDef). AreRows u (maps i.table)) same has.2)
 
--- ---- what is refused
+-- ---- what is given, and what is refused
 
-pub view_refused : (db : Database) (v : ViewTree) (r : Refusal) (o : Option (List Row)) {Y : Type 0} (f : List Row → Y) → whole_view db.schema db.rows v ≡ o → Gives (Rattle.std.specs.Option.option_map f o) (Err r) → (r ≡ refused.NoMemory) ⊎ (create_meaning (schema.view v) db ≡ Refused r)
+-- what is given is what there is
+pub given : {X Y : Type 0} (f : X → Y) (o : Option X) (y : Y) → Gives (option_map f o) (Ok y) → (x : X) × (o ≡ Some x) × (y ≡ f x)
+given f None y h = absurd h
+given f (Some x) y h = (x, refl, h)
+
+pub view_refused : (db : Database) (v : ViewTree) (r : Refusal) (o : Option (List Row)) {Y : Type 0} (f : List Row → Y) → whole_view db.schema db.rows v ≡ o → Gives (option_map f o) (Err r) → (r ≡ refused.NoMemory) ⊎ (create_meaning (schema.view v) db ≡ Refused r)
 view_refused db v r (Some rows) f e h = inl h
 view_refused db v r None f e h = elim h [
   | inl range ↦ inr (ap (λ (x : Option (List Row)). cond (Rattle.std.specs.Prelude.is_some x) (Rattle.iv_meaning.specs.Statement.Accepted [] 0 (Rattle.iv_meaning.specs.Statement.defines (schema.view v) ∷ [])) (Refused refused.NumberRange)) e ∙ ap Refused (sym range))

@@ -7,20 +7,21 @@ use Rattle.iv_types.specs.Definitions.{Definitions, number_of}
 use Rattle.iv_types.specs.declared.catalog.Definition.{Definition}
 use Rattle.iv_types.specs.declared.catalog.Definition.TheVariants.{Table, Index, View}
 use Rattle.iv_types.specs.declared.catalog.ViewDef.{ViewDef}
+use Rattle.iv_types.specs.Encoding.{IsHuge}
 use Rattle.iv_types.specs.declared.lock.IndexEntry.{IndexEntry}
 use Rattle.iv_types.specs.declared.lock.ViewRow.{ViewRow}
-use Rattle.iv_meaning.specs.Schema.{Object}
+use Rattle.iv_meaning.specs.Schema.{Object, view, ViewTree}
 use Rattle.iv_meaning.specs.Objects.{object_of, view_tree}
 use Rattle.iv_meaning.specs.Database.{Row}
+use Rattle.iv_meaning.specs.Sound.{IsView}
 use Rattle.iv_meaning.specs.View.{whole_view}
 use Rattle.query_laws.specs.Limited.{IsLimited}
 use Rattle.row_eval.specs.Fresh.{view_row}
 use Rattle.table_store.specs.Stored.{IsTableAnd}
 use Rattle.table_store.specs.Filling.{AreIndexEntries}
-use Rattle.txn_machine.specs.Fresh.{made_of}
-use Rattle.txn_machine.specs.Laws.{AreInRange}
+use Rattle.txn_machine.specs.Fresh.{made_of, fresh}
 use Rattle.txn_machine.specs.Stored.{add_all}
-use Rattle.txn_machine.specs.ViewLaws.{AreSound}
+use Rattle.txn_machine.specs.ViewLaws.{AreSound, IsJoined}
 use Rattle.ghost_rows.specs.Numbers.{numbers_bytes}
 use Rattle.ghost_rows.specs.State.{State}
 use Rattle.data_store.specs.Contents.{Contents}
@@ -29,6 +30,15 @@ use Rattle.data_store.specs.Reading.{CanBeRead}
 -- one object more is defined, and a view has its rows
 abbrev pub with_object : Contents → Object → Contents
 with_object c o = record c { objects = c.objects ++ o ∷ []; view = add_all c.view (made_of (c.objects ++ o ∷ []) c.rows o) }
+
+-- ---- the rows of a view
+
+-- the store has these contents, which are sound, and the view, whether it is one of theirs or not, reads tables of theirs
+pub record CanReadView (definitions : Definitions) (maps : ℕ → Map) (state : State) (v : ViewTree) (c : Contents) : Type 0 where
+  pub readable : CanBeRead definitions maps state c
+  pub sound : AreSound c.objects c.rows
+  pub is_view : IsView (c.objects ++ view v ∷ []) v
+  pub is_joined : IsJoined (c.objects ++ view v ∷ []) v
 
 -- ---- the entries that it begins with
 
@@ -57,11 +67,11 @@ pub record CanEvaluate (definitions : Definitions) (maps : ℕ → Map) (state :
   pub after : AreSound (c.objects ++ o ∷ []) c.rows
   pub limited : IsLimited (c.objects ++ o ∷ [])
 
--- no session keeps a step, the numbers of all views are in range then, and these are the entries that it begins with
+-- no session keeps a step, the numbers of a new view are in range, and these are the entries that it begins with
 pub record CanDefine (definitions : Definitions) (maps : ℕ → Map) (state : State) (d : Definition) (es : List IndexEntry) (c : Contents) : Type 0 where
   pub evaluated : CanEvaluate definitions maps state (object_of d) c
   pub unkept : (session : ℕ) → c.kept session ≡ []
-  pub in_range : AreInRange (c.objects ++ object_of d ∷ []) c.rows
+  pub in_range : (v : ViewDef) → d ≡ View v → (group : List ℕ) (column : ℕ) → IsHuge (fresh (c.objects ++ object_of d ∷ []) c.rows (v.number, group) column)
   pub first : AreFirst definitions maps c d es
 
 -- it stands last among the definitions, behind these, under this number

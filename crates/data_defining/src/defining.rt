@@ -1,10 +1,11 @@
 //! An object begins.
-ghost use Rattle.std.specs.Prelude.{◌≡◌, ◌+◌, ◌≤◌, ◌<◌, ◌^◌, ℕ, length, OnOk};
+ghost use Rattle.std.specs.Prelude.{◌≡◌, ◌≢◌, ◌+◌, ◌≤◌, ◌<◌, ◌^◌, ℕ, length, OnOk};
 ghost use Rattle.iv_types.specs.Maps.{IsWithin, used};
 ghost use Rattle.iv_types.specs.Definitions.{Definitions};
 ghost use Rattle.iv_types.specs.declared.catalog.Definition.{Definition as AnyDefinition};
 ghost use Rattle.iv_meaning.specs.Objects.{object_of};
 ghost use Rattle.table_store.specs.Changes.{sizes};
+ghost use Rattle.table_store.specs.Filling.{filled};
 ghost use Rattle.data_store.specs.Contents.{Contents};
 ghost use Rattle.data_store.specs.Held.{IsHeld};
 ghost use Rattle.data_defining.specs.Defining.{CanDefine, IsLast, with_object};
@@ -42,6 +43,9 @@ pub fn enter_first<M: SortedMaps>(store: &mut DataStore<M>, number: u32, first: 
     requires within { IsWithin (M.limit store.old.tables) (used (M.maps store.old.tables) + sizes first) }
     ensures held { (before : Definitions) (definition : AnyDefinition) (c : Contents) → IsLast store.old.catalog before definition number → CanDefine before (M.maps store.old.tables) store.old.views definition first c
         → IsHeld store.new.catalog (M.maps store.new.tables) store.new.views (with_object c (object_of definition)) }
+    ensures entries { M.maps store.new.tables number ≡ filled (M.maps store.old.tables number) first }
+    ensures others { (i : ℕ) → i ≢ number → M.maps store.new.tables i ≡ M.maps store.old.tables i }
+    ensures other_rooms { (i : ℕ) → i ≢ number → M.spare store.old.tables i ≤ M.spare store.new.tables i }
     ensures limit { M.limit store.new.tables ≡ M.limit store.old.tables }
     ensures rest { store.new ≡ record store.old { tables = store.new.tables; views = store.new.views } }
 {

@@ -15,7 +15,7 @@ ghost use Rattle.row_eval.specs.Grouped.{Gives};
 ghost use Rattle.txn_machine.specs.ViewLaws.{AreSound};
 ghost use Rattle.data_store.specs.Contents.{Contents};
 ghost use Rattle.data_store.specs.Reading.{CanBeRead};
-ghost use Rattle.data_defining.specs.Defining.{view_entry, AreFirst, CanEvaluate};
+ghost use Rattle.data_defining.specs.Defining.{view_entry, AreFirst, CanEvaluate, CanReadView};
 
 use data_store::DataStore;
 use ghost_rows::numbers::bytes_of;
@@ -58,10 +58,17 @@ fn rows_of_tables<M: SortedMaps>(
     Ok(tables)
 }
 
-// The rows that a new view has.
-fn rows_of_view<M: SortedMaps>(store: &DataStore<M>, view: &ViewDef) -> Result<ViewRowList, Refusal>
-    requires { (c : Contents) × CanEvaluate store.now.catalog (M.maps store.now.tables) store.now.views (schema.view (view_tree view.now)) c }
-    ensures { (c : Contents) → CanEvaluate store.now.catalog (M.maps store.now.tables) store.now.views (schema.view (view_tree view.now)) c
+/// The rows of a view, new or of the catalog, evaluated whole on the rows of its tables.
+///
+/// # Errors
+///
+/// `NumberRange` where the rows can't be evaluated; `NoMemory`.
+pub fn rows_of_view<M: SortedMaps>(
+    store: &DataStore<M>,
+    view: &ViewDef,
+) -> Result<ViewRowList, Refusal>
+    requires { (c : Contents) × CanReadView store.now.catalog (M.maps store.now.tables) store.now.views (view_tree view.now) c }
+    ensures { (c : Contents) → CanReadView store.now.catalog (M.maps store.now.tables) store.now.views (view_tree view.now) c
         → Gives (option_map (map (view_row c.objects (view_tree view.now))) (whole_view c.objects c.rows (view_tree view.now))) result }
 {
     let tables = rows_of_tables(store, view)?;

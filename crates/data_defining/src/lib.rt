@@ -8,4 +8,4 @@ mod defining;
 mod first;
 
 pub use defining::{enter_first, reserve_first};
-pub use first::first_entries;
+pub use first::{first_entries, rows_of_view};

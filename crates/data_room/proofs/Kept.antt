@@ -17,24 +17,24 @@ use Rattle.data_room.specs.declared.room.DataRoom.{DataRoom}
 use Rattle.data_room.proofs.Wheres.{where_always, where_map, where_two}
 
 -- a share is part of the total
-pub share_least : (room : DataRoom) (objects : Schema) (open_of : ℕ → Option Open) (logged : ℕ → Logged) (texts : List (List ℕ)) (i : ℕ) → IsSession i → AreReserved room objects open_of logged texts
+pub share_least : (room : DataRoom) (objects : Schema) (open_of : ℕ → Option Open) (logged : ℕ → Logged) (i : ℕ) → IsSession i → AreReserved room objects open_of logged
     → share_at room.shares i ≤ room.total
-share_least room objects open_of logged texts i is a =
+share_least room objects open_of logged i is a =
     let f : ℕ → ℕ = kept_for objects open_of logged in
     let moved : sum_over 64 (with_one f i 0) + f i ≡ sum_over 64 f + with_one f i 0 i = sum_one 64 f (with_one f i 0) i is.0 is.1 (λ j n. one_other f i 0 j n) in
     let none : with_one f i 0 i ≡ 0 = one_same f i 0 i refl in
     let own : share_at room.shares i ≡ f i = a.each i is in
-    let all : room.total ≡ sum_over 64 f + sum (map definition_entries texts) = a.total in
+    let all : room.total ≡ sum_over 64 f = a.total in
     omega (arith, moved, none, own, all)
 
 -- each transaction keeps what it kept
-pub reserved_alike : (room : DataRoom) (objects others : Schema) (open_of now : ℕ → Option Open) (logged then : ℕ → Logged) (texts : List (List ℕ)) → ((j : ℕ) → IsSession j → kept_for others now then j ≡ kept_for objects open_of logged j)
-    → IsReserved room objects open_of logged texts → IsReserved room others now then texts
-reserved_alike room objects others open_of now logged then texts same r = where_map room.limit (λ a. record {
+pub reserved_alike : (room : DataRoom) (objects others : Schema) (open_of now : ℕ → Option Open) (logged then : ℕ → Logged) → ((j : ℕ) → IsSession j → kept_for others now then j ≡ kept_for objects open_of logged j)
+    → IsReserved room objects open_of logged → IsReserved room others now then
+reserved_alike room objects others open_of now logged then same r = where_map room.limit (λ a. record {
   each = λ j js. a.each j js ∙ sym (same j js);
   total =
       let sums : sum_over 64 (kept_for others now then) ≡ sum_over 64 (kept_for objects open_of logged) = sum_same 64 (kept_for objects open_of logged) (kept_for others now then) (λ j lo hi. same j (lo, hi)) in
-      let all : room.total ≡ sum_over 64 (kept_for objects open_of logged) + sum (map definition_entries texts) = a.total in
+      let all : room.total ≡ sum_over 64 (kept_for objects open_of logged) = a.total in
       omega (arith, sums, all);
 }) r
 
@@ -46,17 +46,17 @@ module _ (objects : Schema) (open_of : ℕ → Option Open) (logged then : ℕ �
   elsewhere j n = λ x. room_kept objects (one_other open_of i o j n x) ((is j ∙ one_other logged i l j n) x).ghosted
 
   -- one session's transaction keeps what it kept
-  pub reserved_one : (room : DataRoom) (texts : List (List ℕ)) → room_kept objects o l.ghosted ≡ kept_for objects open_of logged i
-      → IsReserved room objects open_of logged texts → IsReserved room objects (with_one open_of i o) then texts
-  reserved_one room texts same r = reserved_alike room objects objects open_of (with_one open_of i o) logged then texts
+  pub reserved_one : (room : DataRoom) → room_kept objects o l.ghosted ≡ kept_for objects open_of logged i
+      → IsReserved room objects open_of logged → IsReserved room objects (with_one open_of i o) then
+  reserved_one room same r = reserved_alike room objects objects open_of (with_one open_of i o) logged then
       (λ j js. by_session j i (λ e. at_it j e ∙ (same ∙ ap (kept_for objects open_of logged) (sym e))) (λ n. elsewhere j n)) r
 
   -- it keeps this much
-  pub reserved_moved : (room after : DataRoom) (texts : List (List ℕ)) → IsSession i → after.limit ≡ room.limit → IsReserved room objects open_of logged texts
-      → Where room.limit (Moves room after i (room_kept objects o l.ghosted)) → IsReserved after objects (with_one open_of i o) then texts
-  reserved_moved room after texts session limit r moves =
-      subst (λ m. Where m (AreReserved after objects (with_one open_of i o) then texts)) (sym limit)
-      (where_two room.limit (λ (a : AreReserved room objects open_of logged texts) (m : Moves room after i (room_kept objects o l.ghosted)). record {
+  pub reserved_moved : (room after : DataRoom) → IsSession i → after.limit ≡ room.limit → IsReserved room objects open_of logged
+      → Where room.limit (Moves room after i (room_kept objects o l.ghosted)) → IsReserved after objects (with_one open_of i o) then
+  reserved_moved room after session limit r moves =
+      subst (λ m. Where m (AreReserved after objects (with_one open_of i o) then)) (sym limit)
+      (where_two room.limit (λ (a : AreReserved room objects open_of logged) (m : Moves room after i (room_kept objects o l.ghosted)). record {
         each = λ j js. by_session j i
             (λ e. ap (share_at after.shares) e ∙ (m.own ∙ sym (at_it j e)))
             (λ n. m.others j n ∙ (a.each j js ∙ sym (elsewhere j n)));
@@ -66,7 +66,7 @@ module _ (objects : Schema) (open_of : ℕ → Option Open) (logged then : ℕ �
             let moved : sum_over 64 g + f i ≡ sum_over 64 f + g i = sum_one 64 f g i session.0 session.1 (λ j n. elsewhere j n) in
             let new : g i ≡ room_kept objects o l.ghosted = at_it i refl in
             let old : share_at room.shares i ≡ f i = a.each i session in
-            let was : room.total ≡ sum_over 64 f + sum (map definition_entries texts) = a.total in
+            let was : room.total ≡ sum_over 64 f = a.total in
             let now : after.total ≡ room.total + room_kept objects o l.ghosted - share_at room.shares i = m.total in
             omega (arith, moved, new, old, was, now);
       }) r moves)
@@ -108,23 +108,23 @@ same_again f i = λ k j. at_each j k
     at_each j = by_session j i (λ e. one_same f i (f i) j e ∙ ap f (sym e)) (λ n. one_other f i (f i) j n)
 
 -- what a session kept is given back of which its transaction keeps so much less
-module _ (objects : Schema) (open_of : ℕ → Option Open) (logged then : ℕ → Logged) (i : ℕ) (o : Option Open) (l : Logged) (is : (j : ℕ) → then j ≡ with_one logged i l j) (room was after : DataRoom) (texts : List (List ℕ)) where
-  pub reserved_back : IsSession i → IsReserved room objects open_of logged texts → was ≡ room → after.limit ≡ was.limit → (bytes less : ℕ) → bytes ≡ min less (2 ^ 64 - 1) → room_kept objects o l.ghosted + less ≡ kept_for objects open_of logged i
+module _ (objects : Schema) (open_of : ℕ → Option Open) (logged then : ℕ → Logged) (i : ℕ) (o : Option Open) (l : Logged) (is : (j : ℕ) → then j ≡ with_one logged i l j) (room was after : DataRoom) where
+  pub reserved_back : IsSession i → IsReserved room objects open_of logged → was ≡ room → after.limit ≡ was.limit → (bytes less : ℕ) → bytes ≡ min less (2 ^ 64 - 1) → room_kept objects o l.ghosted + less ≡ kept_for objects open_of logged i
       → share_at was.shares i < 2 ^ 64 → share_at after.shares i ≡ share_at was.shares i - bytes → ((j : ℕ) → j ≢ i → share_at after.shares j ≡ share_at was.shares j) → after.total ≡ was.total - (share_at was.shares i - share_at after.shares i)
-      → IsReserved after objects (with_one open_of i o) then texts
+      → IsReserved after objects (with_one open_of i o) then
   reserved_back session r same limit bytes less bytes_are fewer small own others total =
-      reserved_moved objects open_of logged then i o l is room after texts session (limit ∙ ap (λ (x : DataRoom). x.limit) same) r
+      reserved_moved objects open_of logged then i o l is room after session (limit ∙ ap (λ (x : DataRoom). x.limit) same) r
       (back_moves room was after i bytes (room_kept objects o l.ghosted) same
-      (where_map room.limit (λ (a : AreReserved room objects open_of logged texts).
+      (where_map room.limit (λ (a : AreReserved room objects open_of logged).
       let mine : share_at room.shares i ≡ kept_for objects open_of logged i = a.each i session in
       let few : share_at room.shares i < 2 ^ 64 = subst (λ (x : DataRoom). share_at x.shares i < 2 ^ 64) same small in
       let all : room_kept objects o l.ghosted + bytes ≡ share_at room.shares i = omega (arith, mine, few, bytes_are, fewer) in
-      (all, share_least room objects open_of logged texts i session a)) r)
+      (all, share_least room objects open_of logged i session a)) r)
       own others total)
 
 -- nothing is kept at first
 pub reserved_none : (room : DataRoom) (objects : Schema) (open_of : ℕ → Option Open) (logged : ℕ → Logged) → room.total ≡ 0 → ((j : ℕ) → share_at room.shares j ≡ 0) → ((j : ℕ) → kept_for objects open_of logged j ≡ 0)
-    → IsReserved room objects open_of logged []
+    → IsReserved room objects open_of logged
 reserved_none room objects open_of logged total shares none = where_always room.limit (record {
   each = λ j js. shares j ∙ sym (none j);
   total = let sums : sum_over 64 (kept_for objects open_of logged) ≡ 0 = sum_none 64 (kept_for objects open_of logged) (λ j lo hi. none j) in omega (arith, sums, total);

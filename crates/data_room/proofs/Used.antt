@@ -18,7 +18,7 @@ use Rattle.iv_types.specs.declared.catalog.Definition.TheVariants.{Table, Index,
 use Rattle.iv_types.specs.declared.catalog.IndexDef.{IndexDef}
 use Rattle.iv_types.specs.declared.catalog.TableDef.{TableDef}
 use Rattle.iv_types.specs.declared.lock.IndexEntry.{IndexEntry}
-use Rattle.iv_types.proofs.MapSizes.{used_remove, size_nothing, with_here, with_other, get_removed}
+use Rattle.iv_types.proofs.MapSizes.{used_remove, used_with, size_nothing, with_here, with_other, get_removed}
 use Rattle.table_laws.specs.Place.{Place, place_cmp}
 use Rattle.table_laws.specs.Table.{write}
 use Rattle.table_laws.proofs.Place.{place_cmp_total}
@@ -32,7 +32,7 @@ use Rattle.query_laws.proofs.LimitedLemmas.{numbers_law}
 use Rattle.row_codec.proofs.Formats.{one_spelling}
 use Rattle.row_codec.proofs.RowFormat.{row_format}
 use Rattle.row_codec.proofs.KeyFormat.{key_format}
-use Rattle.table_store.specs.Stored.{stored, table_of, index_of, IsIndexOf, HoldsAll, Holds}
+use Rattle.table_store.specs.Stored.{stored, table_of, index_of, IsIndexOf, HoldsTable, HoldsIndex, HoldsAll, Holds}
 use Rattle.table_store.specs.Changes.{entry_in, own_entries, sizes, Exchanges, IsThere}
 use Rattle.table_store.specs.Entries.{AreApart, AreThere, TakesOut}
 use Rattle.table_store.proofs.Changing.{exchanged_sets, exchanged_rows}
@@ -317,24 +317,60 @@ are_numbered ds objects_are n d e = by d (objects_are n (object_of d) (alike ds 
     by (Index i) h = h.0
     by (View v) h = h.0
 
+-- without the entries of index 0
+module _ (ds : Definitions) (maps : ℕ → Map) where
+  abbrev apart : ℕ → Map
+  apart = with_map maps 0 empty
+
+  apart_is : (n : ℕ) → n ≢ 0 → apart n ≡ maps n
+  apart_is n other = with_other maps 0 n empty other
+
+  a_table : (t : TableDef) → table_of ds t.number ≡ Some t → t.number ≢ 0
+  a_table t is zero_is = let bad : None ≡ Some t = sym (ap (table_of ds) zero_is) ∙ is in absurd (cc)
+
+  an_index : (i : IndexDef) → index_of ds i.number ≡ Some i → i.number ≢ 0
+  an_index i is zero_is = let bad : None ≡ Some i = sym (ap (index_of ds) zero_is) ∙ is in absurd (cc)
+
+  -- the rows are in the others
+  apart_holds : (rows : Rows) → Holds ds rows maps → Holds ds rows apart
+  apart_holds rows holds t is =
+      let h : HoldsAll ds rows maps t = holds t is in
+      record {
+        primary = subst (HoldsTable rows t) (sym (apart_is t.number (a_table t is))) h.primary;
+        others = λ i of. subst (HoldsIndex rows t i) (sym (apart_is i.number (an_index i of.is))) (h.others i of);
+      }
+
+  -- and index 0 counts beside them
+  apart_used : used apart + map_size (maps 0) ≡ used maps
+  apart_used = let moved = used_with maps 0 empty (omega arith) in let none = size_of_empty in omega (arith, moved, none)
+
 pub used_is : UsedLaw
 used_is ds maps state c h sound shaped limited =
     let objects_are : schema_of ds ≡ c.objects = h.objects in
     let sound_here : AreSound (schema_of ds) c.rows = subst (λ (o : Schema). AreSound o c.rows) (sym objects_are) sound in
     let shaped_here : AreStored (schema_of ds) c.view = subst (λ (o : Schema). AreStored o c.view) (sym objects_are) shaped in
-    let all = rows_used ds (are_numbered ds sound_here.objects) (subst IsLimited (sym objects_are) limited) (λ n i e. sound_here.objects n (index i) e) c.view shaped_here
-    (many c.rows) c.rows maps refl sound_here.rows h.tables (λ p other. by shaped p (numbered c.objects p.0) refl
+    let all : used (apart ds maps) ≡ rows_bytes (schema_of ds) c.rows + view_entries c.view =
+    rows_used ds (are_numbered ds sound_here.objects) (subst IsLimited (sym objects_are) limited) (λ n i e. sound_here.objects n (index i) e) c.view shaped_here
+    (many c.rows) c.rows (apart ds maps) refl sound_here.rows (apart_holds ds maps c.rows h.tables) (λ p other. by shaped p (numbered c.objects p.0) refl
     (λ t e. other.no_table t (ap (λ (o : Schema). numbered o p.0) objects_are ∙ e)) (λ i e. other.no_index i (ap (λ (o : Schema). numbered o p.0) objects_are ∙ e))) in
-    all ∙ ap (λ (o : Schema). rows_bytes o c.rows + view_entries c.view) objects_are
+    let same : rows_bytes (schema_of ds) c.rows ≡ rows_bytes c.objects c.rows = ap (λ (o : Schema). rows_bytes o c.rows) objects_are in
+    let beside = apart_used ds maps in
+    omega (arith, all, same, beside)
   where
     by : AreStored c.objects c.view → (p : Place) (o : Option Object) → numbered c.objects p.0 ≡ o → ((t : TableDef) → numbered c.objects p.0 ≡ Some (table t) → ⊥) → ((i : IndexDef) → numbered c.objects p.0 ≡ Some (index i) → ⊥)
-        → get (maps p.0) p.1 ≡ option_map numbers_bytes (get c.view p)
-    by shaped p None e no_table no_index =
-        ap (λ (m : Map). get m p.1) (h.unused p.0 e) ∙ (get-empty by_bytes p.1 ∙ sym (ap (option_map numbers_bytes) (none_here (get c.view p) refl)))
+        → get (apart ds maps p.0) p.1 ≡ option_map numbers_bytes (get c.view p)
+    by shaped p None e no_table no_index = ap (λ (m : Map). get m p.1) bare ∙ (get-empty by_bytes p.1 ∙ sym (ap (option_map numbers_bytes) (none_here (get c.view p) refl)))
       where
+        bare : apart ds maps p.0 ≡ empty
+        bare = elim (cases_eq p.0 0) [
+          | inl zero_is ↦ ap (apart ds maps) zero_is ∙ with_here maps 0 empty
+          | inr other ↦ apart_is ds maps p.0 other ∙ h.unused p.0 other e
+        ]
+
         none_here : (x : Option (List ℤ)) → get c.view p ≡ x → x ≡ None
         none_here None is = refl
         none_here (Some ns) is = let r = shaped p ns is in absurd (let bad : None ≡ Some (view r.of) = sym e ∙ r.view_is in cc)
-    by shaped p (Some (view v)) e no_table no_index = h.views p.0 v e p.1
+    by shaped p (Some (view v)) e no_table no_index =
+        ap (λ (m : Map). get m p.1) (apart_is ds maps p.0 (λ zero_is. let bad : None ≡ Some (view v) = sym (ap (numbered c.objects) zero_is) ∙ e in absurd (cc))) ∙ h.views p.0 v e p.1
     by shaped p (Some (table t)) e no_table no_index = absurd (no_table t e)
     by shaped p (Some (index i)) e no_table no_index = absurd (no_index i e)

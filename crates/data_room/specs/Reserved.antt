@@ -1,6 +1,6 @@
 -- No clause of `run` rests on this module: it serves contracts between crates.
 --
--- The bytes of data that are kept beside the entries: those that open transactions may still need, and those of the texts of definitions.
+-- The bytes of data that are kept beside the entries: those that open transactions may still need.
 use Rattle.std.specs.Prelude.{◌≡◌, ◌≢◌, ℕ, ◌+◌, ◌-◌, Bool, true, false, List, map, get_or, Option, None, Some}
 use Rattle.std.specs.List.{sum}
 use Rattle.iv_types.specs.declared.lock.GroupDelta.{GroupDelta}
@@ -29,14 +29,14 @@ abbrev pub first_bytes : Bool → GroupDelta → ℕ
 first_bytes true d = 0
 first_bytes false d = delta_entry d
 
--- each session's share is what its transaction keeps, and the total is all of that and the texts of definitions
-pub record AreReserved (room : DataRoom) (objects : Schema) (open_of : ℕ → Option Open) (logged : ℕ → Logged) (texts : List (List ℕ)) : Type 0 where
+-- each session's share is what its transaction keeps, and the total is all of that
+pub record AreReserved (room : DataRoom) (objects : Schema) (open_of : ℕ → Option Open) (logged : ℕ → Logged) : Type 0 where
   pub each : (session : ℕ) → IsSession session → share_at room.shares session ≡ kept_for objects open_of logged session
-  pub total : room.total ≡ sum_over 64 (kept_for objects open_of logged) + sum (map definition_entries texts)
+  pub total : room.total ≡ sum_over 64 (kept_for objects open_of logged)
 
 -- so it is where there is a limit
-abbrev pub IsReserved : DataRoom → Schema → (ℕ → Option Open) → (ℕ → Logged) → List (List ℕ) → Type 0
-IsReserved room objects open_of logged texts = Where room.limit (AreReserved room objects open_of logged texts)
+abbrev pub IsReserved : DataRoom → Schema → (ℕ → Option Open) → (ℕ → Logged) → Type 0
+IsReserved room objects open_of logged = Where room.limit (AreReserved room objects open_of logged)
 
 -- a session's share becomes this one, and the total moves with it
 pub record Moves (old new : DataRoom) (session share : ℕ) : Type 0 where

@@ -1,5 +1,4 @@
-//! The room of the data of a core: what its entries count, and what is kept beside them for open transactions and for the texts of
-//! definitions.
+//! The room of the data of a core: what its entries count, and what is kept beside them for open transactions.
 //!
 //! `DataRoom` has what is kept, as numbers that each step moves, so that what the data use is known without a walk over what is stored.
 //! `owed_room` and `first_room` tell what owed deltas keep. `used_law` says that the entries of the maps count what the machine says.

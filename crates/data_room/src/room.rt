@@ -65,7 +65,7 @@ impl Shares {
 pub struct DataRoom {
     /// The most bytes that the data may count with what is kept, where there is such a limit.
     pub limit: Option<u32>,
-    /// All that is kept: for the sessions, and by the texts of definitions.
+    /// All that is kept for the sessions.
     pub total: u64,
     /// What is kept for each session's transaction.
     pub shares: Shares,
@@ -145,13 +145,5 @@ impl DataRoom {
         let share = self.shares.get(session);
         self.total = self.total.saturating_sub(share);
         self.shares.set(session, 0);
-    }
-
-    /// Keeps the bytes of a definition's text.
-    pub fn define(&mut self, bytes: u64)
-        ensures total { self.old.total + bytes < 2 ^ 64 → self.new.total ≡ self.old.total + bytes }
-        ensures rest { self.new ≡ record self.old { total = self.new.total } }
-    {
-        self.total = self.total.saturating_add(bytes);
     }
 }

@@ -15,3 +15,4 @@ pub mod Peeked
 pub mod FoundThen
 pub mod NoVersions
 pub mod Laws
+pub mod Told

@@ -2,9 +2,9 @@
 --
 -- When a store has some contents: its catalog the definitions, its maps the rows and the stored view rows, and its view rows the
 -- kept pays.
-use Rattle.std.specs.Prelude.{◌≡◌, ℕ, suc, ℤ, List, length, None, Some}
+use Rattle.std.specs.Prelude.{◌≡◌, ◌≢◌, ℕ, suc, ℤ, List, length, None, Some}
 use Rattle.std.specs.List.{AllByRecursion}
-use Rattle.std.specs.Option.{option_map}
+use Rattle.std.specs.Option.{option_map, IfSome}
 use Rattle.std.specs.FinMap.{get, empty}
 use Rattle.iv_types.specs.Maps.{Map}
 use Rattle.iv_types.specs.Definitions.{Definitions}
@@ -34,5 +34,7 @@ pub record IsHeld (definitions : Definitions) (maps : ℕ → Map) (state : Stat
       → AreKept state maps (n, group) (suc (length v.sums)) (λ session. pays_on (n, group) (c.kept session))
   -- each ghost is a candidate
   pub ghosts : (n : ℕ) (v : ViewTree) → numbered c.objects n ≡ Some (view v) → (group : List ℕ) → IsListed state maps (n, group)
-  -- under a number of no object nothing is stored
-  pub unused : (index : ℕ) → numbered c.objects index ≡ None → maps index ≡ empty
+  -- index 0 has the entries that are told of it
+  pub texts : IfSome c.texts (λ entries. maps 0 ≡ entries)
+  -- and under another number of no object nothing is stored
+  pub unused : (index : ℕ) → index ≢ 0 → numbered c.objects index ≡ None → maps index ≡ empty

@@ -1,3 +1,1 @@
-mod NewViews
-mod Beginning
 mod Replayed

@@ -3,32 +3,32 @@ use Rattle.std.proofs.Common.{◌≡◌, ℕ, suc, List, [], ◌∷◌, ◌++◌
 use Rattle.std.specs.Prelude.{Bool, true, false, cond, is_some, Result, Err, OnOk, IfOk}
 use Rattle.std.proofs.lemmas.List.{map-append}
 use Rattle.iv_types.specs.Maps.{Map}
-use Rattle.iv_types.specs.Encoding.{FitAll, key_bytes}
+use Rattle.iv_types.specs.Encoding.{IsHuge}
 use Rattle.iv_types.specs.Definitions.{Definitions}
 use Rattle.iv_types.specs.declared.catalog.Definition.{Definition}
 use Rattle.iv_types.specs.declared.catalog.Definition.TheVariants.{Table, Index, View}
 use Rattle.iv_types.specs.declared.lock.IndexEntry.{IndexEntry}
 use Rattle.iv_types.specs.declared.refusal.Refusal.TheVariants as refused
 use Rattle.iv_meaning.specs.Binding.{bind}
-use Rattle.iv_meaning.specs.Database.{Row, Rows, Database}
+use Rattle.iv_meaning.specs.Database.{Row, Database}
 use Rattle.iv_meaning.specs.Objects.{object_of, schema_of, view_tree}
-use Rattle.iv_meaning.specs.Schema.{Schema, Object, view, group_kinds}
+use Rattle.iv_meaning.specs.Schema.{Schema, Object, view}
 use Rattle.iv_meaning.specs.Statement.{create, defines, create_meaning, Accepted, Refused}
 use Rattle.iv_meaning.specs.View.{whole_view}
 use Rattle.query_laws.proofs.CreatingLemmas.{of_create}
 use Rattle.query_laws.proofs.LimitedLemmas.{limited_law}
 use Rattle.sql_parse.proofs.Lines.{unique}
-use Rattle.txn_machine.specs.Fresh.{made_of}
-use Rattle.txn_machine.specs.Stored.{ViewRows, AreStored, IsStoredRow}
+use Rattle.txn_machine.specs.Fresh.{made_of, fresh}
+use Rattle.txn_machine.specs.Stored.{AreStored}
 use Rattle.txn_machine.specs.ViewLaws.{AreSound}
 use Rattle.txn_machine.proofs.Creating.{creates_sound}
-use Rattle.txn_machine.proofs.Making.{numbered_more, kinds_stay}
-use Rattle.txn_machine.proofs.Shapes.{add_all_stored, made_are, last_numbered}
+use Rattle.txn_machine.proofs.Ranging.{new_in_range}
+use Rattle.txn_machine.proofs.Shapes.{add_all_stored, made_are, last_numbered, more_stored}
 use Rattle.txn_log.specs.Appended.{Creates}
 use Rattle.ghost_rows.specs.State.{State}
 use Rattle.data_store.specs.Contents.{Contents}
 use Rattle.data_store.specs.Held.{IsHeld}
-use Rattle.data_defining.specs.Defining.{AreFirst, with_object}
+use Rattle.data_defining.specs.Defining.{AreViewEntries, AreFirst, CanDefine, with_object}
 use Rattle.image_catalog.specs.Texts.{AreMade}
 use Rattle.image_catalog.proofs.Making.{made_so}
 use Rattle.image_catalog.proofs.Telling.{and_one}
@@ -56,21 +56,21 @@ first_accepted ds maps c (Table t) es f number = (0, defines (object_of (Table t
 first_accepted ds maps c (Index i) es f number = (0, defines (object_of (Index i)) ∷ [], refl)
 first_accepted ds maps c (View v) es f number = (0, defines (object_of (View v)) ∷ [], view_accepted (database_of number c) (view_tree v) f.rows f.whole)
 
--- ---- the contents with it
+-- ---- what it begins with
 
--- the stored view rows are those of views still
-more_stored : (objects : Schema) (rows : Rows) (o : Object) (stored : ViewRows) → AreSound objects rows → AreStored objects stored → AreStored (objects ++ o ∷ []) stored
-more_stored objects rows o stored sound h place numbers there =
-    let r : IsStoredRow objects place numbers = h place numbers there in
-    let kinds : group_kinds (objects ++ o ∷ []) r.of ≡ group_kinds objects r.of = kinds_stay objects o r.of (sound.objects place.0 (view r.of) r.view_is).1 (sound.joins place.0 r.of r.view_is) in
-    record {
-      of = r.of;
-      view_is = numbered_more objects o place.0 (view r.of) r.view_is ∙ r.view_is;
-      group = r.group;
-      fits = subst (λ ks. FitAll ks r.group) (sym kinds) r.fits;
-      key = r.key ∙ sym (ap (λ ks. key_bytes ks r.group) kinds);
-      width = r.width;
-    }
+-- the rows of a view were evaluated, so its numbers are in range
+pub can_define : (ds : Definitions) (maps : ℕ → Map) (state : State) (d : Definition) (es : List IndexEntry) (c : Contents) → CanBegin ds maps state (object_of d) c → AreFirst ds maps c d es → CanDefine ds maps state d es c
+can_define ds maps state d es c can are = record {
+  evaluated = can.evaluated;
+  unkept = can.unkept;
+  in_range = λ v is group column.
+      let entries : AreViewEntries c v es = subst (λ x. AreFirst ds maps c x es) is are in
+      subst (λ x. IsHuge (fresh (c.objects ++ object_of x ∷ []) c.rows (v.number, group) column)) (sym is)
+      (new_in_range c.objects c.rows (view_tree v) (subst (λ x. AreSound (c.objects ++ object_of x ∷ []) c.rows) is can.evaluated.after) (ap is_some entries.whole) group column);
+  first = are;
+}
+
+-- ---- the contents with it
 
 stored_with : (c : Contents) (o : Object) → AreSound c.objects c.rows → AreSound (c.objects ++ o ∷ []) c.rows → AreStored c.objects c.view → AreStored (c.objects ++ o ∷ []) (with_object c o).view
 stored_with c o sound after stored =

@@ -5,7 +5,6 @@ use Rattle.std.specs.Prelude.{◌≡◌, ℕ, List, [], ◌∷◌, ◌++◌}
 use Rattle.iv_types.specs.Maps.{Map}
 use Rattle.iv_types.specs.Definitions.{Definitions}
 use Rattle.iv_types.specs.declared.catalog.Definition.{Definition}
-use Rattle.iv_types.specs.declared.lock.IndexEntry.{IndexEntry}
 use Rattle.iv_meaning.specs.Database.{Database}
 use Rattle.iv_meaning.specs.Objects.{object_of, schema_of}
 use Rattle.iv_meaning.specs.Schema.{Object}
@@ -15,7 +14,7 @@ use Rattle.txn_log.specs.Fitting.{IsAccepted}
 use Rattle.ghost_rows.specs.State.{State}
 use Rattle.data_store.specs.Contents.{Contents}
 use Rattle.data_store.specs.Reading.{CanBeRead}
-use Rattle.data_defining.specs.Defining.{AreFirst, CanEvaluate, with_object}
+use Rattle.data_defining.specs.Defining.{CanEvaluate, with_object}
 
 -- ---- what stands there
 
@@ -29,12 +28,6 @@ pub record CanReplay (definitions : Definitions) (maps : ℕ → Map) (state : S
 pub record CanBegin (definitions : Definitions) (maps : ℕ → Map) (state : State) (o : Object) (c : Contents) : Type 0 where
   pub evaluated : CanEvaluate definitions maps state o c
   pub unkept : (session : ℕ) → c.kept session ≡ []
-
--- and these are the entries that it begins with
-pub record CanBeginWith (definitions : Definitions) (maps : ℕ → Map) (state : State) (d : Definition) (es : List IndexEntry) (c : Contents) : Type 0 where
-  pub evaluated : CanEvaluate definitions maps state (object_of d) c
-  pub unkept : (session : ℕ) → c.kept session ≡ []
-  pub first : AreFirst definitions maps c d es
 
 -- ---- what is accepted beside it
 

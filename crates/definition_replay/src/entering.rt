@@ -9,8 +9,8 @@ ghost use Rattle.table_store.specs.Filling.{CanPutAll, filled};
 ghost use Rattle.ghost_rows.specs.Rows.{no_rows};
 ghost use Rattle.data_store.specs.Contents.{Contents};
 ghost use Rattle.data_store.specs.Held.{IsHeld};
-ghost use Rattle.data_defining.specs.Defining.{with_object};
-ghost use Rattle.definition_replay.specs.Replaying.{CanBegin, CanBeginWith, IsRefusedBeside, IsBegun};
+ghost use Rattle.data_defining.specs.Defining.{CanDefine, with_object};
+ghost use Rattle.definition_replay.specs.Replaying.{CanBegin, IsRefusedBeside, IsBegun};
 
 use data_defining::first_entries;
 use data_store::DataStore;
@@ -56,11 +56,11 @@ fn enter<M: SortedMaps>(
     first: IndexEntryList,
 ) -> Result<(), NoMemory>
     requires adds { CanAdd store.old.catalog definition }
-    requires begins { (c : Contents) × CanBeginWith store.old.catalog (M.maps store.old.tables) store.old.views definition first c }
+    requires begins { (c : Contents) × CanDefine store.old.catalog (M.maps store.old.tables) store.old.views definition first c }
     requires closed { store.old.views.rows ≡ no_rows }
     requires limit { M.limit store.old.tables ≡ None }
     ensures defined { OnOk result (store.new.catalog ≡ store.old.catalog ++ definition ∷ []) }
-    ensures held { OnOk result ((c : Contents) → CanBeginWith store.old.catalog (M.maps store.old.tables) store.old.views definition first c
+    ensures held { OnOk result ((c : Contents) → CanDefine store.old.catalog (M.maps store.old.tables) store.old.views definition first c
         → IsHeld store.new.catalog (M.maps store.new.tables) store.new.views (with_object c (object_of definition))) }
     ensures limit { M.limit store.new.tables ≡ M.limit store.old.tables }
     ensures rest { store.new ≡ record store.old { catalog = store.new.catalog; tables = store.new.tables } }

@@ -15,10 +15,11 @@ use Rattle.txn_book.specs.Moves.{CountsFault}
 use Rattle.txn_book.specs.declared.step.Act.{Act as BookAct}
 use Rattle.txn_book.specs.declared.step.Answer.{Answer as BookAnswer}
 use Rattle.core_journal.specs.Records.{Records, records_after}
-use Rattle.core_recording.specs.Giving.{CanGive, Gives, MayGiveUp}
+use Rattle.core_recording.specs.Giving.{IsSaved, CanGive, Gives, MayGiveUp}
+use Rattle.core_recording.proofs.Plain.{plain_gives, other_gives}
 use Rattle.core_state.specs.Stands.{Began, Told}
 use Rattle.core_state.specs.declared.state.CoreState.{CoreState}
-use Rattle.engine_core.proofs.Quiet.{IsQuiet, quiet_records, unmade_records}
+use Rattle.engine_core.proofs.Quiet.{IsQuiet, quiet_plain, quiet_records, unmade_records}
 use Rattle.engine_core.proofs.Telling.{no_memory_told}
 
 -- the count stands where the answer tells no fault
@@ -40,7 +41,7 @@ module _ {M J : Type 0} (maps : M → ℕ → Map) (spare : M → ℕ → ℕ) (
       → MayGiveUp maps spare limit has area core journal i a said then journal
   quiet_did a said then quiet tells s began may =
       let told : Told maps spare limit s i a said then = tells s began may in
-      inl (record { told = told; gave = λ rs behind. subst (has journal) (sym (quiet_records s i rs a said told.effects quiet told.says)) behind.has_them; same_limit = refl })
+      inl (record { told = told; gave = λ rs behind. plain_gives (has journal) (IsSaved s) a said _ (quiet_plain a quiet) (subst (has journal) (sym (quiet_records s i rs a said told.effects quiet told.says)) behind.has_them); same_limit = refl })
 
   -- one for which there was no memory
   pub lacks_did : (a : Act) (then : CoreState M) → TakesMemory a → ((s : State) → Began maps spare limit core s i → MayAct s.store i a → Began maps spare limit then s i)
@@ -49,7 +50,7 @@ module _ {M J : Type 0} (maps : M → ℕ → Map) (spare : M → ℕ → ℕ) (
       let told : Told maps spare limit s i a (answer.Refused NoMemory) then = no_memory_told maps spare limit then s i a takes (still s began may) in
       inl (record {
         told = told;
-        gave = λ rs behind. subst (has journal) (sym (ap (λ es. records_after s i a (answer.Refused NoMemory) es rs) told.says.1 ∙ unmade_records s i rs a)) behind.has_them;
+        gave = λ rs behind. other_gives (has journal) (IsSaved s) a (answer.Refused NoMemory) _ (λ x. x) (subst (has journal) (sym (ap (λ es. records_after s i a (answer.Refused NoMemory) es rs) told.says.1 ∙ unmade_records s i rs a)) behind.has_them);
         same_limit = refl;
       })
 

@@ -10,6 +10,7 @@ use Rattle.txn_machine.specs.State.{State}
 use Rattle.txn_machine.specs.Steps.{Says}
 use Rattle.txn_machine.specs.Store.{Effect}
 use Rattle.core_journal.specs.Records.{Records, recorded_all, records_after}
+use Rattle.core_recording.proofs.Plain.{IsPlain}
 
 -- these change nothing that a crash has to keep
 abbrev pub IsQuiet : Act → Type 0
@@ -20,6 +21,10 @@ IsQuiet (act.Peek index interval) = Unit {0}
 IsQuiet act.Prune = Unit {0}
 IsQuiet act.Cancel = Unit {0}
 IsQuiet _ = ⊥
+
+pub quiet_plain : (a : Act) → IsQuiet a → IsPlain a
+quiet_plain act.Checkpoint q = q
+quiet_plain a q = tt
 
 module _ (s : State) (i : ℕ) (rs : Records) where
   abbrev all : Act → List Effect → Records

@@ -17,8 +17,8 @@ use Rattle.txn_machine.specs.State.{State, Stop, Seat, Cleaner, is_fault, most_s
 use Rattle.txn_machine.specs.Steps.{Step}
 use Rattle.txn_machine.specs.Store.{Store, Effect, Commits, Defines, schema_of, does}
 use Rattle.txn_log.specs.Appended.{Numbered}
-use Rattle.core_journal.specs.Records.{Records, with_one, with_perhaps, flushed_all, flushed_after, recorded, recorded_all, records_after}
-use Rattle.core_recording.specs.Giving.{Did, IsBehind}
+use Rattle.core_journal.specs.Records.{Records, with_one, with_perhaps, flushed_all, flushed_after, recorded, recorded_all, records_after, Saved, with_saved, GivesTo}
+use Rattle.core_recording.specs.Giving.{IsSaved, Did, IsBehind}
 use Rattle.core_recording.proofs.Used.{used_after}
 use Rattle.core_state.specs.Seats.{seat_at}
 use Rattle.core_state.specs.Stands.{Began, Counts, Failed, Moved, Stands, Told}
@@ -52,8 +52,8 @@ module _ {M : Type 0} (maps : M → ℕ → Map) (spare : M → ℕ → ℕ) (li
   pub few_saves : (saves : ℕ) → saves ≤ s.steps → saves < 2 ^ 62
   few_saves saves le = let lt = few in omega (arith, le, lt)
 
-  pub few_records : core.next ≡ s.log.next → core.next < 2 ^ 63
-  few_records same = let le : s.log.next ≤ s.steps + 1 = counts.next in let lt = few in omega (arith, same, le, lt)
+  pub few_records : core.next ≡ s.log.next → s.opening.next ≤ 2 ^ 62 → core.next < 2 ^ 63
+  few_records same early = let le : s.log.next ≤ s.steps + s.opening.next = counts.next in let lt = few in omega (arith, same, le, early, lt)
 
 -- ---- checkpoints are counted
 
@@ -93,6 +93,17 @@ saves_after s i act.Commit (answer.Refused refusal.DiskFault) es rs = let same =
 saves_after s i (act.Schema statement) (answer.Refused refusal.DiskFault) es rs = omega arith
 saves_after s i a said es rs = let same = same_all saves_of (λ objects r rs. refl) (λ rs. refl) s.store i a es s.log rs in omega (arith, same)
 
+-- what holds of records with what was saved, and of records without a checkpoint, holds of what is given
+gives_more : (Has Also : Records → Type 0) (Saves : Saved → Type 0) (a : Act) (said : Answer) (rs : Records) → ((saved : Saved) → Has (with_saved saved rs) → Also (with_saved saved rs)) → (Has rs → Also rs)
+    → GivesTo Has Saves a said rs → GivesTo Also Saves a said rs
+gives_more Has Also Saves act.Checkpoint (answer.Saved number) rs f g h = (h.0, h.1, f h.0 h.2)
+gives_more Has Also Saves a said rs f g h = g h
+
+-- of some records, with as many checkpoints
+pub gives_some : (Has : Records → Type 0) (Saves : Saved → Type 0) (a : Act) (said : Answer) (rs : Records) → GivesTo Has Saves a said rs → (xs : Records) × Has xs × (xs.saves ≡ rs.saves)
+gives_some Has Saves act.Checkpoint (answer.Saved number) rs h = (with_saved h.0 rs, h.2, refl)
+gives_some Has Saves a said rs h = (rs, h, refl)
+
 -- a step of a core that runs is counted
 steps_more : (s : State) (i : ℕ) (a : Act) (said : Answer) (after : State) → s.stop ≡ None → Step s i a said after → after.steps ≡ s.steps + 1
 steps_more s i a said after runs step = elim step.does [ inl d ↦ ap (λ (x : State). x.steps) d.left | inr t ↦ absurd (let bad : Some t.stop ≡ None = sym t.stopped ∙ runs in cc) ]
@@ -119,16 +130,16 @@ stays_stopped s i a said after stop stopped step =
 
 -- ---- the limit of the log stays
 
-opening_stays : (s : State) (i : ℕ) (a : Act) (said : Answer) (after : State) → Step s i a said after → after.opening ≡ s.opening
+pub opening_stays : (s : State) (i : ℕ) (a : Act) (said : Answer) (after : State) → Step s i a said after → after.opening ≡ s.opening
 opening_stays s i a said after step = elim step.does [ inl d ↦ ap (λ (x : State). x.opening) d.left | inr t ↦ ap (λ (x : State). x.opening) t.left ]
 
 module _ {M : Type 0} (maps : M → ℕ → Map) (spare : M → ℕ → ℕ) (limit : M → Option ℕ) (s : State) (i : ℕ) where
   -- of a step that has begun
   pub began_limit : (core then : CoreState M) → Stands maps spare limit core s → Began maps spare limit then s i → core.log_room.limit ≡ then.log_room.limit
-  began_limit core then stands began = sym (ap (λ (x : Opening). x.log_limit) stands.opening.is) ∙ ap (λ (x : Opening). x.log_limit) began.opening.is
+  began_limit core then stands began = sym stands.opening.log_is ∙ began.opening.log_is
 
   pub began_image : (core then : CoreState M) → Stands maps spare limit core s → Began maps spare limit then s i → core.data_room.limit ≡ then.data_room.limit
-  began_image core then stands began = sym (ap (λ (x : Opening). x.data_limit) stands.opening.is) ∙ ap (λ (x : Opening). x.data_limit) began.opening.is
+  began_image core then stands began = sym stands.opening.data_is ∙ began.opening.data_is
 
   -- so the journal is behind a step that has begun
   pub behind_begun : {J : Type 0} (has : J → Records → Type 0) (area : J → Option ℕ) (core then : CoreState M) (journal : J) (rs : Records) → Stands maps spare limit core s → Began maps spare limit then s i
@@ -139,11 +150,11 @@ module _ {M : Type 0} (maps : M → ℕ → Map) (spare : M → ℕ → ℕ) (li
   -- and of one that is done
   moved_limit : (a : Act) (said : Answer) (es : List Effect) (then : CoreState M) (before : Option ℕ) → s.opening.log_limit ≡ before → Moved maps spare limit s i a said es then → before ≡ then.log_room.limit
   moved_limit a said es then before was moved =
-      sym was ∙ (ap (λ (x : Opening). x.log_limit) (sym (opening_stays s i a said moved.after moved.does)) ∙ ap (λ (x : Opening). x.log_limit) moved.stands.opening.is)
+      sym was ∙ (ap (λ (x : Opening). x.log_limit) (sym (opening_stays s i a said moved.after moved.does)) ∙ moved.stands.opening.log_is)
 
   moved_image : (a : Act) (said : Answer) (es : List Effect) (then : CoreState M) (before : Option ℕ) → s.opening.data_limit ≡ before → Moved maps spare limit s i a said es then → before ≡ then.data_room.limit
   moved_image a said es then before was moved =
-      sym was ∙ (ap (λ (x : Opening). x.data_limit) (sym (opening_stays s i a said moved.after moved.does)) ∙ ap (λ (x : Opening). x.data_limit) moved.stands.opening.is)
+      sym was ∙ (ap (λ (x : Opening). x.data_limit) (sym (opening_stays s i a said moved.after moved.does)) ∙ moved.stands.opening.data_is)
 
 -- ---- what was done
 
@@ -167,12 +178,14 @@ module _ {M J : Type 0} (maps : M → ℕ → Map) (spare : M → ℕ → ℕ) (
             effects = gave.told.effects;
             says = inl gave.told.says;
             moved = moved;
-            behind = λ _. record {
-              has_them = gave.gave rs behind;
-              used = used_after s i a said gave.told.effects rs behind.used ∙ sym (ap (λ (l : Log). l.used) moved.logged);
-              same_limit = gave.same_limit ∙ (behind.same_limit ∙ moved_limit maps spare limit s i a said gave.told.effects new core.log_room.limit (ap (λ (x : Opening). x.log_limit) began.opening.is) moved);
-              same_image = image_after s i a said gave.told.effects rs ∙ (behind.same_image ∙ moved_image maps spare limit s i a said gave.told.effects new core.data_room.limit (ap (λ (x : Opening). x.data_limit) began.opening.is) moved);
-            };
+            behind = λ _.
+                let given : Records = records_after s i a said gave.told.effects rs in
+                let used_now = used_after s i a said gave.told.effects rs behind.used ∙ sym (ap (λ (l : Log). l.used) moved.logged) in
+                let limit_now = gave.same_limit ∙ (behind.same_limit ∙ moved_limit maps spare limit s i a said gave.told.effects new core.log_room.limit began.opening.log_is moved) in
+                let image_now = image_after s i a said gave.told.effects rs ∙ (behind.same_image ∙ moved_image maps spare limit s i a said gave.told.effects new core.data_room.limit began.opening.data_is moved) in
+                gives_more (has after) (IsBehind maps spare limit has area new after moved.after.log) (IsSaved s) a said given
+                (λ saved have. record { has_them = have; used = used_now; same_limit = limit_now; same_image = image_now })
+                (λ have. record { has_them = have; used = used_now; same_limit = limit_now; same_image = image_now }) (gave.gave rs behind);
             few = few_after s i a said gave.told.effects rs moved.after began.runs moved.does;
           }
       recorded_told (inr up) fine closes = absurd (let no : false ≡ true = sym fine ∙ ap is_fault up.said_is in cc)

@@ -9,8 +9,8 @@ use Rattle.txn_machine.specs.May.{MayAct}
 use Rattle.txn_machine.specs.State.{State}
 use Rattle.txn_machine.specs.Steps.{Says, TakesMemory}
 use Rattle.txn_machine.specs.Store.{Effect}
-use Rattle.core_journal.specs.Records.{Records, records_after}
-use Rattle.core_recording.specs.Giving.{IsBehind}
+use Rattle.core_journal.specs.Records.{Records, records_after, GivesTo}
+use Rattle.core_recording.specs.Giving.{IsSaved, IsBehind}
 use Rattle.core_state.specs.Stands.{Began, Moved}
 use Rattle.core_state.specs.declared.state.CoreState.{CoreState}
 
@@ -21,11 +21,12 @@ module _ {M : Type 0} (maps : M → ℕ → Map) (spare : M → ℕ → ℕ) (li
 
 module _ {M J : Type 0} (maps : M → ℕ → Map) (spare : M → ℕ → ℕ) (limit : M → Option ℕ) (has : J → Records → Type 0) (area : J → Option ℕ) where
   -- A step was answered so, and led to the state in which the core is; its journal has the records of these effects beside those that
-  -- it had, unless it is stopped now. They are the effects of the answer; a core that is stopped tells so, and does nothing.
+  -- it had, or after a checkpoint what that saves, unless it is stopped now. They are the effects of the answer; a core that is stopped
+  -- tells so, and does nothing.
   pub record Recorded (s : State) (session : ℕ) (a : Act) (said : Answer) (rs : Records) (core : CoreState M) (journal : J) : Type 0 where
     pub effects : List Effect
     pub says : Says s session a said effects ⊎ (IsSome s.stop × (effects ≡ []))
     pub moved : Moved maps spare limit s session a said effects core
-    pub behind : moved.after.stop ≡ None → IsBehind maps spare limit has area core journal moved.after.log (records_after s session a said effects rs)
+    pub behind : moved.after.stop ≡ None → GivesTo (IsBehind maps spare limit has area core journal moved.after.log) (IsSaved s) a said (records_after s session a said effects rs)
     -- a step saves one checkpoint at most
     pub few : rs.saves ≤ s.steps → (records_after s session a said effects rs).saves ≤ moved.after.steps

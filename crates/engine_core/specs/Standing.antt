@@ -1,17 +1,22 @@
 -- No clause of `run` rests on this module: it serves contracts between crates.
 --
 -- In which states of the machine a core is.
-use Rattle.std.specs.Prelude.{◌≡◌, ℕ, ◌<◌, ◌≤◌, ◌^◌, Option, None}
+use Rattle.std.specs.Prelude.{◌≡◌, ℕ, ◌<◌, ◌≤◌, ◌^◌, [], Option, None}
+use Rattle.std.specs.FinMap.{empty}
 use Rattle.std.proofs.Common.{arith}
 use Rattle.iv_types.specs.Maps.{Map}
 use Rattle.txn_machine.specs.State.{State}
 use Rattle.ordered_index.specs.Tree.{Tree, map_of, spare_of, limit_of}
 use Rattle.core_journal.specs.NoJournal as no_journal
-use Rattle.core_journal.specs.Records.{Records}
+use Rattle.core_journal.specs.Records.{Records, Saved}
 use Rattle.core_journal.specs.declared.none.NoJournal.{NoJournal}
 use Rattle.core_recording.specs.Giving.{IsBehind}
 use Rattle.core_state.specs.Stands.{Stands}
 use Rattle.engine_core.specs.declared.engine.Core.{Core}
+
+-- what is saved of a database that defines nothing, with this greatest commit number
+abbrev pub nothing_saved : ℕ → Saved
+nothing_saved number = record { maps = λ index. empty; definitions = []; commits = number; next = 1; carried = [] }
 
 module _ {M J : Type 0} (maps : M → ℕ → Map) (spare : M → ℕ → ℕ) (limit : M → Option ℕ) (has : J → Records → Type 0) (area : J → Option ℕ) where
   -- that of what it holds, of whose log its journal has the records, unless it is stopped
@@ -21,6 +26,8 @@ module _ {M J : Type 0} (maps : M → ℕ → Map) (spare : M → ℕ → ℕ) (
     pub behind : s.stop ≡ None → IsBehind maps spare limit has area core.state core.journal s.log records
     -- a step saves one checkpoint at most
     pub few : records.saves ≤ s.steps
+    -- no fault had been counted as it was opened
+    pub well : s.opening.faults ≡ 0
 
 -- the same of a core without a disk, whose maps are trees of pages
 abbrev pub IsInMemory : Core Tree NoJournal → State → Type 0

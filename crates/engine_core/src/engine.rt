@@ -8,7 +8,7 @@ ghost use Rattle.data_store.specs.Held.{AreEmpty};
 ghost use Rattle.txn_machine.specs.Log.{Within, block_bytes};
 ghost use Rattle.txn_machine.specs.State.{opened_state};
 ghost use Rattle.txn_machine.specs.Store.{opened};
-ghost use Rattle.engine_core.specs.Standing.{IsIn, IsInMemory, none_below};
+ghost use Rattle.engine_core.specs.Standing.{IsIn, IsInMemory, none_below, nothing_saved};
 
 use crate::acting::do_one;
 use core_journal::{Journal, NoJournal};
@@ -43,7 +43,7 @@ impl<M: SortedMaps, J: Journal + Drop> Core<M, J> {
         number: u64,
     ) -> Result<Self, NoMemory>
         requires empty { AreEmpty (M.maps maps) }
-        requires unrecorded { J.has journal (begun (Some most) (block_bytes + 1)) }
+        requires unrecorded { J.has journal (begun (Some most) (nothing_saved number) (block_bytes + 1)) }
         requires log { J.limit journal ≡ log }
         requires least { Within log (block_bytes + 1) }
         requires data { M.limit maps ≡ Some most }
@@ -78,7 +78,7 @@ impl Stepper for Core<PageMaps, NoJournal> {
 
     ghost is_reached = { λ _ _ stands. stands.stands.reached };
 
-    ghost runs_well = { λ _ _ stands _. sym (ap (λ o. o.faults) stands.stands.opening.is) };
+    ghost runs_well = { λ _ _ stands _. sym stands.well };
 
     ghost keeps_all = { λ _ _ _ _ _ no. absurd no };
 

@@ -15,7 +15,7 @@ pub record IsJoined (at end : ℕ) (fs : List Found) (page : ℕ) (bytes : List 
   pub texts : texts_from at fs ≡ (page, bytes ++ (left_from end fs).0) ∷ (left_from end fs).1
   pub further : at < end
 
-abbrev joined_by : Bool → Found → List ℕ × List (ℕ × List ℕ) → List ℕ × List (ℕ × List ℕ)
+abbrev pub joined_by : Bool → Found → List ℕ × List (ℕ × List ℕ) → List ℕ × List (ℕ × List ℕ)
 joined_by first f left = if first then ([], (f.page, f.entry.1 ++ left.0) ∷ left.1) else (f.entry.1 ++ left.0, left.1)
 
 module _ (fs : List Found) (i : ℕ) (inside : i < length fs) where

@@ -1,3 +1,5 @@
 pub mod Joining
 pub mod Making
 pub mod Telling
+pub mod Short
+pub mod Putting

@@ -25,7 +25,7 @@ use Rattle.image_entries.proofs.Firsts.{none_first, first_after}
 use Rattle.image_entries.proofs.Linked.{definitions_are, definition_refused}
 use Rattle.image_catalog.specs.Texts.{is_first, texts_from, BeginsAt, AreMade, TakesText, RefusesText, TextFails, TellsText}
 
-abbrev Texts : Type 0
+abbrev pub Texts : Type 0
 Texts = List (ℕ × List ℕ)
 
 -- ---- texts that make objects

@@ -38,7 +38,10 @@ fn take_text(
     ensures refused { IfBad result (λ bad. RefusesText at (parts_found parts.now) (schema_of catalog.old) bad) }
     ensures no_disk { (count : ℕ) → FindFaults result count count }
 {
-    let text = text_at(alloc, parts, at)?;
+    let text = match text_at(alloc, parts, at) {
+        Ok(text) => text,
+        Err(NoMemory) => return Err(FindFault::NoMemory),
+    };
     match define(alloc, catalog, &text.bytes) {
         Ok(true) => Ok(text.end),
         Ok(false) => Err(FindFault::BadImage(BadImage {

@@ -1,13 +1,12 @@
 //! The texts of definitions, joined of their parts.
-ghost use Rattle.std.specs.Prelude.{◌≡◌, ◌<◌, ◌≤◌, ℕ, length, drop, IfOk};
+ghost use Rattle.std.specs.Prelude.{◌≡◌, ◌<◌, ◌≤◌, length, drop, IfOk};
 ghost use Rattle.std.specs.Str.{bytes_eq};
 ghost use Rattle.byteorder.specs.Endian.{big_bytes};
-ghost use Rattle.image_finding.specs.Faults.{IfBad, FindFaults};
 ghost use Rattle.image_entries.specs.Parts.{parts_found};
 ghost use Rattle.image_catalog.specs.Texts.{BeginsAt, IsFirstText};
 
 use image_entries::Part;
-use image_finding::FindFault;
+use iv_types::NoMemory;
 use std::alloc::Global;
 
 /// The object number's bytes, which stand before the part's own number in its key.
@@ -36,13 +35,11 @@ fn is_first(part: &Part) -> bool
 }
 
 /// The text whose first part stands at this place.
-pub(crate) fn text_at(alloc: Global, parts: &[Part], first: usize) -> Result<Text, FindFault>
+pub(crate) fn text_at(alloc: Global, parts: &[Part], first: usize) -> Result<Text, NoMemory>
     requires inside { first < length parts.now }
     requires begins { BeginsAt first (parts_found parts.now) }
     ensures text { IfOk result (IsFirstText first (parts_found parts.now)) }
     ensures within { IfOk result (λ text. text.end ≤ length parts.now) }
-    ensures no_rule { IfBad result (λ _. ⊥) }
-    ensures no_disk { (count : ℕ) → FindFaults result count count }
 {
     let page = parts[first].page;
     let mut bytes = parts[first].value.as_slice().to_vec(alloc)?;

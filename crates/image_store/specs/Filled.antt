@@ -3,7 +3,7 @@
 -- A store that has the entries of an image as rows of its tables and as rows of its views.
 use Rattle.std.specs.Prelude.{◌≡◌, ◌≢◌, ◌⊎◌, ◌↔◌, ℕ, suc, ℤ, List, [], length, Some, None}
 use Rattle.std.specs.List.{AllByRecursion}
-use Rattle.std.specs.FinMap.{FinMap, get, insert}
+use Rattle.std.specs.FinMap.{FinMap, get, insert, empty}
 use Rattle.iv_types.specs.Maps.{Map}
 use Rattle.iv_types.specs.Definitions.{Definitions}
 use Rattle.iv_types.specs.declared.catalog.TableDef.{TableDef}
@@ -39,9 +39,9 @@ AreOf m p = (e : PageEntry) → e.0.0 ≢ 0 → HasEntry m e ↔ IsDataEntry p e
 
 -- ---- a store that has them
 
--- the contents of a store that has what these pages have, where no transaction is open
+-- the contents of a store that has what these pages have but for the texts of definitions, where no transaction is open
 abbrev pub contents_of : Pages → Contents
-contents_of p = record { objects = p.db.schema; rows = p.db.rows; view = p.view; kept = λ session. [] }
+contents_of p = record { objects = p.db.schema; rows = p.db.rows; view = p.view; kept = λ session. []; texts = Some empty }
 
 -- the store has what some proper pages have, of which these are the entries, and no row of a view is open in memory
 pub record IsFilled (m : Entries) (definitions : Definitions) (maps : ℕ → Map) (state : State) : Type 0 where

@@ -1,5 +1,5 @@
 -- The rows of a view whose query is not refused, and its stored rows beside them.
-use Rattle.std.specs.Prelude.{◌≡◌, ℕ, suc, true, false, cond, T, ◌&&◌, List, [], ◌∷◌, map, length, get_or, ℤ, pos, Option, Some, None}
+use Rattle.std.specs.Prelude.{◌≡◌, ℕ, suc, true, false, cond, T, ◌&&◌, List, [], ◌∷◌, map, length, get_or, ℤ, pos, Option, Some, None, is_some}
 use Rattle.std.specs.List.{AllByRecursion}
 use Rattle.std.specs.Option.{option_map, option_map_or}
 use mathlib.Core.Path.{refl, sym, ap, subst, ◌∙◌}
@@ -24,6 +24,7 @@ use Rattle.txn_machine.specs.Stored.{AreStored, IsStoredRow, stored_number, add_
 use Rattle.txn_machine.specs.Fresh.{fresh, all_contributions}
 use Rattle.txn_machine.specs.ViewLaws.{AreSound}
 use Rattle.txn_machine.proofs.Columns.{stored_add_all}
+use Rattle.txn_machine.proofs.Ranging.{view_in_range}
 use Rattle.txn_machine.proofs.Sharing.{fresh_of}
 use Rattle.ghost_rows.specs.Numbers.{Fits128}
 use Rattle.ghost_rows.specs.State.{State}
@@ -31,7 +32,6 @@ use Rattle.data_store.specs.Contents.{Contents}
 use Rattle.data_defining.proofs.NewRows.{value_of, filled_found, all_sorted, filled_as_stored, has_count, numbers_are, widths_are}
 use Rattle.image_views.specs.Rows.{ByGroup, column_of, IsBytesOf, entry_of, listed, AreBeside}
 use Rattle.image_views.specs.Compared.{CanEvaluate, IsFreshRow, IsInRange, AreFreshRows}
-use Rattle.image_views.proofs.Ranges.{view_in_range}
 
 -- ---- numbers that fit
 
@@ -111,7 +111,7 @@ module _ (c : Contents) (sound : AreSound c.objects c.rows) (v : ViewTree) (of :
   pub are_fresh : (rows : List ViewRow) (found : List Row) → whole_view c.objects c.rows v ≡ Some found → rows ≡ map (view_row c.objects v) found → AreFreshRows c v rows
   are_fresh rows found whole is =
       let same : rows ≡ map (view_row c.objects v) all = is ∙ ap (map (view_row c.objects v)) (whole_rows c.objects c.rows v found whole) in
-      let in_range : IsInRange c v.number = view_in_range db sound v.number v of found whole in
+      let in_range : IsInRange c v.number = view_in_range c.objects c.rows sound v.number v of c.objects refl (ap is_some whole) in
       subst (AreFreshRows c v) (sym same) (record {
         in_range = in_range;
         in_order = subst T (sym (same_sorted c.objects v all)) (all_sorted db sound v.number v of);

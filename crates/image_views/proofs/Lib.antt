@@ -1,7 +1,6 @@
 pub mod Alike
 pub mod Gaps
 pub mod Merging
-pub mod Ranges
 pub mod Evaluated
 pub mod Readable
 pub mod Places

@@ -3,7 +3,7 @@ use Rattle.std.proofs.Common.{◌≡◌, ℕ, ◌<◌, ◌≤◌, Bool, true, fa
 use Rattle.std.specs.declared.cmp.Ordering.{Ordering}
 use Rattle.std.specs.declared.cmp.Ordering.TheVariants.{Less, Equal, Greater}
 use Rattle.std.specs.Ordering.{nat_cmp, is_eq, is_lt, is_gt}
-use Rattle.std.specs.Prelude.{Result, Ok, Err, OnOk, OnErr}
+use Rattle.std.specs.Prelude.{Result, Ok, Err, OnOk, OnErr, Option, IsSome, is_some}
 use Rattle.std.specs.Map.{lookup}
 use Rattle.std.specs.BTreeMap as tree
 use Rattle.std.specs.BTreeMap.{BTreeMap}
@@ -62,30 +62,45 @@ in_bounds t n start end s e lt = (
   subst (λ (k : ℕ × ℕ). is_gt (key_cmp (t, n) k) ≡ false) (sym e) (second_from t n 18446744073709551615 (omega (arith, lt))),
 )
 
+-- a number under which a record stands is a `u64`
+pub small_number : (records : BTreeMap (ℕ × ℕ) LiveRecord) → AreKeyed records → (t n : ℕ) → IsSome (tree.get key_cmp records (t, n)) → n < 2 ^ 64
+small_number records keyed t n some = by (tree.get key_cmp records (t, n)) refl
+  where
+    by : (o : Option LiveRecord) → tree.get key_cmp records (t, n) ≡ o → n < 2 ^ 64
+    by None e = let none : false ≡ true = sym (ap is_some e) ∙ some in absurd (cc none)
+    by (Some r) e = (keyed t n r e).2
+
+pub none_under : (records : BTreeMap (ℕ × ℕ) LiveRecord) → AreKeyed records → (t n : ℕ) → (n < 2 ^ 64 → tree.get key_cmp records (t, n) ≡ None) → tree.get key_cmp records (t, n) ≡ None
+none_under records keyed t n none = by (tree.get key_cmp records (t, n)) refl
+  where
+    by : (o : Option LiveRecord) → tree.get key_cmp records (t, n) ≡ o → tree.get key_cmp records (t, n) ≡ None
+    by None e = e
+    by (Some r) e = none (keyed t n r e).2
+
 -- ---- a record is put under its key, or taken from one
 
 pub same_record : (x y : LiveRecord) → Some x ≡ Some y → x ≡ y
 same_record x y e = cc
 
 module _ (old new : BTreeMap (ℕ × ℕ) LiveRecord) (key : ℕ × ℕ) where
-  pub keyed_with : (own : LiveRecord) → key ≡ (own.transaction, own.number) → AreKeyed old → ((q : ℕ × ℕ) → tree.get key_cmp new q ≡ cond (is_eq (key_cmp key q)) (Some own) (tree.get key_cmp old q)) → AreKeyed new
-  keyed_with own is keyed put t n r there = by (is_eq (key_cmp key (t, n))) refl
+  pub keyed_with : (own : LiveRecord) → key ≡ (own.transaction, own.number) → own.number < 2 ^ 64 → AreKeyed old → ((q : ℕ × ℕ) → tree.get key_cmp new q ≡ cond (is_eq (key_cmp key q)) (Some own) (tree.get key_cmp old q)) → AreKeyed new
+  keyed_with own is small keyed put t n r there = by (is_eq (key_cmp key (t, n))) refl
     where
-      by : (b : Bool) → is_eq (key_cmp key (t, n)) ≡ b → (r.transaction ≡ t) × (r.number ≡ n)
+      by : (b : Bool) → is_eq (key_cmp key (t, n)) ≡ b → (r.transaction ≡ t) × (r.number ≡ n) × (n < 2 ^ 64)
       by true e =
           let same : own ≡ r = same_record own r (sym (put (t, n) ∙ ap (λ x. cond x (Some own) (tree.get key_cmp old (t, n))) e) ∙ there) in
           let at : (own.transaction, own.number) ≡ (t, n) = sym is ∙ same_key key (t, n) e in
-          (ap (λ (x : LiveRecord). x.transaction) (sym same) ∙ ap (λ (k : ℕ × ℕ). k.0) at, ap (λ (x : LiveRecord). x.number) (sym same) ∙ ap (λ (k : ℕ × ℕ). k.1) at)
+          (ap (λ (x : LiveRecord). x.transaction) (sym same) ∙ ap (λ (k : ℕ × ℕ). k.0) at, ap (λ (x : LiveRecord). x.number) (sym same) ∙ ap (λ (k : ℕ × ℕ). k.1) at, subst (λ (m : ℕ). m < 2 ^ 64) (ap (λ (k : ℕ × ℕ). k.1) at) small)
       by false e = keyed t n r (sym (put (t, n) ∙ ap (λ x. cond x (Some own) (tree.get key_cmp old (t, n))) e) ∙ there)
 
   pub keyed_without : AreKeyed old → ((q : ℕ × ℕ) → tree.get key_cmp new q ≡ cond (is_eq (key_cmp key q)) None (tree.get key_cmp old q)) → AreKeyed new
   keyed_without keyed taken t n r there = by (is_eq (key_cmp key (t, n))) refl
     where
-      by : (b : Bool) → is_eq (key_cmp key (t, n)) ≡ b → (r.transaction ≡ t) × (r.number ≡ n)
+      by : (b : Bool) → is_eq (key_cmp key (t, n)) ≡ b → (r.transaction ≡ t) × (r.number ≡ n) × (n < 2 ^ 64)
       by true e = let none : None ≡ Some r = sym (taken (t, n) ∙ ap (λ x. cond x None (tree.get key_cmp old (t, n))) e) ∙ there in absurd (cc none)
       by false e = keyed t n r (sym (taken (t, n) ∙ ap (λ x. cond x None (tree.get key_cmp old (t, n))) e) ∙ there)
 
 -- a record is put where there is memory for it, and else nothing is changed
-pub keyed_put : {E X : Type 0} (old new : BTreeMap (ℕ × ℕ) LiveRecord) (own : LiveRecord) → AreKeyed old → (result : Result X E) → OnOk result (tree.Updates key_cmp old new (own.transaction, own.number) (Some own)) → OnErr result (tree.IsUnchanged old new) → AreKeyed new
-keyed_put old new own keyed (Ok x) put stays t n r is = keyed_with old new (own.transaction, own.number) own refl keyed put.0 t n r is
-keyed_put old new own keyed (Err e) put stays t n r is = keyed t n r (ap (λ es. lookup (tree.is_at (key_cmp (t, n))) es) (sym stays) ∙ is)
+pub keyed_put : {E X : Type 0} (old new : BTreeMap (ℕ × ℕ) LiveRecord) (own : LiveRecord) → own.number < 2 ^ 64 → AreKeyed old → (result : Result X E) → OnOk result (tree.Updates key_cmp old new (own.transaction, own.number) (Some own)) → OnErr result (tree.IsUnchanged old new) → AreKeyed new
+keyed_put old new own small keyed (Ok x) put stays t n r is = keyed_with old new (own.transaction, own.number) own refl small keyed put.0 t n r is
+keyed_put old new own small keyed (Err e) put stays t n r is = keyed t n r (ap (λ es. lookup (tree.is_at (key_cmp (t, n))) es) (sym stays) ∙ is)

@@ -28,7 +28,7 @@ module _ (first : BTreeMap (ℕ × ℕ) LiveRecord) (keyed : AreKeyed first) (ap
 
     module _ (held : tree.get key_cmp left key ≡ Some own) where
       its_key : (own.transaction ≡ key.0) × (own.number ≡ key.1)
-      its_key = keyed key.0 key.1 own (among key.0 key.1 own held)
+      its_key = let at = keyed key.0 key.1 own (among key.0 key.1 own held) in (at.0, at.1)
 
       pub moved_all : ((n : ℕ) (r : LiveRecord) → tree.get nat_cmp all n ≡ Some r → tree.get key_cmp first (r.transaction, n) ≡ Some r)
           → ((n : ℕ) → tree.get nat_cmp more n ≡ cond (is_eq (nat_cmp own.number n)) (Some own) (tree.get nat_cmp all n)) → (n : ℕ) (r : LiveRecord) → tree.get nat_cmp more n ≡ Some r → tree.get key_cmp first (r.transaction, n) ≡ Some r

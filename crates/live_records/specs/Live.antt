@@ -1,7 +1,7 @@
 -- No clause of `run` rests on this module: it serves contracts between crates.
 --
 -- What transactions keep while records are replayed.
-use Rattle.std.specs.Prelude.{◌≡◌, ◌≢◌, ℕ, ◌<◌, ◌≤◌, ◌^◌, ◌==◌, Bool, true, ◌↔◌, Option, Some, None, IsSome, if◌then◌else◌}
+use Rattle.std.specs.Prelude.{◌≡◌, ◌≢◌, ℕ, ◌≤◌, ◌==◌, Bool, true, ◌↔◌, Option, Some, None, IsSome, if◌then◌else◌}
 use Rattle.std.specs.Ordering.{nat_cmp, is_eq}
 use Rattle.std.specs.BTreeMap as tree
 use Rattle.std.specs.BTreeSet.{contains}
@@ -42,15 +42,15 @@ abbrev pub SetsOne : LiveRecords → ℕ → ℕ → Option LiveRecord → LiveR
 SetsOne old transaction number kept new =
     (t n : ℕ) → kept_at new t n ≡ (if is_eq (key_cmp (transaction, number) (t, n)) then kept else kept_at old t n)
 
--- the latest record that the transaction keeps; a number is a `u64`
+-- the latest record that the transaction keeps
 pub record IsLatest (live : LiveRecords) (transaction : ℕ) (r : LiveRecord) : Type 0 where
   pub of_it : r.transaction ≡ transaction
   pub kept : kept_at live transaction r.number ≡ Some r
-  pub latest : (number : ℕ) → number < 2 ^ 64 → IsSome (kept_at live transaction number) → number ≤ r.number
+  pub latest : (number : ℕ) → IsSome (kept_at live transaction number) → number ≤ r.number
 
 -- it keeps nothing
 abbrev pub KeepsNothing : LiveRecords → ℕ → Type 0
-KeepsNothing live transaction = (number : ℕ) → number < 2 ^ 64 → kept_at live transaction number ≡ None
+KeepsNothing live transaction = (number : ℕ) → kept_at live transaction number ≡ None
 
 -- the transaction has ended and keeps nothing, and all others are as they were
 pub record HasEndedNow (old : LiveRecords) (transaction : ℕ) (new : LiveRecords) : Type 0 where

@@ -1,5 +1,6 @@
 //! Records in the order of their numbers.
-ghost use Rattle.std.specs.Prelude.{◌≡◌, ℕ, ◌==◌, ◌≤◌, None, Some, IsSome, IfSome, IfNone, if◌then◌else◌};
+ghost use Rattle.std.specs.Prelude.{◌≡◌, ◌+◌, ℕ, ◌==◌, ◌≤◌, None, Some, IsSome, IfSome, IfNone, if◌then◌else◌};
+ghost use Rattle.std.specs.BTreeMap.{btree_map_len};
 ghost use Rattle.live_records.specs.Live.{record_at};
 
 use crate::kept::OrderedRecords;
@@ -11,6 +12,7 @@ impl OrderedRecords {
         ensures latest { IfSome result (λ r. (n : ℕ) → IsSome (record_at self.old n) → n ≤ r.number) }
         ensures was { IfSome result (λ r. record_at self.old r.number ≡ Some r) }
         ensures taken { IfSome result (λ r. (n : ℕ) → record_at self.new n ≡ (if n == r.number then None else record_at self.old n)) }
+        ensures fewer { IfSome result (λ r. btree_map_len self.new.records + 1 ≡ btree_map_len self.old.records) }
         ensures none { IfNone result ((n : ℕ) → record_at self.old n ≡ None) }
     {
         match self.records.pop_last() {

@@ -51,7 +51,7 @@ all_make earlier (t ∷ ts) objects done h =
     let rest = all_make (t ∷ earlier) ts (objects ++ h.0.2 ∷ []) more h.1 in
     (rest.0, (h.0.2, makes, rest.1))
 
-no_rows : (objects : Schema) → AreSound objects created.rows → (texts : List (List ℕ)) (all : Schema) → AllCreate objects texts all → AreSound all created.rows
+pub no_rows : (objects : Schema) → AreSound objects created.rows → (texts : List (List ℕ)) (all : Schema) → AllCreate objects texts all → AreSound all created.rows
 no_rows objects sound [] all h = subst (λ x. AreSound x created.rows) (sym h) sound
 no_rows objects sound (text ∷ texts) all h =
     no_rows (objects ++ h.0 ∷ []) (creates_sound (record { number = 0; schema = objects; rows = created.rows }) h.1.0 h.0 sound h.1.2) texts all h.2

@@ -21,12 +21,13 @@ all_push : {X : Type 0} (P : X → Type 0) (xs : List X) (y : X) → AllByRecurs
 all_push P [] y h k = (k, tt)
 all_push P (x ∷ xs) y h k = (h.0, all_push P xs y h.1 k)
 
-pub flushed_blocks : (log : LogState) (s c : List ℕ) (waiting flushed : List Entry) → HasBlocks log s flushed → log.waiting ≡ group (reverse waiting) → AllByRecursion IsSmall (reverse waiting)
+pub flushed_blocks : (log : LogState) (s c : List ℕ) (carried waiting flushed : List Entry) → HasBlocks log s carried flushed → log.waiting ≡ group (reverse waiting) → AllByRecursion IsSmall (reverse waiting)
     → length log.waiting < 2 ^ 28
     → ((groups : List (List Entry)) (rs : List Entry) → Holds log.start log.gate log.size s groups → log.waiting ≡ group rs → Holds log.start (log.gate + (5 + length log.waiting)) log.size c (groups ++ rs ∷ []))
-    → HasBlocks (after_flush log) c (waiting ++ flushed)
-flushed_blocks log s c waiting flushed has is small short holds = record {
+    → HasBlocks (after_flush log) c carried (waiting ++ flushed)
+flushed_blocks log s c carried waiting flushed has is small short holds = record {
   first = has.first;
+  first_is = has.first_is;
   others = has.others ++ reverse waiting ∷ [];
   holds = holds (has.first ∷ has.others) (reverse waiting) has.holds is;
   fit = (has.fit.0, all_push FitsBlock has.others (reverse waiting) has.fit.1 (record { small = small; short = subst (λ (bs : List ℕ). length bs < 2 ^ 32) is (omega (arith, short)) }));
@@ -83,9 +84,10 @@ same_area size (suc a) = refl
 -- a new image has the first block, with its records, in the log's area
 pub begun_blocks : (log : LogState) (facts : HeaderFacts) (flags : List Bool) (bytes c : List ℕ) (carried : List Entry) → log.start ≡ area_at log.size facts.area → log.first ≡ group (reverse carried)
     → AllByRecursion IsSmall (reverse carried) → log.gate ≡ 5 + length log.first → length log.first < 2 ^ 28 → log.gate + 1 ≤ log.size → log.start + log.size ≤ length c → BegunHolds log
-    → IsNew log.size facts (first_block log) flags bytes c → HasBlocks log c []
+    → IsNew log.size facts (first_block log) flags bytes c → HasBlocks log c carried []
 begun_blocks log facts flags bytes c carried start first small gate short room on_disk begins new = record {
   first = reverse carried;
+  first_is = refl;
   others = [];
   holds = begins c (reverse carried) first gate on_disk there;
   fit = (record { small = small; short = subst (λ (bs : List ℕ). length bs < 2 ^ 32) first (omega (arith, short)) }, tt);

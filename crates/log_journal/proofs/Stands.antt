@@ -1,15 +1,21 @@
 -- How a journal stands after a call.
-use Rattle.std.proofs.Common.{◌≡◌, ◌≢◌, Bool, ℕ, zero, suc, ◌+◌, ◌-◌, ◌^◌, ◌<◌, ◌≤◌, List, [], ◌∷◌, ◌++◌, length, refl, sym, ◌∙◌, subst, arith}
-use Rattle.disk_io.specs.Disk.{Only, LeavesOnly}
+use Rattle.std.proofs.Common.{◌≡◌, ◌≢◌, Bool, ℕ, zero, suc, ◌+◌, ◌-◌, ◌*◌, ◌^◌, ◌<◌, ◌≤◌, List, [], ◌∷◌, ◌++◌, length, Some, refl, sym, ◌∙◌, subst, arith}
+use Rattle.iv_types.specs.Definitions.{Definitions}
+use Rattle.disk_io.specs.Disk.{part, Only, LeavesOnly}
 use Rattle.disk_io.proofs.Moments.{weaker_on}
-use Rattle.page_store.specs.Image.{live}
-use Rattle.page_store.specs.Publish.{next_number, OtherArea, LiveFits, IsNew}
+use Rattle.page_store.specs.declared.facts.HeaderFacts.{HeaderFacts}
+use Rattle.page_store.specs.Image as page
+use Rattle.page_store.specs.Image.{live, image}
+use Rattle.page_store.specs.Publish.{next_number, OtherArea, LiveFits, IsNew, new_image}
+use Rattle.ordered_index.specs.Drawn.{IsDrawn}
+use Rattle.ordered_index.specs.Tree.{Tree, map_of}
 use Rattle.log_records.specs.Area.{Entry, group}
 use Rattle.wal_log.specs.Log.{LogState, area_at, after_flush, restarted as log_restarted, Holds, BegunHolds, IsOutside, FlushLeaves}
-use Rattle.core_journal.specs.Records.{Records, flushed_all, restarted}
+use Rattle.log_disk.proofs.Areas.{log_alone}
+use Rattle.core_journal.specs.Records.{Records, Saved, flushed_all, restarted}
 use Rattle.log_journal.specs.declared.journal.LogJournal.{LogJournal}
 use Rattle.log_journal.specs.Standing.{HasParts, HasHeader, Has, Carries}
-use Rattle.log_journal.specs.Saved.{next_header, first_block}
+use Rattle.log_journal.specs.Saved.{MarksSaved, HasSaved, next_header, first_block}
 use Rattle.log_journal.proofs.Headers.{same_number, same_other, same_fits}
 use Rattle.log_journal.proofs.Blocks.{flushed_blocks, begun_blocks}
 
@@ -46,6 +52,45 @@ flush_left moment left_since old new log mid bytes groups rs is =
     (λ left holds waits. weaker_on moment left_since old new (FlushLeaves log bytes groups rs) (FlushLeaves (record log { reserved = log.reserved + 5 }) bytes groups rs) (left holds waits)
     (λ c f. record { others = f.others; area = f.area }))
 
+-- and it leaves what was saved
+image_stays : (room count start : ℕ) (s c : List ℕ) (saved : Saved) → length s ≡ 278528 + 2 * room + 16384 * count → count ≤ 131072 → 278528 ≤ start → start + room ≤ 278528 + 2 * room → IsOutside start room s c
+    → HasSaved room count s saved → HasSaved room count c saved
+image_stays room count start s c saved size few low high out has = record {
+  here = record has.here { log = part (page.area_at room has.here.area) room c };
+  means = log_alone room count s c size few (record { size = out.size; before = λ i lt. out.before i (omega (arith, lt, low)); after = λ i le. out.after i (omega (arith, le, high)) }) has.here has.means;
+  format = has.format;
+  pages = has.pages;
+  areas = has.areas;
+  low_area = has.low_area;
+  low_map = has.low_map;
+  commit_number = has.commit_number;
+  next_number = has.next_number;
+  kept = has.kept;
+  marks = has.marks;
+  entries = has.entries;
+}
+
+-- a new image has what is saved with it
+saved_image : (room count : ℕ) (facts : HeaderFacts) (block : List ℕ) (flags : List Bool) (bytes c : List ℕ) (t : Tree) → t.pages ≡ count → IsDrawn t flags bytes → (definitions : Definitions) → MarksSaved definitions t.kept
+    → (commits next : ℕ) (es : List Entry) → facts.format ≡ 1 → facts.commits ≡ commits → facts.next_entry ≡ next → facts.area ≤ 1 → IsNew room facts block flags bytes c
+    → HasSaved room count c (record { maps = map_of t; definitions = definitions; commits = commits; next = next; carried = es })
+saved_image room count facts block flags bytes c t pages drawn definitions marks commits next es format commits_are next_is low new =
+    let many : length flags ≡ count = drawn.count ∙ pages in
+    record {
+      here = new_image room facts block flags bytes new.map new.log;
+      means = subst (λ (n : ℕ). image room n c ≡ Some (new_image room facts block flags bytes new.map new.log)) many new.means;
+      format = format;
+      pages = many;
+      areas = refl;
+      low_area = low;
+      low_map = λ p lt. new.low p (omega (arith, lt, many));
+      commit_number = commits_are;
+      next_number = next_is;
+      kept = t.kept;
+      marks = marks;
+      entries = drawn.holds;
+    }
+
 module _ {D : Type 0} (is_told : Type 0) (size_of : D → ℕ) (seen : D → List ℕ) (may_leave : D → List ℕ → Type 0) where
   abbrev with_log : LogJournal D → LogState → LogJournal D
   with_log old log = record old { log = log }
@@ -61,9 +106,9 @@ module _ {D : Type 0} (is_told : Type 0) (size_of : D → ℕ) (seen : D → Lis
 
   -- what waited is a block
   pub flushed : (old : LogJournal D) (records : Records) (log mid : LogState) (disk : D) → Has is_told size_of seen may_leave old records
-      → mid ≡ record old.log { reserved = old.log.reserved + 5 } → size_of disk ≡ size_of old.disk
+      → mid ≡ record old.log { reserved = old.log.reserved + 5 } → size_of disk ≡ size_of old.disk → (is_told → length (seen old.disk) ≡ size_of old.disk)
       → (is_told → Only (seen disk) (may_leave disk)) → Flushes old records log disk mid
-  flushed old records log mid disk has reserved size durable = subst (Flushes old records log disk) (sym reserved) (λ is short holds outside.
+  flushed old records log mid disk has reserved size sized durable = subst (Flushes old records log disk) (sym reserved) (λ is short holds outside.
       subst (λ (l : LogState). Has is_told size_of seen may_leave (record old { log = l; disk = disk }) (flushed_all records)) (sym is) (record {
         kept = record {
           parts = subst (HasParts old.log.size old.pages) (sym size) has.kept.parts;
@@ -82,17 +127,21 @@ module _ {D : Type 0} (is_told : Type 0) (size_of : D → ℕ) (seen : D → Lis
         maps = has.maps;
         flushed = λ told.
             let h = has.flushed told in
-            flushed_blocks (record old.log { reserved = old.log.reserved + 5 }) (seen old.disk) (seen disk) records.waiting records.flushed
-            (record { first = h.first; others = h.others; holds = h.holds; fit = h.fit; are = h.are }) has.waiting has.small short (holds told);
+            flushed_blocks (record old.log { reserved = old.log.reserved + 5 }) (seen old.disk) (seen disk) records.saved.carried records.waiting records.flushed
+            (record { first = h.first; first_is = h.first_is; others = h.others; holds = h.holds; fit = h.fit; are = h.are }) has.waiting has.small short (holds told);
+        image = λ told.
+            image_stays old.log.size old.pages old.log.start (seen old.disk) (seen disk) records.saved (sized told ∙ has.kept.parts.whole) has.kept.parts.most_pages (subst (λ (n : ℕ). 278528 ≤ n) (sym has.in_area) (area_low old.log.size old.area))
+            (omega (arith, has.in_area, area_high old.log.size old.area)) (outside told) (has.image told);
       }))
 
   -- a checkpoint begins
   pub restarts : (old : LogJournal D) (records : Records) (next : ℕ) (log : LogState) → Has is_told size_of seen may_leave old records → old.saved < 2 ^ 63 → 6 ≤ old.log.size
-      → log ≡ log_restarted (1 - old.area) next old.log → Carries is_told size_of seen may_leave (with_log old log) records [] 6
+      → log ≡ log_restarted (1 - old.area) next old.log → Carries is_told size_of seen may_leave (with_log old log) records next [] 6
   restarts old records next log has few least is =
-      subst (λ (l : LogState). Carries is_told size_of seen may_leave (with_log old l) records [] 6) (sym is) (record {
+      subst (λ (l : LogState). Carries is_told size_of seen may_leave (with_log old l) records next [] 6) (sym is) (record {
         kept = record { parts = has.kept.parts; low_area = has.kept.low_area; header = has.kept.header; free = has.kept.free };
         in_area = refl;
+        next_is = refl;
         first = refl;
         small = tt;
         gate = refl;
@@ -105,7 +154,8 @@ module _ {D : Type 0} (is_told : Type 0) (size_of : D → ℕ) (seen : D → Lis
       })
 
   -- the checkpoint is saved
-  pub saved : (old : LogJournal D) (records : Records) (es : List Entry) (used commits : ℕ) (flags : List Bool) (bytes : List ℕ) (disk : D) → Carries is_told size_of seen may_leave old records es used
+  pub saved : (old : LogJournal D) (records : Records) (next : ℕ) (es : List Entry) (used commits : ℕ) (flags : List Bool) (bytes : List ℕ) (disk : D) → Carries is_told size_of seen may_leave old records next es used
+      → (t : Tree) → t.pages ≡ old.pages → IsDrawn t flags bytes → (definitions : Definitions) → MarksSaved definitions t.kept
       → size_of disk ≡ size_of old.disk → length old.log.first < 2 ^ 28 → BegunHolds old.log
       → (is_told → length (seen disk) ≡ size_of disk)
       → (is_told → IsNew old.log.size (next_header old commits) (first_block old.log) flags bytes (seen disk))
@@ -113,8 +163,9 @@ module _ {D : Type 0} (is_told : Type 0) (size_of : D → ℕ) (seen : D → Lis
       → (is_told → next_number (live (seen disk)) (seen disk) ≡ old.saved + 1 + 1)
       → (is_told → (area : ℕ) → area ≢ 1 - old.area → OtherArea area (seen disk))
       → (is_told → LiveFits (size_of disk) old.pages (seen disk))
-      → Has is_told size_of seen may_leave (record old { disk = disk; saved = old.saved + 1; area = 1 - old.area }) (restarted records used)
-  saved old records es used commits flags bytes disk has size short begins sized new durable number other fits = record {
+      → Has is_told size_of seen may_leave (record old { disk = disk; saved = old.saved + 1; area = 1 - old.area })
+      (restarted records (record { maps = map_of t; definitions = definitions; commits = commits; next = next; carried = es }) used)
+  saved old records next es used commits flags bytes disk has t pages drawn definitions marks size short begins sized new durable number other fits = record {
     kept = record {
       parts = subst (HasParts old.log.size old.pages) (sym size) has.kept.parts;
       low_area = omega (arith, has.kept.low_area);
@@ -135,4 +186,6 @@ module _ {D : Type 0} (is_told : Type 0) (size_of : D → ℕ) (seen : D → Lis
     flushed = λ told.
         begun_blocks old.log (next_header old commits) flags bytes (seen disk) es has.in_area has.first has.small has.gate short (omega (arith, has.room, has.used_is))
         (omega (arith, sized told, size, has.kept.parts.whole, has.in_area, area_high old.log.size (1 - old.area))) begins (new told);
+    image = λ told.
+        saved_image old.log.size old.pages (next_header old commits) (first_block old.log) flags bytes (seen disk) t pages drawn definitions marks commits next es refl refl has.next_is (omega arith) (new told);
   }

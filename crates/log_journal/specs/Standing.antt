@@ -12,6 +12,7 @@ use Rattle.wal_log.specs.Log.{LogState, area_at, used_by, Holds}
 use Rattle.txn_log.specs.Groups.{after_of}
 use Rattle.core_journal.specs.Records.{Records}
 use Rattle.log_journal.specs.declared.journal.LogJournal.{LogJournal}
+use Rattle.log_journal.specs.Saved.{HasSaved}
 
 -- ---- the disk
 
@@ -30,9 +31,10 @@ pub record HasHeader (size pages number area : ℕ) (bytes : List ℕ) (may_leav
   pub fits : LiveFits size pages bytes
   pub durable : Only bytes may_leave
 
--- The area in use has blocks that can be read. Behind the first one they have these records, the latest first.
-pub record HasBlocks (log : LogState) (bytes : List ℕ) (records : List Entry) : Type 0 where
+-- The area in use has blocks that can be read. The first one has the carried records, and the others have these, the latest first.
+pub record HasBlocks (log : LogState) (bytes : List ℕ) (carried records : List Entry) : Type 0 where
   pub first : List Entry
+  pub first_is : first ≡ reverse carried
   pub others : List (List Entry)
   pub holds : Holds log.start log.gate log.size bytes (first ∷ others)
   pub fit : AllByRecursion FitsBlock (first ∷ others)
@@ -59,8 +61,8 @@ module _ {D : Type 0} (is_told : Type 0) (size_of : D → ℕ) (seen : D → Lis
     pub header : is_told → HasHeader (size_of journal.disk) journal.pages journal.saved journal.area (seen journal.disk) (may_leave journal.disk)
     pub free : journal.log.reserved ≡ 0
 
-  -- It has these records: those that wait are in memory, and the others are in the area that the live header names. The header's
-  -- number grows with the checkpoints.
+  -- It has these records: those that wait are in memory, the others are in the area that the live header names, and what was saved last
+  -- is in its pages. The header's number grows with the checkpoints.
   pub record Has (journal : LogJournal D) (records : Records) : Type 0 where
     pub kept : IsKept journal
     pub in_area : journal.log.start ≡ area_at journal.log.size journal.area
@@ -69,12 +71,15 @@ module _ {D : Type 0} (is_told : Type 0) (size_of : D → ℕ) (seen : D → Lis
     pub used : records.used ≡ used_by journal.log
     pub saves : journal.saved ≤ 2 ^ 62 + records.saves
     pub maps : records.image_limit ≡ maps_limit journal
-    pub flushed : is_told → HasBlocks journal.log (seen journal.disk) records.flushed
+    pub flushed : is_told → HasBlocks journal.log (seen journal.disk) records.saved.carried records.flushed
+    pub image : is_told → HasSaved journal.log.size journal.pages (seen journal.disk) records.saved
 
-  -- A checkpoint has begun behind these records. The first block of the other area is to have these, the latest first.
-  pub record Carries (journal : LogJournal D) (records : Records) (carried : List Entry) (used : ℕ) : Type 0 where
+  -- A checkpoint has begun behind these records, and this number comes next. The first block of the other area is to have these carried
+  -- records, the latest first.
+  pub record Carries (journal : LogJournal D) (records : Records) (next : ℕ) (carried : List Entry) (used : ℕ) : Type 0 where
     pub kept : IsKept journal
     pub in_area : journal.log.start ≡ area_at journal.log.size (1 - journal.area)
+    pub next_is : journal.log.next ≡ next
     pub first : journal.log.first ≡ group (reverse carried)
     pub small : AllByRecursion IsSmall (reverse carried)
     pub gate : journal.log.gate ≡ 5 + length journal.log.first

@@ -1,7 +1,7 @@
 //! The journal on a disk.
 ghost use Rattle.std.specs.Prelude.{◌≡◌, ◌+◌, ◌-◌, ◌*◌, ◌^◌, ◌<◌, ◌≤◌, ℕ, [], ◌∷◌, List, reverse, Bool, Some, OnOk, OnErr};
 ghost use Rattle.iv_types.specs.Faults.{Rose, CountsFault};
-ghost use Rattle.iv_types.specs.Maps.{last_index};
+ghost use Rattle.iv_types.specs.Definitions.{Definitions};
 ghost use Rattle.txn_machine.specs.Log.{block_bytes};
 ghost use Rattle.page_store.specs.Publish.{IsNew, OldOrNew};
 ghost use Rattle.disk_io.specs.Disk.{LeavesOnly};
@@ -9,9 +9,9 @@ ghost use Rattle.ordered_index.specs.Drawn.{IsDrawn};
 ghost use Rattle.ordered_index.specs.Tree.{map_of, spare_of, limit_of, data_limit};
 ghost use Rattle.log_records.specs.Area.{Entry};
 ghost use Rattle.wal_log.specs.Log.{area_at, used_by, FlushLeaves};
-ghost use Rattle.core_journal.specs.Records.{Records, begun, flushed_all, restarted};
+ghost use Rattle.core_journal.specs.Records.{Records, Saved, begun, flushed_all, restarted};
 ghost use Rattle.log_journal.specs.Standing.{HasParts, HasHeader, HasBlocks, Has, Carries, disk_of, area_limit, maps_limit};
-ghost use Rattle.log_journal.specs.Saved.{AreMarked, next_header, first_block};
+ghost use Rattle.log_journal.specs.Saved.{MarksSaved, HasSaved, next_header, first_block};
 
 use crate::marking::mark_saved;
 use core_journal::{Checkpoints, Journal};
@@ -61,8 +61,9 @@ impl<D: Disk> LogJournal<D> {
         requires none_waits { log.waiting ≡ [] }
         requires few { saved ≤ 2 ^ 62 }
         requires header { D.is_told → HasHeader (D.size_of disk) pages saved area (D.seen disk) (D.may_leave disk) }
-        requires blocks { D.is_told → HasBlocks log (D.seen disk) [] }
-        ensures has { Has D.is_told D.size_of D.seen D.may_leave result (begun (maps_limit result) (used_by log)) }
+        requires image { (image : Saved) × (D.is_told → HasSaved log.size pages (D.seen disk) image) × (D.is_told → HasBlocks log (D.seen disk) image.carried []) }
+        ensures has { (image : Saved) → (D.is_told → HasSaved log.size pages (D.seen disk) image) → (D.is_told → HasBlocks log (D.seen disk) image.carried [])
+            → Has D.is_told D.size_of D.seen D.may_leave result (begun (maps_limit result) image (used_by log)) }
         ensures disk { disk_of result ≡ disk }
         ensures limit { area_limit result ≡ Some log.size }
         ensures maps_limit { maps_limit result ≡ Some (data_limit pages) }
@@ -92,9 +93,10 @@ impl<D: Disk> LogJournal<D> {
 
     // Publishes the maps with the log's first block, and goes to its area.
     fn publish(&mut self, maps: &mut PageMaps, commits: u64) -> Result<(), DiskFault>
-        requires begun { (records : Records) × (carried : List Entry) × (used : ℕ) × Carries D.is_told D.size_of D.seen D.may_leave self.old records carried used }
+        requires begun { (records : Records) × (next : ℕ) × (carried : List Entry) × (used : ℕ) × Carries D.is_told D.size_of D.seen D.may_leave self.old records next carried used }
         requires pages { maps.old.pages ≡ self.old.pages }
-        ensures has { OnOk result ((records : Records) (carried : List Entry) (used : ℕ) → Carries D.is_told D.size_of D.seen D.may_leave self.old records carried used → Has D.is_told D.size_of D.seen D.may_leave self.new (restarted records used)) }
+        ensures has { OnOk result ((definitions : Definitions) (records : Records) (next : ℕ) (carried : List Entry) (used : ℕ) → MarksSaved definitions maps.old.kept → Carries D.is_told D.size_of D.seen D.may_leave self.old records next carried used
+            → Has D.is_told D.size_of D.seen D.may_leave self.new (restarted records (record { maps = map_of maps.old; definitions = definitions; commits = commits; next = next; carried = carried }) used)) }
         ensures cause { CountsFault result (D.faults self.old.disk) (D.faults self.new.disk) }
         ensures image { (flags : List Bool) × (bytes : List ℕ) × IsDrawn maps.old flags bytes
             × (D.is_told → OnOk result (IsNew self.old.log.size (next_header self.old commits) (first_block self.old.log) flags bytes (D.seen self.new.disk)))
@@ -143,7 +145,7 @@ impl<D: Disk> Journal for LogJournal<D> {
         ensures err { OnErr result (Rose (D.faults self.old.disk) (D.faults self.new.disk)) }
         ensures limit { area_limit self.new ≡ area_limit self.old }
         // A crash at any moment of the call leaves the blocks from before it, or one more with the records that waited.
-        ensures any_moment { D.is_told → (records : Records) → Has D.is_told D.size_of D.seen D.may_leave self.old records → (blocks : HasBlocks self.old.log (D.seen self.old.disk) records.flushed)
+        ensures any_moment { D.is_told → (records : Records) → Has D.is_told D.size_of D.seen D.may_leave self.old records → (blocks : HasBlocks self.old.log (D.seen self.old.disk) records.saved.carried records.flushed)
             → LeavesOnly D.moment D.left_since self.old.disk self.new.disk (FlushLeaves self.old.log (D.seen self.old.disk) (blocks.first ∷ blocks.others) (reverse records.waiting)) }
     {
         reserve(&mut self.log, BLOCK);
@@ -174,19 +176,22 @@ impl<D: Disk> Checkpoints<PageMaps> for LogJournal<D> {
         catalog: &Catalog,
         commits: u64,
     ) -> Result<(), DiskFault>
-        requires { (records : Records) × (carried : List Entry) × (used : ℕ) × Carries D.is_told D.size_of D.seen D.may_leave self.old records carried used × (limit_of maps.old ≡ records.image_limit) }
-        ensures ok { OnOk result (((records : Records) (carried : List Entry) (used : ℕ) → Carries D.is_told D.size_of D.seen D.may_leave self.old records carried used → Has D.is_told D.size_of D.seen D.may_leave self.new (restarted records used)) × (D.faults self.new.disk ≡ D.faults self.old.disk)) }
+        requires { (records : Records) × (next : ℕ) × (carried : List Entry) × (used : ℕ) × Carries D.is_told D.size_of D.seen D.may_leave self.old records next carried used × (limit_of maps.old ≡ records.image_limit) }
+        ensures ok { OnOk result (((records : Records) (next : ℕ) (carried : List Entry) (used : ℕ) → Carries D.is_told D.size_of D.seen D.may_leave self.old records next carried used
+            → Has D.is_told D.size_of D.seen D.may_leave self.new (restarted records (record { maps = map_of maps.old; definitions = catalog.now; commits = commits; next = next; carried = carried }) used))
+            × (D.faults self.new.disk ≡ D.faults self.old.disk)) }
         ensures err { OnErr result (Rose (D.faults self.old.disk) (D.faults self.new.disk)) }
         ensures maps { map_of maps.new ≡ map_of maps.old }
         ensures spare { spare_of maps.new ≡ spare_of maps.old }
         ensures data_limit { limit_of maps.new ≡ limit_of maps.old }
         ensures limit { area_limit self.new ≡ area_limit self.old }
-        ensures marked { AreMarked catalog.now (last_index + 1) maps.old.kept maps.new.kept }
+        ensures marks { MarksSaved catalog.now maps.new.kept }
         ensures image { (flags : List Bool) × (bytes : List ℕ) × IsDrawn maps.new flags bytes
             × (D.is_told → OnOk result (IsNew self.old.log.size (next_header self.old commits) (first_block self.old.log) flags bytes (D.seen self.new.disk)))
             × (D.is_told → LeavesOnly D.moment D.left_since self.old.disk self.new.disk (OldOrNew self.old.log.size (next_header self.old commits) (first_block self.old.log) flags bytes (D.seen self.old.disk))) }
     {
         mark_saved(maps, catalog);
-        self.publish(maps, commits)
+        self.publish(maps, commits)?;
+        Ok(())
     }
 }

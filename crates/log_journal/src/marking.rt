@@ -1,7 +1,6 @@
 //! Which indexes are saved.
-ghost use Rattle.std.specs.Prelude.{◌≡◌, ◌+◌};
-ghost use Rattle.iv_types.specs.Maps.{last_index};
-ghost use Rattle.log_journal.specs.Saved.{is_saved, AreMarked};
+ghost use Rattle.std.specs.Prelude.{◌≡◌};
+ghost use Rattle.log_journal.specs.Saved.{is_saved, MarksSaved};
 
 use iv_types::{Catalog, Definition};
 use ordered_index::PageMaps;
@@ -25,7 +24,7 @@ fn is_saved(catalog: &Catalog, index: u32) -> bool
 
 /// Marks the indexes whose entries are saved.
 pub fn mark_saved(maps: &mut PageMaps, catalog: &Catalog)
-    ensures marked { AreMarked catalog.now (last_index + 1) maps.old.kept maps.new.kept }
+    ensures marks { MarksSaved catalog.now maps.new.kept }
     ensures same { maps.new ≡ record maps.old { kept = maps.new.kept } }
 {
     for index in 0..INDEXES {

@@ -100,7 +100,8 @@ impl PageMaps {
     /// Says whether an index is stored, so that a publish writes its entries. A new one is not.
     pub fn set_stored(&mut self, index: u32, stored: bool)
         requires { index ≤ last_index }
-        ensures { self.new ≡ record self.old { kept = set self.old.kept index stored } }
+        ensures set { self.new ≡ record self.old { kept = set self.old.kept index stored } }
+        ensures indexes { length self.old.kept ≡ last_index + 1 }
     {
         self.kept[index as usize] = stored;
     }

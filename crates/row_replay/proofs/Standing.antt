@@ -1,5 +1,5 @@
 -- What stands under a key is known by its bytes, and what is put in its place.
-use Rattle.std.specs.Prelude.{◌≡◌, ◌≢◌, ℕ, ◌+◌, ◌-◌, List, Option, Some, None, IfSome, refl}
+use Rattle.std.specs.Prelude.{◌≡◌, ◌≢◌, ℕ, Bool, true, false, ◌+◌, ◌-◌, List, Option, Some, None, IfSome, refl}
 use Rattle.std.specs.FinMap.{get}
 use mathlib.Core.Path.{sym, ap, subst, ◌∙◌}
 use Rattle.iv_types.specs.Maps.{Map, IsWithin, used}
@@ -36,6 +36,11 @@ same_row t None (Some y) law a b e = absurd (cc)
 same_row t (Some x) None law a b e = absurd (cc)
 same_row t (Some x) (Some y) law a b e = ap Some (law (kinds_of t) x y a b (cc))
 
+-- what is told where it stands, if it does
+pub by_answer : {S P : Type 0} (b : Bool) → S → (b ≡ true → S × P) → (b ≡ false → S → ⊥) → P
+by_answer true s f g = (f refl).1
+by_answer false s f g = absurd (g refl s)
+
 pub fit_all : (t : TableDef) (key : List ℕ) (row : Option Row) → IfSome row (StandsUnder t key) → IfSome row (FitAll (kinds_of t))
 fit_all t key None h = tt
 fit_all t key (Some row) h = h.0
@@ -54,9 +59,12 @@ module _ (ds : Definitions) (maps : ℕ → Map) (state : State) (c : Contents) 
   pub bytes_there : get (maps number) key ≡ stored t (get c.rows (number, key))
   bytes_there = subst (λ n. get (maps n) key ≡ stored t (get c.rows (n, key))) own_number ((held.tables t its_table).primary.same key)
 
+  pub stands_there : (row : Option Row) → get c.rows (number, key) ≡ row → IfSome row (StandsUnder t key)
+  stands_there None e = tt
+  stands_there (Some row) e = (held.tables t its_table).primary.fitting key row (ap (λ n. get c.rows (n, key)) own_number ∙ e)
+
   fits_there : (row : Option Row) → get c.rows (number, key) ≡ row → IfSome row (FitAll (kinds_of t))
-  fits_there None e = tt
-  fits_there (Some row) e = ((held.tables t its_table).primary.fitting key row (ap (λ n. get c.rows (n, key)) own_number ∙ e)).0
+  fits_there row e = fit_all t key row (stands_there row e)
 
   pub row_is : (row : Option Row) → OneSpelling value_bytes → IfSome row (FitAll (kinds_of t)) → get (maps number) key ≡ stored t row → get c.rows (number, key) ≡ row
   row_is row law fits e = same_row t (get c.rows (number, key)) row law (fits_there (get c.rows (number, key)) refl) fits (sym bytes_there ∙ e)

@@ -1,5 +1,5 @@
 //! Changes of rows.
-ghost use Rattle.std.specs.Prelude.{◌≡◌, true, false, None, IfOk};
+ghost use Rattle.std.specs.Prelude.{◌≡◌, true, false, None, IfOk, OnOk};
 ghost use Rattle.std.specs.FinMap.{get};
 ghost use Rattle.iv_meaning.specs.Objects.{schema_of};
 ghost use Rattle.query_laws.specs.Limited.{IsLimited};
@@ -40,6 +40,27 @@ pub fn set_row<M: SortedMaps>(store: &mut DataStore<M>, change: &Change) -> Resu
         &change.before,
         &change.after,
     )
+}
+
+/// Sets the row behind a change, whatever stands there.
+///
+/// # Errors
+///
+/// Where there is no memory for it.
+pub fn put_row<M: SortedMaps>(store: &mut DataStore<M>, change: &Change) -> Result<(), NoMemory>
+    requires held { (c : Contents) × IsHeld store.old.catalog (M.maps store.old.tables) store.old.views c }
+    requires change { IsChange (schema_of store.old.catalog) (row_change change.now) }
+    requires limited { IsLimited (schema_of store.old.catalog) }
+    requires limit { M.limit store.old.tables ≡ None }
+    ensures put { OnOk result ((c : Contents) → IsHeld store.old.catalog (M.maps store.old.tables) store.old.views c
+        → IsHeld store.new.catalog (M.maps store.new.tables) store.new.views (with_rows c (rows_with (Wrote (row_change change.now)) c.rows))) }
+    ensures limit { M.limit store.new.tables ≡ M.limit store.old.tables }
+    ensures rest { store.new ≡ record store.old { tables = store.new.tables } }
+{
+    store.catalog.number_law();
+    let there = store.row(change.table, change.key.as_slice())?;
+    exchange(store, change.table, &change.key, &there, &change.after)?;
+    Ok(())
 }
 
 /// Sets the row before a change, if the one that stands there is the one behind it. Answers whether it is.

@@ -162,7 +162,7 @@ module _ (objects : Schema) (o : Object) where
   begins_more first joined number (primary more is front) = primary more is front
   begins_more first joined number (secondary i more there of front) = secondary i more (numbered_more objects o number (index i) there) of front
 
-  join_more : (v : ViewTree) (second : Second) → IsJoin objects v second → IsJoin larger v second
+  pub join_more : (v : ViewTree) (second : Second) → IsJoin objects v second → IsJoin larger v second
   join_more v second j = record {
     first = j.first;
     other = j.other;
@@ -175,10 +175,10 @@ module _ (objects : Schema) (o : Object) where
     begins = begins_more j.first second.joined second.index j.begins;
   }
 
-  abbrev JoinedBy : Schema → ViewTree → Option Second → Type 0
+  abbrev pub JoinedBy : Schema → ViewTree → Option Second → Type 0
   JoinedBy schema v second = elim second [ None ↦ Unit {0} | Some second ↦ IsJoin schema v second ]
 
-  joined_more : (v : ViewTree) (second : Option Second) → JoinedBy objects v second → JoinedBy larger v second
+  pub joined_more : (v : ViewTree) (second : Option Second) → JoinedBy objects v second → JoinedBy larger v second
   joined_more v None j = j
   joined_more v (Some second) j = join_more v second j
 

@@ -19,7 +19,7 @@ use Rattle.iv_types.proofs.Orders.{row_cmp_exact}
 use Rattle.table_laws.specs.Place.{Place}
 use Rattle.table_laws.proofs.Stored.{by_session}
 use Rattle.iv_meaning.specs.Schema.{Schema, Object, table, view, ViewTree, numbered, sources_of, group_kinds, primary_of}
-use Rattle.iv_meaning.specs.Database.{Row, Database, rows_of}
+use Rattle.iv_meaning.specs.Database.{Row, Rows, Database, rows_of}
 use Rattle.iv_meaning.specs.Values.{number, refused, is_true, ranged, value_at, value_of}
 use Rattle.iv_meaning.specs.Query.{Combination, BoundItem, count, sum, plain, combinations, conjunction, joined, item_alone, item_of_group, row_by, values_at, listed, ordered}
 use Rattle.iv_meaning.specs.Grouping.{all_of, among, groups_of, members, number_in, sum_by}
@@ -27,7 +27,7 @@ use Rattle.iv_meaning.specs.View.{conditions_of, join_conditions, query_of, whol
 use Rattle.query_laws.proofs.WholeViews.{chosen_is, not_listed}
 use Rattle.txn_machine.specs.Deltas.{contribution, is_for, worth, due}
 use Rattle.txn_machine.specs.Fresh.{all_contributions, fresh}
-use Rattle.txn_machine.specs.ViewLaws.{IsJoin}
+use Rattle.txn_machine.specs.ViewLaws.{IsJoin, AreSound}
 use Rattle.txn_machine.specs.Laws.{RangeLaw}
 use Rattle.txn_machine.proofs.Columns.{adds, is_for_place}
 use Rattle.txn_machine.proofs.Summing.{all_ones}
@@ -165,9 +165,69 @@ by_key {P = P} objects v key column (c ∷ cs) f g = elim (is_for (v.number, key
       λ i. here i +ℤ z i))
 ] refl
 
+-- the numbers of a view, where its query is not refused beside objects that join it on the same conditions
+pub view_in_range : (objects : Schema) (rows : Rows) → AreSound objects rows → (n : ℕ) (v : ViewTree) → numbered objects n ≡ Some (view v)
+    → (by : Schema) → conditions_of by v ≡ conditions_of objects v → IsSome (whole_view by rows v) → (key : List ℕ) (column : ℕ) → IsHuge (fresh objects rows (v.number, key) column)
+view_in_range objects rows sound n v of by same whole_is key column =
+    let whole : fresh objects rows (v.number, key) column ≡ due (v.number, key) column (all_contributions objects rows v) = fresh_of objects rows sound n v of key column in
+    let r = readable v (record { number = 0; schema = by; rows = rows }) whole_is in
+    let cs : List Combination = counted_combinations objects rows v in
+    let all : List Combination = combinations (map (rows_of rows) (sources_of v)) in
+    let found_is : r.0 ≡ cs = chosen_is (conjunction (conditions_of by v)) all r.0 r.2 ∙ ap (λ (l : List Tree). filter (λ c. is_true (conjunction l c)) all) same in
+    let all_fit = groups_fit objects rows sound n v of in
+    by_key objects v key column cs
+    (λ c there k.
+    let g : Row = values_at v.group c in
+    let fits : FitAll (group_kinds objects v) g = all_contains (λ d. FitAll (group_kinds objects v) (values_at v.group d)) cs c all_fit there in
+    let by_values : due (v.number, key_bytes (group_kinds objects v) g) column (map (contribution objects v) cs) ≡ get_or (shares v (members (values_at v.group) cs g)) column (pos 0) = due_members objects v g fits column cs all_fit in
+    let share_huge : IsHuge (get_or (shares v (members (values_at v.group) cs g)) column (pos 0)) = subst (λ (l : List Combination). IsHuge (get_or (shares v (members (values_at v.group) l g)) column (pos 0))) found_is
+    (listed_in_range v by r.0 r.1 c (subst (λ (l : List Combination). Contains l c) (sym found_is) there) column r.3) in
+    shift (get_or (shares v (members (values_at v.group) cs g)) column (pos 0)) (fresh objects rows (v.number, key) column) share_huge
+    (sym by_values ∙ (sym (ap (λ x. due (v.number, x) column (map (contribution objects v) cs)) k) ∙ sym whole)))
+    (λ z. shift (pos 0) (fresh objects rows (v.number, key) column) huge_zero (sym z ∙ sym whole))
+
+-- ---- a new view
+
+module _ (objects : Schema) (rows : Rows) (v : ViewTree) (after : AreSound (objects ++ view v ∷ []) rows) (readable_rows : IsSome (whole_view objects rows v)) where
+  abbrev more : Schema
+  more = objects ++ view v ∷ []
+
+  abbrev n : ℕ
+  n = suc (length objects)
+
+  get_last : (xs : List Object) (x : Object) → slice_get (xs ++ x ∷ []) (length xs) ≡ Some x
+  get_last [] x = refl
+  get_last (y ∷ xs) x = get_last xs x
+
+  is_last : numbered more n ≡ Some (view v)
+  is_last = get_last objects (view v)
+
+  get_less : (xs : List Object) (i : ℕ) (t : TableDef) → slice_get (xs ++ view v ∷ []) i ≡ Some (table t) → slice_get xs i ≡ slice_get (xs ++ view v ∷ []) i
+  get_less [] zero t e = absurd (cc)
+  get_less [] (suc i) t e = refl
+  get_less (x ∷ xs) zero t e = refl
+  get_less (x ∷ xs) (suc i) t e = get_less xs i t e
+
+  numbered_less : (m : ℕ) (t : TableDef) → numbered more m ≡ Some (table t) → numbered objects m ≡ numbered more m
+  numbered_less zero t e = refl
+  numbered_less (suc m) t e = get_less objects m t e
+
+  conditions_same : conditions_of objects v ≡ conditions_of more v
+  conditions_same = go v.second (after.joins n v is_last)
+    where
+      go : (o : Option Second) → elim o as (λ (x : Option Second). Type 0) [ None ↦ Unit {0} | Some second ↦ IsJoin more v second ]
+          → option_map_or (λ second. join_conditions second.joined (primary_of (numbered objects second.table))) o [] ++ option_to_list v.condition
+          ≡ option_map_or (λ second. join_conditions second.joined (primary_of (numbered more second.table))) o [] ++ option_to_list v.condition
+      go None j = refl
+      go (Some second) j = ap (λ x. join_conditions second.joined (primary_of x) ++ option_to_list v.condition) (numbered_less second.table j.other j.other_is)
+
+  -- it has its numbers in range, whatever those of other views are
+  pub new_in_range : (key : List ℕ) (column : ℕ) → IsHuge (fresh more rows (v.number, key) column)
+  new_in_range = view_in_range more rows after n v is_last objects conditions_same readable_rows
+
 pub range_law : RangeLaw
 range_law db v sound after readable_rows old p column = by_session p.0 v.number
-    (λ e. subst (λ (q : Place). IsHuge (fresh more db.rows q column)) (λ i. (sym e i, p.1)) (at_view p.1))
+    (λ e. subst (λ (q : Place). IsHuge (fresh more db.rows q column)) (λ i. (sym e i, p.1)) (new_in_range db.schema db.rows v after readable_rows p.1 column))
     (λ n.
     let made : fresh more db.rows p column ≡ fresh db.schema db.rows p column +ℤ due p column (all_contributions more db.rows v) = made_law db.schema db.rows (view v) sound p column in
     let none : due p column (all_contributions more db.rows v) ≡ pos 0 = apart_due p column v.number (all_contributions more db.rows v) (all_ones more v db.rows) (λ f. n (sym f)) in
@@ -175,53 +235,3 @@ range_law db v sound after readable_rows old p column = by_session p.0 v.number
   where
     more : Schema
     more = db.schema ++ view v ∷ []
-
-    n : ℕ
-    n = suc (length db.schema)
-
-    get_last : (xs : List Object) (x : Object) → slice_get (xs ++ x ∷ []) (length xs) ≡ Some x
-    get_last [] x = refl
-    get_last (y ∷ xs) x = get_last xs x
-
-    is_last : numbered more n ≡ Some (view v)
-    is_last = get_last db.schema (view v)
-
-    get_less : (xs : List Object) (i : ℕ) (t : TableDef) → slice_get (xs ++ view v ∷ []) i ≡ Some (table t) → slice_get xs i ≡ slice_get (xs ++ view v ∷ []) i
-    get_less [] zero t e = absurd (cc)
-    get_less [] (suc i) t e = refl
-    get_less (x ∷ xs) zero t e = refl
-    get_less (x ∷ xs) (suc i) t e = get_less xs i t e
-
-    numbered_less : (m : ℕ) (t : TableDef) → numbered more m ≡ Some (table t) → numbered db.schema m ≡ numbered more m
-    numbered_less zero t e = refl
-    numbered_less (suc m) t e = get_less db.schema m t e
-
-    conditions_same : conditions_of db.schema v ≡ conditions_of more v
-    conditions_same = go v.second (after.joins n v is_last)
-      where
-        go : (o : Option Second) → elim o as (λ (x : Option Second). Type 0) [ None ↦ Unit {0} | Some second ↦ IsJoin more v second ]
-            → option_map_or (λ second. join_conditions second.joined (primary_of (numbered db.schema second.table))) o [] ++ option_to_list v.condition
-            ≡ option_map_or (λ second. join_conditions second.joined (primary_of (numbered more second.table))) o [] ++ option_to_list v.condition
-        go None j = refl
-        go (Some second) j = ap (λ x. join_conditions second.joined (primary_of x) ++ option_to_list v.condition) (numbered_less second.table j.other j.other_is)
-
-    all_combinations : List Combination
-    all_combinations = combinations (map (rows_of db.rows) (sources_of v))
-
-    at_view : (key : List ℕ) → IsHuge (fresh more db.rows (v.number, key) column)
-    at_view key =
-        let whole : fresh more db.rows (v.number, key) column ≡ due (v.number, key) column (all_contributions more db.rows v) = fresh_of more db.rows after n v is_last key column in
-        let r = readable v db readable_rows in
-        let cs : List Combination = counted_combinations more db.rows v in
-        let found_is : r.0 ≡ cs = chosen_is (conjunction (conditions_of db.schema v)) all_combinations r.0 r.2 ∙ ap (λ (l : List Tree). filter (λ c. is_true (conjunction l c)) all_combinations) conditions_same in
-        let all_fit = groups_fit more db.rows after n v is_last in
-        by_key more v key column cs
-        (λ c there k.
-        let g : Row = values_at v.group c in
-        let fits : FitAll (group_kinds more v) g = all_contains (λ d. FitAll (group_kinds more v) (values_at v.group d)) cs c all_fit there in
-        let by_values : due (v.number, key_bytes (group_kinds more v) g) column (map (contribution more v) cs) ≡ get_or (shares v (members (values_at v.group) cs g)) column (pos 0) = due_members more v g fits column cs all_fit in
-        let share_huge : IsHuge (get_or (shares v (members (values_at v.group) cs g)) column (pos 0)) = subst (λ (l : List Combination). IsHuge (get_or (shares v (members (values_at v.group) l g)) column (pos 0))) found_is
-        (listed_in_range v db.schema r.0 r.1 c (subst (λ (l : List Combination). Contains l c) (sym found_is) there) column r.3) in
-        shift (get_or (shares v (members (values_at v.group) cs g)) column (pos 0)) (fresh more db.rows (v.number, key) column) share_huge
-        (sym by_values ∙ (sym (ap (λ x. due (v.number, x) column (map (contribution more v) cs)) k) ∙ sym whole)))
-        (λ z. shift (pos 0) (fresh more db.rows (v.number, key) column) huge_zero (sym z ∙ sym whole))

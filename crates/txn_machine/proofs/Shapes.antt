@@ -266,7 +266,7 @@ made_are objects rows sound n (view v) e =
     (each_filtered (FitRows (source_kinds objects v)) (is_counted objects v) (combinations (map (rows_of rows) (sources_of v))) (all_fit objects rows sound n v e))
 
 -- with one definition more
-more_stored : (objects : Schema) (rows : Rows) (o : Object) (stored : ViewRows) → AreSound objects rows → AreStored objects stored → AreStored (objects ++ o ∷ []) stored
+pub more_stored : (objects : Schema) (rows : Rows) (o : Object) (stored : ViewRows) → AreSound objects rows → AreStored objects stored → AreStored (objects ++ o ∷ []) stored
 more_stored objects rows o stored sound h place numbers there =
     let r : IsStoredRow objects place numbers = h place numbers there in
     let kinds : group_kinds (objects ++ o ∷ []) r.of ≡ group_kinds objects r.of = kinds_stay objects o r.of (sound.objects place.0 (view r.of) r.view_is).1 (sound.joins place.0 r.of r.view_is) in

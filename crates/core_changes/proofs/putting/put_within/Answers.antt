@@ -11,7 +11,7 @@ use Rattle.iv_meaning.specs.Objects as defined
 use Rattle.data_room.specs.declared.room.DataRoom.{DataRoom}
 use Rattle.log_room.specs.declared.room.LogRoom.{LogRoom}
 use Rattle.record_lending.proofs.Owed.{none_ghosted}
-use Rattle.core_state.specs.Stands.{Holds, Told}
+use Rattle.core_state.specs.Stands.{Holds, Told, its_texts}
 use Rattle.core_effects.specs.Writing.{CanWrite}
 use Rattle.core_effects.specs.declared.writing.Writing.{Writing}
 use Rattle.txn_machine.specs.Acts as act
@@ -200,7 +200,7 @@ write-requires-clause-can g c κs within =
     let w : Writing = record { ready = c.in_ok-ready.ready; noting = c.in_ok-noting.noting; version = c.in_ok-version.version; copies = c.in_ok-copies.copies; owed = c.into_vec.result; wants = c.in_ok-pays.pays; txn_bytes = c.args.bytes; history_bytes = c.args.entry_bytes } in
     let two = c.take.new.core in
     let a = act.Put ch.table ch.key ch.after in
-    let took = c.take.ensures.holds s.store s.log s.definitions a b1.holds (open_here g.M.SortedMaps.maps g.M.SortedMaps.spare g.M.SortedMaps.limit one s i ch c.args.wants can1.puts) (owes_none g.M.SortedMaps.maps g.M.SortedMaps.spare g.M.SortedMaps.limit one s i b1 can1.puts.may.0) in
+    let took = c.take.ensures.holds s.store s.log (its_texts s) a b1.holds (open_here g.M.SortedMaps.maps g.M.SortedMaps.spare g.M.SortedMaps.limit one s i ch c.args.wants can1.puts) (owes_none g.M.SortedMaps.maps g.M.SortedMaps.spare g.M.SortedMaps.limit one s i b1 can1.puts.may.0) in
     let mid = between g.M.SortedMaps.maps g.M.SortedMaps.spare g.M.SortedMaps.limit one s i ch c.args.wants c.args.owed c.args.bytes c.args.entry_bytes can1 in
     let writes = subst (λ x. CanWrite g.M.SortedMaps.maps g.M.SortedMaps.spare g.M.SortedMaps.limit mid x i w) (sym c.take.ensures.rest)
     (can_write g.M.SortedMaps.maps g.M.SortedMaps.spare g.M.SortedMaps.limit one s i ch c.args.wants c.args.owed c.args.bytes c.args.entry_bytes can1 c.book_law.ensures c.number_law.ensures room two.locks w c.take.ensures.room
@@ -210,7 +210,7 @@ write-requires-clause-can g c κs within =
     (subst (λ (x : CoreState g.row.M.Denot). CanAddAt x.ahead i (length c.args.owed)) (sym c.make_room.ensures.rest) (subst (CanAddAt core.ahead i) many c.in_ok-reserve_ahead.ensures.room))
     (subst (λ (x : CoreState g.row.M.Denot). all_rows x.ahead + 1 ≤ x.store.row_versions.room) (sym c.make_room.ensures.rest) c.in_ok-reserve_ahead.ensures.rows)
     (subst (λ (x : CoreState g.row.M.Denot). all_deltas x.ahead + length c.args.owed ≤ x.store.delta_versions.room) (sym c.make_room.ensures.rest) (subst (λ n. all_deltas core.ahead + n ≤ core.store.delta_versions.room) many c.in_ok-reserve_ahead.ensures.deltas))) in
-    (mid, logs s.store i a (Takes c.args.wants) s.log, s.definitions, took, writes)
+    (mid, logs s.store i a (Takes c.args.wants) s.log, (its_texts s), took, writes)
 
 pub kept_room-aside-requires-after_bounds : goal.kept_room-aside-requires-after_bounds
 kept_room-aside-requires-after_bounds g c κs within =
@@ -249,7 +249,7 @@ returns-clause-told g c = λ s can.
     let w : Writing = record { ready = c.in_ok-ready.ready; noting = c.in_ok-noting.noting; version = c.in_ok-version.version; copies = c.in_ok-copies.copies; owed = c.into_vec.result; wants = c.in_ok-pays.pays; txn_bytes = c.args.bytes; history_bytes = c.args.entry_bytes } in
     let two = c.take.new.core in
     let a = act.Put ch.table ch.key ch.after in
-    let took = c.take.ensures.holds s.store s.log s.definitions a b1.holds (open_here g.M.SortedMaps.maps g.M.SortedMaps.spare g.M.SortedMaps.limit one s i ch c.args.wants can1.puts) (owes_none g.M.SortedMaps.maps g.M.SortedMaps.spare g.M.SortedMaps.limit one s i b1 can1.puts.may.0) in
+    let took = c.take.ensures.holds s.store s.log (its_texts s) a b1.holds (open_here g.M.SortedMaps.maps g.M.SortedMaps.spare g.M.SortedMaps.limit one s i ch c.args.wants can1.puts) (owes_none g.M.SortedMaps.maps g.M.SortedMaps.spare g.M.SortedMaps.limit one s i b1 can1.puts.may.0) in
     let mid = between g.M.SortedMaps.maps g.M.SortedMaps.spare g.M.SortedMaps.limit one s i ch c.args.wants c.args.owed c.args.bytes c.args.entry_bytes can1 in
     let writes = subst (λ x. CanWrite g.M.SortedMaps.maps g.M.SortedMaps.spare g.M.SortedMaps.limit mid x i w) (sym c.take.ensures.rest)
     (can_write g.M.SortedMaps.maps g.M.SortedMaps.spare g.M.SortedMaps.limit one s i ch c.args.wants c.args.owed c.args.bytes c.args.entry_bytes can1 c.book_law.ensures c.number_law.ensures room two.locks w c.take.ensures.room
@@ -272,8 +272,8 @@ returns-clause-told g c = λ s can.
     (subst (λ (x : CoreState g.row.M.Denot). CanAddAt x.ahead i (length c.args.owed)) (sym c.make_room.ensures.rest) (subst (CanAddAt core.ahead i) many c.in_ok-reserve_ahead.ensures.room))
     (subst (λ (x : CoreState g.row.M.Denot). all_rows x.ahead + 1 ≤ x.store.row_versions.room) (sym c.make_room.ensures.rest) c.in_ok-reserve_ahead.ensures.rows)
     (subst (λ (x : CoreState g.row.M.Denot). all_deltas x.ahead + length c.args.owed ≤ x.store.delta_versions.room) (sym c.make_room.ensures.rest) (subst (λ n. all_deltas core.ahead + n ≤ core.store.delta_versions.room) many c.in_ok-reserve_ahead.ensures.deltas)) in
-    let wrote = subst (λ (x : Change). Holds g.M.SortedMaps.maps g.M.SortedMaps.spare g.M.SortedMaps.limit new (does the_views mid i (Writes (x.table, x.key) x.after)) (logs mid i a (Writes (x.table, x.key) x.after) (logs s.store i a (Takes c.args.wants) s.log)) s.definitions) kept
-    (c.write.ensures.holds mid (logs s.store i a (Takes c.args.wants) s.log) s.definitions a took writes) in
+    let wrote = subst (λ (x : Change). Holds g.M.SortedMaps.maps g.M.SortedMaps.spare g.M.SortedMaps.limit new (does the_views mid i (Writes (x.table, x.key) x.after)) (logs mid i a (Writes (x.table, x.key) x.after) (logs s.store i a (Takes c.args.wants) s.log)) (its_texts s)) kept
+    (c.write.ensures.holds mid (logs s.store i a (Takes c.args.wants) s.log) (its_texts s) a took writes) in
     let e2 = c.take.ensures.rest in
     let e3 = c.write.ensures.rest in
     let same_log : new.log_room ≡ one.log_room = ap (λ (x : CoreState g.row.M.Denot). x.log_room) e3 ∙ ap (λ (x : CoreState g.row.M.Denot). x.log_room) e2 in

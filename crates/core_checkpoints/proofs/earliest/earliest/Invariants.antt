@@ -1,6 +1,6 @@
 use Rattle.std.proofs.Common.{◌≤◌}
-use Rattle.core_checkpoints.specs.Carrying.{done_at}
-use Rattle.core_checkpoints.specs.Earliest.{LeastUpTo}
+use Rattle.core_recording.specs.Carrying.{done_at}
+use Rattle.core_recording.specs.Earliest.{LeastUpTo}
 use Rattle.core_checkpoints.proofs.earliest.earliest.Given as goal
 
 abbrev pub invariant-loop-before : goal.invariant-loop-before

@@ -16,7 +16,7 @@ returns-in-Ok-clause-gives g c = λ s h may.
     inl (record {
       told = saved_told g.M.SortedMaps.maps g.M.SortedMaps.spare g.M.SortedMaps.limit core s began c.number-number.result (c.number-number.ensures ∙ sym (ap (λ (x : CoreState g.row.M.Denot). number_of x.book) c.in-Ok.ensures.rest)) c.save.new.self c.save.ensures.limit
           (c.save.ensures.room s.store s.log (c.in-Ok.ensures.bytes s h) (carries_less g.M.SortedMaps.maps g.M.SortedMaps.spare g.M.SortedMaps.limit core s 0 began) began.reserves.log_room);
-      gave = λ rs behind. c.in-Ok.ensures.ok.0 s rs h behind;
+      gave = λ rs behind. c.in-Ok.ensures.ok.0 s rs h behind (c.number-number.ensures ∙ h.holds.book.number);
       same_limit = c.in-Ok.ensures.limit;
     })
 

@@ -2,9 +2,9 @@ use Rattle.std.proofs.Common.{◌+◌, refl, sym, ap, subst, ◌∙◌}
 use Rattle.iv_types.specs.Faults.{Rose}
 use Rattle.txn_machine.specs.Counts.{told_need}
 use Rattle.txn_machine.specs.Log.{Within, block_bytes}
-use Rattle.core_journal.specs.Records.{restarted}
+use Rattle.core_journal.specs.Records.{Saved, restarted}
 use Rattle.core_checkpoints.proofs.Carried.{can_carry, carried_here}
-use Rattle.core_checkpoints.proofs.Saved.{within_empty, within_carried, same_tables}
+use Rattle.core_checkpoints.proofs.Saved.{is_saved, within_empty, within_carried, same_tables}
 use Rattle.core_checkpoints.proofs.saving.write.Goals as goal
 
 pub begin_checkpoint-requires : goal.begin_checkpoint-requires
@@ -19,6 +19,7 @@ carry_kept-bytes-requires g c =
     let here = carried_here g.M.SortedMaps.maps g.M.SortedMaps.spare g.M.SortedMaps.limit core q.state q.began in (
       core.store.catalog,
       q.records,
+      core.next,
       block_bytes + 1,
       can_carry g.M.SortedMaps.maps g.M.SortedMaps.spare g.M.SortedMaps.limit core q.state q.began,
       q.began.holds.rooms.limited,
@@ -31,16 +32,20 @@ pub save-requires : goal.save-requires
 save-requires g c =
     let q = c.requires in
     let core = c.args.core.now in
-    let t = c.carry_kept-bytes.ensures.carries core.store.catalog q.records (block_bytes + 1) (can_carry g.M.SortedMaps.maps g.M.SortedMaps.spare g.M.SortedMaps.limit core q.state q.began) (c.begin_checkpoint.ensures.carries q.records q.behind.has_them) in
-    (q.records, t.0, _, t.2, ap g.M.SortedMaps.limit c.maps_mut.ensures.value ∙ (q.began.holds.most ∙ sym q.behind.same_image))
+    let t = c.carry_kept-bytes.ensures.carries core.store.catalog q.records core.next (block_bytes + 1) (can_carry g.M.SortedMaps.maps g.M.SortedMaps.spare g.M.SortedMaps.limit core q.state q.began) (c.begin_checkpoint.ensures.carries q.records q.behind.has_them) in
+    (q.records, core.next, t.0, _, t.2, ap g.M.SortedMaps.limit c.maps_mut.ensures.value ∙ (q.began.holds.most ∙ sym q.behind.same_image))
 
 pub returns-in-Ok-clause-ok : goal.returns-in-Ok-clause-ok
 returns-in-Ok-clause-ok g c = (
-  λ s rs h behind.
+  λ s rs h behind number_is.
       let core = c.args.core.now in
       let here = carried_here g.M.SortedMaps.maps g.M.SortedMaps.spare g.M.SortedMaps.limit core s h in
-      let t = c.carry_kept-bytes.ensures.carries core.store.catalog rs (block_bytes + 1) (can_carry g.M.SortedMaps.maps g.M.SortedMaps.spare g.M.SortedMaps.limit core s h) (c.begin_checkpoint.ensures.carries rs behind.has_them) in
-      subst (λ n. g.J.Journal.has c.save.new.self (restarted rs (block_bytes + 1 + n))) here (c.in-Ok.ensures.ok.0 rs t.0 _ t.2),
+      let t = c.carry_kept-bytes.ensures.carries core.store.catalog rs core.next (block_bytes + 1) (can_carry g.M.SortedMaps.maps g.M.SortedMaps.spare g.M.SortedMaps.limit core s h) (c.begin_checkpoint.ensures.carries rs behind.has_them) in
+      let saved : Saved = record { maps = g.M.SortedMaps.maps c.maps_mut.result.now; definitions = core.store.catalog; commits = c.args.number; next = core.next; carried = t.0 } in (
+        saved,
+        is_saved g.M.SortedMaps.maps g.M.SortedMaps.spare g.M.SortedMaps.limit core s h (g.M.SortedMaps.maps c.maps_mut.result.now) (ap g.M.SortedMaps.maps c.maps_mut.ensures.value) c.args.number number_is t.0 t.1,
+        subst (λ n. g.J.Journal.has c.save.new.self (restarted rs saved (block_bytes + 1 + n))) here (c.in-Ok.ensures.ok.0 rs core.next t.0 _ t.2),
+      ),
   c.in-Ok.ensures.ok.1 ∙ (c.carry_kept-bytes.ensures.faults ∙ c.begin_checkpoint.ensures.faults),
 )
 

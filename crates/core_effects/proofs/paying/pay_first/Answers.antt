@@ -7,7 +7,7 @@ use Rattle.txn_machine.specs.Store.{does, Pays}
 use Rattle.txn_book.specs.Books.{Changes}
 use Rattle.txn_book.specs.Opens.{open_at}
 use Rattle.txn_book.specs.Txns.{txn_of, with_pay}
-use Rattle.core_state.specs.Stands.{Holds}
+use Rattle.core_state.specs.Stands.{Holds, told}
 use Rattle.core_state.specs.declared.state.CoreState.{CoreState}
 use Rattle.core_effects.proofs.Deltas.{mine, owed_there, back_there, owes_some}
 use Rattle.core_effects.proofs.Paid.{paid_holds}
@@ -41,6 +41,6 @@ returns-clause-paid g c = λ s l texts a h o.
     (subst (λ (y : CoreState g.row.M.Denot). (w : List Want) (ws : List (List Want)) → wants_at y.wants i ≡ w ∷ ws → wants_at c.pay.new.self i ≡ ws) rest c.pay.ensures.own)
     (subst (λ (y : CoreState g.row.M.Denot). (j : ℕ) → j ≢ i → wants_at c.pay.new.self j ≡ wants_at y.wants j) rest c.pay.ensures.others)
     c.add_first.ensures.spare
-    (subst (λ (y : CoreState g.row.M.Denot). Rattle.data_store.specs.Held.IsHeld y.store.catalog (g.M.SortedMaps.maps x.store.tables) x.store.views (Rattle.data_changes.specs.Effects.with_pay (Rattle.data_store.specs.Contents.contents_of s) i o.first)) rest (c.in_ok-before.ensures.paid s l texts o h))
+    (subst (λ (y : CoreState g.row.M.Denot). Rattle.data_store.specs.Held.IsHeld y.store.catalog (g.M.SortedMaps.maps x.store.tables) x.store.views (Rattle.data_changes.specs.Effects.with_pay (told s texts) i o.first)) rest (c.in_ok-before.ensures.paid s l texts o h))
     (subst (λ (y : CoreState g.row.M.Denot). Changes y.book c.paid.new.self i (with_pay (txn_of own.txn) o.first o.others c.in_ok-before.before y.next)) rest
     (c.paid.ensures own.txn there o.first o.others (owed_there g.M.SortedMaps.maps g.M.SortedMaps.spare g.M.SortedMaps.limit core s l texts i h o))))

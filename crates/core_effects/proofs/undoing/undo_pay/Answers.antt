@@ -9,7 +9,7 @@ use Rattle.iv_types.specs.declared.lock.Prefix.{Prefix}
 use Rattle.ghost_rows.specs.Kept.{IsDelta, width, IsPaidLast, ArePrefixes}
 use Rattle.ghost_rows.specs.State.{CanStore}
 use Rattle.txn_machine.specs.Deltas.{place_of}
-use Rattle.data_store.specs.Contents.{contents_of, pays_on}
+use Rattle.data_store.specs.Contents.{pays_on}
 use Rattle.data_store.specs.Held.{IsHeld}
 use Rattle.data_store.specs.declared.store.DataStore.{DataStore}
 use Rattle.data_changes.specs.Effects.{without_pay}
@@ -17,7 +17,7 @@ use Rattle.data_changes.specs.Paying.{HasFor}
 use Rattle.txn_machine.specs.Ghosts.{the_views}
 use Rattle.txn_machine.specs.Log.{logs}
 use Rattle.txn_machine.specs.Store.{does, Undoes}
-use Rattle.core_state.specs.Stands.{Holds}
+use Rattle.core_state.specs.Stands.{Holds, told}
 use Rattle.core_effects.proofs.Deltas.{ghost_delta}
 use Rattle.core_effects.proofs.Unpaid.{mine, last, there_latest, prefixes, paid_last, for_it, limited_here, has_room, undone_holds}
 use Rattle.core_effects.proofs.undoing.undo_pay.Goals as goal
@@ -41,10 +41,10 @@ take_back_pay-requires-clause-held g c κs within =
     let o = c.requires.keeps.4 in
     let it = last g.M.SortedMaps.maps g.M.SortedMaps.spare g.M.SortedMaps.limit core c.requires.keeps.0 c.requires.keeps.1 c.requires.keeps.2 c.args.session c.requires.keeps.3 c.requires.keeps.4 in
     let are = c.latest_pay.ensures o.latest it.before it.number it.steps (there_latest g.M.SortedMaps.maps g.M.SortedMaps.spare g.M.SortedMaps.limit core c.requires.keeps.0 c.requires.keeps.1 c.requires.keeps.2 c.args.session c.requires.keeps.3 c.requires.keeps.4 c.in-Some.txn.now (sym c.get.ensures ∙ ap option_copied c.in-Some.is)) in (
-      contents_of c.requires.keeps.0,
-      subst (λ x. HasFor core.store.catalog (g.M.SortedMaps.maps core.store.tables) core.store.views x (contents_of c.requires.keeps.0)) (sym are.0) (for_it g.M.SortedMaps.maps g.M.SortedMaps.spare g.M.SortedMaps.limit core c.requires.keeps.0 c.requires.keeps.1 c.requires.keeps.2 c.args.session c.requires.keeps.3 c.requires.keeps.4),
-      subst (λ b. IsPaidLast (λ j. pays_on (place_of c.latest_pay.result.0.now) ((contents_of c.requires.keeps.0).kept j)) c.args.session c.latest_pay.result.0.now b) (sym are.1)
-          (subst (λ (x : GroupDelta). IsPaidLast (λ j. pays_on (place_of x) ((contents_of c.requires.keeps.0).kept j)) c.args.session x it.before) (sym are.0) (paid_last g.M.SortedMaps.maps g.M.SortedMaps.spare g.M.SortedMaps.limit core c.requires.keeps.0 c.requires.keeps.1 c.requires.keeps.2 c.args.session c.requires.keeps.3 c.requires.keeps.4)),
+      told c.requires.keeps.0 c.requires.keeps.2,
+      subst (λ x. HasFor core.store.catalog (g.M.SortedMaps.maps core.store.tables) core.store.views x (told c.requires.keeps.0 c.requires.keeps.2)) (sym are.0) (for_it g.M.SortedMaps.maps g.M.SortedMaps.spare g.M.SortedMaps.limit core c.requires.keeps.0 c.requires.keeps.1 c.requires.keeps.2 c.args.session c.requires.keeps.3 c.requires.keeps.4),
+      subst (λ b. IsPaidLast (λ j. pays_on (place_of c.latest_pay.result.0.now) ((told c.requires.keeps.0 c.requires.keeps.2).kept j)) c.args.session c.latest_pay.result.0.now b) (sym are.1)
+          (subst (λ (x : GroupDelta). IsPaidLast (λ j. pays_on (place_of x) ((told c.requires.keeps.0 c.requires.keeps.2).kept j)) c.args.session x it.before) (sym are.0) (paid_last g.M.SortedMaps.maps g.M.SortedMaps.spare g.M.SortedMaps.limit core c.requires.keeps.0 c.requires.keeps.1 c.requires.keeps.2 c.args.session c.requires.keeps.3 c.requires.keeps.4)),
     )
 
 pub take_back_pay-requires-clause-room : goal.take_back_pay-requires-clause-room
@@ -79,10 +79,10 @@ returns-clause-holds g c = λ s l texts a h o.
     let rest = c.take_back_pay.ensures.rest in
     subst (λ st. Holds g.M.SortedMaps.maps g.M.SortedMaps.spare g.M.SortedMaps.limit (record core { store = st; book = c.undo.new.self; next = core.next + 1 }) (does the_views s i Undoes) (logs s i a Undoes l) texts) (sym rest)
     (undone_holds g.M.SortedMaps.maps g.M.SortedMaps.spare g.M.SortedMaps.limit core s l texts i h o new.tables new.views c.undo.new.self c.take_back_pay.ensures.limit c.take_back_pay.ensures.seats c.book_law.ensures a c.take_back_pay.ensures.room c.take_back_pay.ensures.spare
-    (subst (λ x. IsHeld x (g.M.SortedMaps.maps new.tables) new.views (without_pay (contents_of s) i o.latest o.earlier)) (ap (λ (st : DataStore g.row.M.Denot). st.catalog) rest)
-    (subst (λ (x : GroupDelta). IsHeld new.catalog (g.M.SortedMaps.maps new.tables) new.views (without_pay (contents_of s) i x o.earlier)) are.0
-    (c.take_back_pay.ensures.taken (contents_of s) o.earlier
-    (subst (λ x. HasFor core.store.catalog (g.M.SortedMaps.maps core.store.tables) core.store.views x (contents_of s)) (sym are.0) (for_it g.M.SortedMaps.maps g.M.SortedMaps.spare g.M.SortedMaps.limit core s l texts i h o))
+    (subst (λ x. IsHeld x (g.M.SortedMaps.maps new.tables) new.views (without_pay (told s texts) i o.latest o.earlier)) (ap (λ (st : DataStore g.row.M.Denot). st.catalog) rest)
+    (subst (λ (x : GroupDelta). IsHeld new.catalog (g.M.SortedMaps.maps new.tables) new.views (without_pay (told s texts) i x o.earlier)) are.0
+    (c.take_back_pay.ensures.taken (told s texts) o.earlier
+    (subst (λ x. HasFor core.store.catalog (g.M.SortedMaps.maps core.store.tables) core.store.views x (told s texts)) (sym are.0) (for_it g.M.SortedMaps.maps g.M.SortedMaps.spare g.M.SortedMaps.limit core s l texts i h o))
     (o.kept_is ∙ ap (λ x. Pay x ∷ o.earlier) (sym are.0))
     (subst (λ b. ArePrefixes b (width c.latest_pay.result.0.now) (pays_on (place_of c.latest_pay.result.0.now) o.earlier)) (sym are.1)
     (subst (λ (x : GroupDelta). ArePrefixes it.before (width x) (pays_on (place_of x) o.earlier)) (sym are.0) (prefixes g.M.SortedMaps.maps g.M.SortedMaps.spare g.M.SortedMaps.limit core s l texts i h o))))))

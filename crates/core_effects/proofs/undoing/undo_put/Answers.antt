@@ -13,12 +13,12 @@ use Rattle.txn_machine.specs.Keeping.{Put}
 use Rattle.txn_machine.specs.Log.{logs}
 use Rattle.txn_machine.specs.RowChanges.{row_change}
 use Rattle.txn_machine.specs.Store.{does, Undoes}
-use Rattle.data_store.specs.Contents.{contents_of}
 use Rattle.data_store.specs.Held.{IsHeld}
 use Rattle.data_store.specs.declared.store.DataStore.{DataStore}
 use Rattle.data_changes.specs.Effects.{without_put}
 use Rattle.data_past.specs.Moves.{one_less, ChangesAt, HasChange}
-use Rattle.core_state.specs.Stands.{Holds}
+use Rattle.core_state.specs.Stands.{Holds, told}
+use Rattle.core_state.proofs.Texts.{told_stored}
 use Rattle.core_effects.proofs.Unput.{mine, last, can_take_back, is_counted, version_there, owed_there, undone_holds}
 use Rattle.core_effects.proofs.undoing.undo_put.Goals as goal
 
@@ -104,9 +104,9 @@ returns-clause-holds g c = λ s l texts a h o.
     c.remove_last.new.self c.len-owed.result (owed_same own.txn own.there) c.remove_last.ensures
     (subst (λ (st : DataStore g.row.M.Denot). TakesRoom (g.M.SortedMaps.spare st.tables) (g.M.SortedMaps.spare new.tables) it.kept.made it.kept.gone) before
     (subst (λ (k : Kept). TakesRoom (g.M.SortedMaps.spare forgot.tables) (g.M.SortedMaps.spare new.tables) k.made k.gone) same c.take_back_put.ensures.spare))
-    (subst (λ (st : DataStore g.row.M.Denot). IsHeld st.catalog (g.M.SortedMaps.maps new.tables) st.views (without_put (contents_of s) i (row_change it.kept.change) o.earlier)) both
-    (subst (λ (k : Kept). IsHeld new.catalog (g.M.SortedMaps.maps new.tables) new.views (without_put (contents_of s) i (row_change k.change) o.earlier)) same
-    (c.take_back_put.ensures.held (contents_of s) i o.owed o.earlier
-    (subst (λ (st : DataStore g.row.M.Denot). IsHeld st.catalog (g.M.SortedMaps.maps st.tables) st.views (contents_of s)) (sym before) h.stored)
+    (subst (λ (st : DataStore g.row.M.Denot). IsHeld st.catalog (g.M.SortedMaps.maps new.tables) st.views (without_put (told s texts) i (row_change it.kept.change) o.earlier)) both
+    (subst (λ (k : Kept). IsHeld new.catalog (g.M.SortedMaps.maps new.tables) new.views (without_put (told s texts) i (row_change k.change) o.earlier)) same
+    (c.take_back_put.ensures.held (told s texts) i o.owed o.earlier
+    (subst (λ (st : DataStore g.row.M.Denot). IsHeld st.catalog (g.M.SortedMaps.maps st.tables) st.views (told s texts)) (sym before) (told_stored g.M.SortedMaps.maps g.M.SortedMaps.spare g.M.SortedMaps.limit core s l texts h))
     (o.kept_is ∙ ap (λ x. Put x o.owed ∷ o.earlier) (sym it.change ∙ ap (λ (k : Kept). row_change k.change) (sym same))))))
     done.1)

@@ -5,10 +5,11 @@ use Rattle.core_effects.proofs.Opened.{own}
 use Rattle.core_pays.proofs.Reserving.{rows_fit_back, latest_change, no_change, latest_told}
 use Rattle.core_pays.proofs.Undone.{keeps_here}
 use Rattle.core_pays.proofs.keeping.room_of_latest.Goals as goal
+use Rattle.core_state.specs.Stands.{its_texts}
 
 pub open_of-txn-requires-after_bounds : goal.open_of-txn-requires-after_bounds
 open_of-txn-requires-after_bounds g c κs within =
-    subst IsSome (sym (own g.M.SortedMaps.maps g.M.SortedMaps.spare g.M.SortedMaps.limit c.args.core.now c.requires.0.store c.requires.0.log c.requires.0.definitions c.args.session c.requires.1.holds c.requires.2.0).there) refl
+    subst IsSome (sym (own g.M.SortedMaps.maps g.M.SortedMaps.spare g.M.SortedMaps.limit c.args.core.now c.requires.0.store c.requires.0.log (its_texts c.requires.0) c.args.session c.requires.1.holds c.requires.2.0).there) refl
 
 pub growth_back-requires-after_bounds : goal.growth_back-requires-after_bounds
 growth_back-requires-after_bounds g c κs within =

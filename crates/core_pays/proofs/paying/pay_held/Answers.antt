@@ -7,7 +7,7 @@ use Rattle.txn_machine.specs.Store.{Pays, does}
 use Rattle.data_room.specs.declared.room.DataRoom.{DataRoom}
 use Rattle.log_room.specs.Rooms.{IsRoomOf}
 use Rattle.log_room.specs.declared.room.LogRoom.{LogRoom}
-use Rattle.core_state.specs.Stands.{Told}
+use Rattle.core_state.specs.Stands.{Told, its_texts}
 use Rattle.core_state.specs.declared.state.CoreState.{CoreState}
 use Rattle.core_effects.proofs.Done.{AreUncounted, still_underway}
 use Rattle.core_pays.proofs.Answered.{between, log_between, the_first, is_there, left_is, few_left, paid_told, unpaid_told, between_reserves, between_logged, owes_logged, can_store_first, paid_reserved}
@@ -30,21 +30,21 @@ room_of_first-room-requires-after_bounds g c κs within =
     let core = c.args.core.now in
     let s = c.requires.0 in
     let h = c.requires.1 in
-    (between g.M.SortedMaps.maps g.M.SortedMaps.spare g.M.SortedMaps.limit core s c.args.session h, log_between g.M.SortedMaps.maps g.M.SortedMaps.spare g.M.SortedMaps.limit core s c.args.session h, s.definitions, h.holds, the_first g.M.SortedMaps.maps g.M.SortedMaps.spare g.M.SortedMaps.limit core s c.args.session h)
+    (between g.M.SortedMaps.maps g.M.SortedMaps.spare g.M.SortedMaps.limit core s c.args.session h, log_between g.M.SortedMaps.maps g.M.SortedMaps.spare g.M.SortedMaps.limit core s c.args.session h, (its_texts s), h.holds, the_first g.M.SortedMaps.maps g.M.SortedMaps.spare g.M.SortedMaps.limit core s c.args.session h)
 
 pub record_of_first-appended-requires-after_bounds : goal.record_of_first-appended-requires-after_bounds
 record_of_first-appended-requires-after_bounds g c κs within =
     let core = c.args.core.now in
     let s = c.requires.0 in
     let h = c.requires.1 in
-    (between g.M.SortedMaps.maps g.M.SortedMaps.spare g.M.SortedMaps.limit core s c.args.session h, log_between g.M.SortedMaps.maps g.M.SortedMaps.spare g.M.SortedMaps.limit core s c.args.session h, s.definitions, h.holds, the_first g.M.SortedMaps.maps g.M.SortedMaps.spare g.M.SortedMaps.limit core s c.args.session h)
+    (between g.M.SortedMaps.maps g.M.SortedMaps.spare g.M.SortedMaps.limit core s c.args.session h, log_between g.M.SortedMaps.maps g.M.SortedMaps.spare g.M.SortedMaps.limit core s c.args.session h, (its_texts s), h.holds, the_first g.M.SortedMaps.maps g.M.SortedMaps.spare g.M.SortedMaps.limit core s c.args.session h)
 
 pub ghost_of_first-for_ghost-requires-after_bounds : goal.ghost_of_first-for_ghost-requires-after_bounds
 ghost_of_first-for_ghost-requires-after_bounds g c κs within =
     let core = c.args.core.now in
     let s = c.requires.0 in
     let h = c.requires.1 in
-    (between g.M.SortedMaps.maps g.M.SortedMaps.spare g.M.SortedMaps.limit core s c.args.session h, log_between g.M.SortedMaps.maps g.M.SortedMaps.spare g.M.SortedMaps.limit core s c.args.session h, s.definitions, h.holds, the_first g.M.SortedMaps.maps g.M.SortedMaps.spare g.M.SortedMaps.limit core s c.args.session h)
+    (between g.M.SortedMaps.maps g.M.SortedMaps.spare g.M.SortedMaps.limit core s c.args.session h, log_between g.M.SortedMaps.maps g.M.SortedMaps.spare g.M.SortedMaps.limit core s c.args.session h, (its_texts s), h.holds, the_first g.M.SortedMaps.maps g.M.SortedMaps.spare g.M.SortedMaps.limit core s c.args.session h)
 
 pub give_back-requires : goal.give_back-requires
 give_back-requires g c = let is = c.requires.1.owes.goes_on.of_session in omega (arith, is)
@@ -54,7 +54,7 @@ pay_first-requires-clause-owes g c κs within =
     let core = c.args.core.now in
     let s = c.requires.0 in
     let h = c.requires.1 in
-    (between g.M.SortedMaps.maps g.M.SortedMaps.spare g.M.SortedMaps.limit core s c.args.session h, log_between g.M.SortedMaps.maps g.M.SortedMaps.spare g.M.SortedMaps.limit core s c.args.session h, s.definitions, h.holds, the_first g.M.SortedMaps.maps g.M.SortedMaps.spare g.M.SortedMaps.limit core s c.args.session h, can_store_first g.M.SortedMaps.maps g.M.SortedMaps.spare g.M.SortedMaps.limit core s c.args.session h)
+    (between g.M.SortedMaps.maps g.M.SortedMaps.spare g.M.SortedMaps.limit core s c.args.session h, log_between g.M.SortedMaps.maps g.M.SortedMaps.spare g.M.SortedMaps.limit core s c.args.session h, (its_texts s), h.holds, the_first g.M.SortedMaps.maps g.M.SortedMaps.spare g.M.SortedMaps.limit core s c.args.session h, can_store_first g.M.SortedMaps.maps g.M.SortedMaps.spare g.M.SortedMaps.limit core s c.args.session h)
 
 pub open_of-requires-after_bounds : goal.open_of-requires-after_bounds
 open_of-requires-after_bounds g c κs within =
@@ -64,7 +64,7 @@ open_of-requires-after_bounds g c κs within =
     let h = c.requires.1 in
     let b = between g.M.SortedMaps.maps g.M.SortedMaps.spare g.M.SortedMaps.limit core s i h in
     let l = log_between g.M.SortedMaps.maps g.M.SortedMaps.spare g.M.SortedMaps.limit core s i h in
-    is_there g.M.SortedMaps.maps g.M.SortedMaps.spare g.M.SortedMaps.limit core s i h c.pay_first.new.core (logs b i act.Pay Pays l) (c.in-Ok.ensures.paid b l s.definitions act.Pay h.holds (the_first g.M.SortedMaps.maps g.M.SortedMaps.spare g.M.SortedMaps.limit core s i h))
+    is_there g.M.SortedMaps.maps g.M.SortedMaps.spare g.M.SortedMaps.limit core s i h c.pay_first.new.core (logs b i act.Pay Pays l) (c.in-Ok.ensures.paid b l (its_texts s) act.Pay h.holds (the_first g.M.SortedMaps.maps g.M.SortedMaps.spare g.M.SortedMaps.limit core s i h))
 
 pub overflow_cast-result : goal.overflow_cast-result
 overflow_cast-result g c =
@@ -74,7 +74,7 @@ overflow_cast-result g c =
     let h = c.requires.1 in
     let b = between g.M.SortedMaps.maps g.M.SortedMaps.spare g.M.SortedMaps.limit core s i h in
     let l = log_between g.M.SortedMaps.maps g.M.SortedMaps.spare g.M.SortedMaps.limit core s i h in
-    let same : length c.open_of.result.now.owed.items ≡ length h.owes.others = left_is g.M.SortedMaps.maps g.M.SortedMaps.spare g.M.SortedMaps.limit core s i h c.pay_first.new.core (logs b i act.Pay Pays l) (c.in-Ok.ensures.paid b l s.definitions act.Pay h.holds (the_first g.M.SortedMaps.maps g.M.SortedMaps.spare g.M.SortedMaps.limit core s i h)) c.open_of.result.now c.open_of.ensures in
+    let same : length c.open_of.result.now.owed.items ≡ length h.owes.others = left_is g.M.SortedMaps.maps g.M.SortedMaps.spare g.M.SortedMaps.limit core s i h c.pay_first.new.core (logs b i act.Pay Pays l) (c.in-Ok.ensures.paid b l (its_texts s) act.Pay h.holds (the_first g.M.SortedMaps.maps g.M.SortedMaps.spare g.M.SortedMaps.limit core s i h)) c.open_of.result.now c.open_of.ensures in
     let few : length h.owes.others < 2 ^ 32 = few_left g.M.SortedMaps.maps g.M.SortedMaps.spare g.M.SortedMaps.limit core s i h in
     let is : c.len.result ≡ length c.open_of.result.now.owed.items = c.len.ensures ∙ c.open_of.result.now.owed.ok.0 in
     omega (arith, same, few, is)
@@ -91,19 +91,19 @@ returns-in-Ok g c = λ s h.
     let room = c.give_back.new.self in
     let log = c.pay.new.self in
     let same_limit = ap (λ (d : DataRoom). d.limit) c.give_back.ensures.rest in
-    let holds = c.in-Ok.ensures.paid b l s.definitions act.Pay h.holds first in
-    let allowed = c.in-Ok.ensures.allowed b l s.definitions first h.holds in
+    let holds = c.in-Ok.ensures.paid b l (its_texts s) act.Pay h.holds first in
+    let allowed = c.in-Ok.ensures.allowed b l (its_texts s) first h.holds in
     paid_told g.M.SortedMaps.maps g.M.SortedMaps.spare g.M.SortedMaps.limit core s i h (record new { data_room = room; log_room = log })
     (rooms_underway g.M.SortedMaps.maps g.M.SortedMaps.spare g.M.SortedMaps.limit new room log same_limit s i c.pay.ensures.limit (still_underway g.M.SortedMaps.maps g.M.SortedMaps.spare g.M.SortedMaps.limit core new s i h.underway (uncounted g.row.M.Denot core new rest)
     (λ js. ap (λ (x : CoreState g.row.M.Denot). table.waiting_of x.locks i) rest ∙ h.underway.own js) (λ j n. ap (λ (x : CoreState g.row.M.Denot). table.waiting_of x.locks j) rest)))
     c.len.result ((c.len.ensures ∙ c.open_of.result.now.owed.ok.0) ∙ left_is g.M.SortedMaps.maps g.M.SortedMaps.spare g.M.SortedMaps.limit core s i h new (logs b i act.Pay Pays l) holds c.open_of.result.now c.open_of.ensures) allowed.0 allowed.1
-    (rooms_hold g.M.SortedMaps.maps g.M.SortedMaps.spare g.M.SortedMaps.limit new room log same_limit (does the_views b i Pays) (logs b i act.Pay Pays l) s.definitions holds)
+    (rooms_hold g.M.SortedMaps.maps g.M.SortedMaps.spare g.M.SortedMaps.limit new room log same_limit (does the_views b i Pays) (logs b i act.Pay Pays l) (its_texts s) holds)
     (record {
       data_room = paid_reserved g.M.SortedMaps.maps g.M.SortedMaps.spare g.M.SortedMaps.limit core s i h room new.data_room c.room_of_first-room.result (ap (λ (x : CoreState g.row.M.Denot). x.data_room) rest) same_limit
-          (c.room_of_first-room.ensures b l s.definitions first h.holds) c.give_back.ensures.few c.give_back.ensures.own c.give_back.ensures.others c.give_back.ensures.total;
+          (c.room_of_first-room.ensures b l (its_texts s) first h.holds) c.give_back.ensures.few c.give_back.ensures.own c.give_back.ensures.others c.give_back.ensures.total;
       log_room = c.pay.ensures.room b l i act.Pay h.owes.first (l.logged i).ghosted (owes_logged g.M.SortedMaps.maps g.M.SortedMaps.spare g.M.SortedMaps.limit core s i h)
           (subst (λ (x : LogRoom). IsRoomOf x b l) (sym (ap (λ (x : CoreState g.row.M.Denot). x.log_room) rest)) (between_logged g.M.SortedMaps.maps g.M.SortedMaps.spare g.M.SortedMaps.limit core s i h c.same_room_law.ensures))
-          (c.record_of_first-appended.ensures b l s.definitions first h.holds) (c.ghost_of_first-for_ghost.ensures b l s.definitions first h.holds);
+          (c.record_of_first-appended.ensures b l (its_texts s) first h.holds) (c.ghost_of_first-for_ghost.ensures b l (its_texts s) first h.holds);
     })
 
 pub returns-in-Err : goal.returns-in-Err
@@ -119,6 +119,6 @@ returns-in-Err g c = λ s h.
     (unpaid_told g.M.SortedMaps.maps g.M.SortedMaps.spare g.M.SortedMaps.limit core s i h new
     (still_underway g.M.SortedMaps.maps g.M.SortedMaps.spare g.M.SortedMaps.limit core new s i h.underway (uncounted g.row.M.Denot core new rest)
     (λ js. ap (λ (x : CoreState g.row.M.Denot). table.waiting_of x.locks i) rest ∙ h.underway.own js) (λ j n. ap (λ (x : CoreState g.row.M.Denot). table.waiting_of x.locks j) rest))
-    c.in-Err.why (c.in-Err.ensures.unpaid b l s.definitions first h.holds) (c.in-Err.ensures.kept b l s.definitions first h.holds)
-    (reserves_as g.M.SortedMaps.maps g.M.SortedMaps.spare g.M.SortedMaps.limit core new b l s.definitions (ap (λ (x : CoreState g.row.M.Denot). x.data_room) rest) (ap (λ (x : CoreState g.row.M.Denot). x.log_room) rest)
+    c.in-Err.why (c.in-Err.ensures.unpaid b l (its_texts s) first h.holds) (c.in-Err.ensures.kept b l (its_texts s) first h.holds)
+    (reserves_as g.M.SortedMaps.maps g.M.SortedMaps.spare g.M.SortedMaps.limit core new b l (its_texts s) (ap (λ (x : CoreState g.row.M.Denot). x.data_room) rest) (ap (λ (x : CoreState g.row.M.Denot). x.log_room) rest)
     (record { data_room = between_reserves g.M.SortedMaps.maps g.M.SortedMaps.spare g.M.SortedMaps.limit core s i h; log_room = between_logged g.M.SortedMaps.maps g.M.SortedMaps.spare g.M.SortedMaps.limit core s i h c.same_room_law.ensures })))

@@ -8,10 +8,11 @@ use Rattle.core_pays.proofs.Latest.{change_owes, pay_owes}
 use Rattle.core_pays.proofs.Reserving.{latest_change, latest_pay, still_as}
 use Rattle.core_pays.proofs.Undone.{keeps_here}
 use Rattle.core_pays.proofs.recording.owed_of_latest.Goals as goal
+use Rattle.core_state.specs.Stands.{its_texts}
 
 pub open_of-txn-requires-after_bounds : goal.open_of-txn-requires-after_bounds
 open_of-txn-requires-after_bounds g c κs within =
-    subst IsSome (sym (own g.M.SortedMaps.maps g.M.SortedMaps.spare g.M.SortedMaps.limit c.args.core.now c.requires.0.store c.requires.0.log c.requires.0.definitions c.args.session c.requires.1.holds c.requires.2.0).there) refl
+    subst IsSome (sym (own g.M.SortedMaps.maps g.M.SortedMaps.spare g.M.SortedMaps.limit c.args.core.now c.requires.0.store c.requires.0.log (its_texts c.requires.0) c.args.session c.requires.1.holds c.requires.2.0).there) refl
 
 pub returns-in-Some : goal.returns-in-Some
 returns-in-Some g c = λ s h may.

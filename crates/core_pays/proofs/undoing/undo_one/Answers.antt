@@ -10,13 +10,14 @@ use Rattle.core_effects.proofs.Done.{begun_underway}
 use Rattle.core_pays.proofs.Reserving.{can_go_back}
 use Rattle.core_pays.proofs.Undone.{keeps_here, is_there, left_is, few_left, earlier, undone_told, undone_reserved}
 use Rattle.core_pays.proofs.undoing.undo_one.Goals as goal
+use Rattle.core_state.specs.Stands.{its_texts}
 
 pub undo-requires-clause-keeps : goal.undo-requires-clause-keeps
 undo-requires-clause-keeps g c κs within =
     let s = c.requires.0 in (
       s.store,
       s.log,
-      s.definitions,
+      (its_texts s),
       c.requires.1.holds,
       keeps_here g.M.SortedMaps.maps g.M.SortedMaps.spare g.M.SortedMaps.limit c.args.core.now c.args.core.now s c.args.session c.requires.1 c.requires.2,
       can_go_back g.M.SortedMaps.maps g.M.SortedMaps.spare g.M.SortedMaps.limit c.args.core.now s c.args.session (begun_underway g.M.SortedMaps.maps g.M.SortedMaps.spare g.M.SortedMaps.limit c.args.core.now s c.args.session c.requires.1) c.requires.1.reserves c.requires.1.holds
@@ -33,7 +34,7 @@ open_of-requires-after_bounds g c κs within =
     let s = c.requires.0 in
     let h = c.requires.1 in
     let l = logs s.store i act.UndoOne Undoes s.log in
-    is_there g.M.SortedMaps.maps g.M.SortedMaps.spare g.M.SortedMaps.limit core c.undo.new.core s i h c.requires.2 l (c.undo.ensures.holds s.store s.log s.definitions act.UndoOne h.holds (keeps_here g.M.SortedMaps.maps g.M.SortedMaps.spare g.M.SortedMaps.limit core c.undo.new.core s i h c.requires.2))
+    is_there g.M.SortedMaps.maps g.M.SortedMaps.spare g.M.SortedMaps.limit core c.undo.new.core s i h c.requires.2 l (c.undo.ensures.holds s.store s.log (its_texts s) act.UndoOne h.holds (keeps_here g.M.SortedMaps.maps g.M.SortedMaps.spare g.M.SortedMaps.limit core c.undo.new.core s i h c.requires.2))
 
 pub overflow_cast-result : goal.overflow_cast-result
 overflow_cast-result g c =
@@ -43,7 +44,7 @@ overflow_cast-result g c =
     let h = c.requires.1 in
     let may = c.requires.2 in
     let l = logs s.store i act.UndoOne Undoes s.log in
-    let holds = c.undo.ensures.holds s.store s.log s.definitions act.UndoOne h.holds (keeps_here g.M.SortedMaps.maps g.M.SortedMaps.spare g.M.SortedMaps.limit core c.undo.new.core s i h may) in
+    let holds = c.undo.ensures.holds s.store s.log (its_texts s) act.UndoOne h.holds (keeps_here g.M.SortedMaps.maps g.M.SortedMaps.spare g.M.SortedMaps.limit core c.undo.new.core s i h may) in
     let same : length c.open_of.result.now.kept.items ≡ length (earlier g.M.SortedMaps.maps g.M.SortedMaps.spare g.M.SortedMaps.limit core c.undo.new.core s i h may) = left_is g.M.SortedMaps.maps g.M.SortedMaps.spare g.M.SortedMaps.limit core c.undo.new.core s i h may l holds c.open_of.result.now c.open_of.ensures in
     let few : length (earlier g.M.SortedMaps.maps g.M.SortedMaps.spare g.M.SortedMaps.limit core c.undo.new.core s i h may) < 2 ^ 32 = few_left g.M.SortedMaps.maps g.M.SortedMaps.spare g.M.SortedMaps.limit core c.undo.new.core s i h may l holds in
     let is : c.len.result ≡ length c.open_of.result.now.kept.items = c.len.ensures ∙ c.open_of.result.now.kept.ok.0 in
@@ -54,7 +55,7 @@ returns g c = λ s h may.
     let core = c.args.core.now in
     let i = c.args.session in
     let l = logs s.store i act.UndoOne Undoes s.log in
-    let holds = c.undo.ensures.holds s.store s.log s.definitions act.UndoOne h.holds (keeps_here g.M.SortedMaps.maps g.M.SortedMaps.spare g.M.SortedMaps.limit core c.undo.new.core s i h may) in
+    let holds = c.undo.ensures.holds s.store s.log (its_texts s) act.UndoOne h.holds (keeps_here g.M.SortedMaps.maps g.M.SortedMaps.spare g.M.SortedMaps.limit core c.undo.new.core s i h may) in
     let new = c.undo.new.core in
     let room = c.give_back.new.self in
     let log = c.undo_in.new.room in

@@ -11,6 +11,7 @@ use Rattle.core_state.specs.declared.state.CoreState.{CoreState}
 use Rattle.core_state.proofs.Sessions.{of_ready, owes_none}
 use Rattle.core_reads.proofs.Fetched.{readable, can_find, free_there, fits, read_told, between}
 use Rattle.core_reads.proofs.fetching.read.Goals as goal
+use Rattle.core_state.specs.Stands.{its_texts}
 
 pub found-requires-after_bounds : goal.found-requires-after_bounds
 found-requires-after_bounds g c κs within =
@@ -40,8 +41,8 @@ returns-clause-told g c = λ s mode can.
     let mid_store = between g.M.SortedMaps.maps g.M.SortedMaps.spare g.M.SortedMaps.limit c.args.core.now middle c.take.new.core c.note.new.core s c.args.session c.args.index c.args.interval.now mode c.args.wants c.args.need can h in
     read_told g.M.SortedMaps.maps g.M.SortedMaps.spare g.M.SortedMaps.limit c.args.core.now middle c.take.new.core c.note.new.core s c.args.session c.args.index c.args.interval.now mode c.args.wants c.args.need can h rows
     (c.in_ok-rows.ensures (contents_of s.store) (stored s.store) (readable g.M.SortedMaps.maps g.M.SortedMaps.spare g.M.SortedMaps.limit middle s c.args.session h) refl refl)
-    (λ hh o. c.take.ensures.holds s.store s.log s.definitions (act.Fetch c.args.index c.args.interval.now mode) hh o (owes_none g.M.SortedMaps.maps g.M.SortedMaps.spare g.M.SortedMaps.limit middle s c.args.session h can.fetches.may.0))
-    (λ hh o size last. c.note.ensures.holds mid_store (logs s.store c.args.session (act.Fetch c.args.index c.args.interval.now mode) (Takes c.args.wants) s.log) s.definitions (act.Fetch c.args.index c.args.interval.now mode) (note_of s.store c.args.session c.args.index c.args.interval.now rows) hh o size last)
+    (λ hh o. c.take.ensures.holds s.store s.log (its_texts s) (act.Fetch c.args.index c.args.interval.now mode) hh o (owes_none g.M.SortedMaps.maps g.M.SortedMaps.spare g.M.SortedMaps.limit middle s c.args.session h can.fetches.may.0))
+    (λ hh o size last. c.note.ensures.holds mid_store (logs s.store c.args.session (act.Fetch c.args.index c.args.interval.now mode) (Takes c.args.wants) s.log) (its_texts s) (act.Fetch c.args.index c.args.interval.now mode) (note_of s.store c.args.session c.args.index c.args.interval.now rows) hh o size last)
     c.same_room_law.ensures
     (ap (λ (x : CoreState g.row.M.Denot). x.data_room) e3 ∙ (ap (λ (x : CoreState g.row.M.Denot). x.data_room) e2 ∙ ap (λ (x : CoreState g.row.M.Denot). x.data_room) e1))
     (ap (λ (x : CoreState g.row.M.Denot). x.log_room) e3 ∙ (ap (λ (x : CoreState g.row.M.Denot). x.log_room) e2 ∙ ap (λ (x : CoreState g.row.M.Denot). x.log_room) e1))

@@ -7,11 +7,12 @@ use Rattle.core_pays.proofs.Firsts.{owes_first}
 use Rattle.core_recording.proofs.Results.{if_ok_at}
 use Rattle.core_recording.proofs.Ones.{still_ungiven, gave_all}
 use Rattle.core_recording.proofs.ghosting.make_ghost.Goals as goal
+use Rattle.core_state.specs.Stands.{its_texts}
 
 pub has_row-was_there-requires-after_bounds : goal.has_row-was_there-requires-after_bounds
 has_row-was_there-requires-after_bounds g c κs within =
     let q = c.requires in
-    (q.state.store, q.state.log, q.state.definitions, q.began.holds, owes_first g.M.SortedMaps.maps g.M.SortedMaps.spare g.M.SortedMaps.limit c.args.core.now q.state c.args.session q.began q.may.0)
+    (q.state.store, q.state.log, (its_texts q.state), q.began.holds, owes_first g.M.SortedMaps.maps g.M.SortedMaps.spare g.M.SortedMaps.limit c.args.core.now q.state c.args.session q.began q.may.0)
 
 pub make_ghost-requires-after_bounds : goal.make_ghost-requires-after_bounds
 make_ghost-requires-after_bounds g c κs within = (c.requires.state, c.requires.began, c.requires.may)
@@ -22,15 +23,15 @@ give_made-requires-after_bounds g c κs within =
       still_ungiven g.M.SortedMaps.maps g.M.SortedMaps.spare g.M.SortedMaps.limit g.J.Journal.has g.J.Journal.limit c.args.core.now c.args.journal.now q.state c.args.session act.Ghost (answer_of c.in_ok-said.said) c.make_ghost.new.core
           q.began (c.in_ok-said.ensures.told q.state q.began q.may) q.may q.records q.behind,
       q.began.holds.next,
-      c.has_row-was_there.ensures q.state.store q.state.log q.state.definitions (owes_first g.M.SortedMaps.maps g.M.SortedMaps.spare g.M.SortedMaps.limit c.args.core.now q.state c.args.session q.began q.may.0) q.began.holds,
+      c.has_row-was_there.ensures q.state.store q.state.log (its_texts q.state) (owes_first g.M.SortedMaps.maps g.M.SortedMaps.spare g.M.SortedMaps.limit c.args.core.now q.state c.args.session q.began q.may.0) q.began.holds,
     )
 
 pub returns-clause-gives : goal.returns-clause-gives
 returns-clause-gives g c = λ s began may.
     let told = c.in_ok-said.ensures.told s began may in
-    let was = c.has_row-was_there.ensures s.store s.log s.definitions (owes_first g.M.SortedMaps.maps g.M.SortedMaps.spare g.M.SortedMaps.limit c.args.core.now s c.args.session began may.0) began.holds in
+    let was = c.has_row-was_there.ensures s.store s.log (its_texts s) (owes_first g.M.SortedMaps.maps g.M.SortedMaps.spare g.M.SortedMaps.limit c.args.core.now s c.args.session began may.0) began.holds in
     gave_all g.M.SortedMaps.maps g.M.SortedMaps.spare g.M.SortedMaps.limit g.J.Journal.has g.J.Journal.limit c.args.core.now c.args.journal.now s c.args.session act.Ghost (answer_of c.in_ok-said.said) c.make_ghost.new.core
-    began told c.give_made.new.journal (λ rs has. c.give_made.ensures.gave s may began.holds.next was told rs has) c.give_made.ensures.limit
+    began told c.give_made.new.journal (λ rs has. c.give_made.ensures.gave s may began.holds.next was told rs has) c.give_made.ensures.limit tt
 
 pub returns-clause-err : goal.returns-clause-err
 returns-clause-err g c = tt

@@ -26,7 +26,7 @@ returns-clause-gives g c = λ s began may.
     let told = c.in_ok-said.ensures.told s began may in
     let a : Act = act.Put c.args.table c.args.key.now c.args.new.now in
     gave_all g.M.SortedMaps.maps g.M.SortedMaps.spare g.M.SortedMaps.limit g.J.Journal.has g.J.Journal.limit c.args.core.now c.args.journal.now s c.args.session a (answer_of c.in_ok-said.said) c.put.new.core
-    began told c.give_kept.new.journal (λ rs has. c.give_kept.ensures.gave s a tt may told rs has) c.give_kept.ensures.limit
+    began told c.give_kept.new.journal (λ rs has. c.give_kept.ensures.gave s a tt may told rs has) c.give_kept.ensures.limit tt
 
 pub returns-clause-err : goal.returns-clause-err
 returns-clause-err g c = tt

@@ -36,7 +36,7 @@ returns-in-Ok-clause-gives g c = λ s h first.
     let done = c.in-Ok.ensures.ok s h first in
     gave_one g.M.SortedMaps.maps g.M.SortedMaps.spare g.M.SortedMaps.limit g.J.Journal.has g.J.Journal.limit c.args.core.now c.args.journal.now s 0 act.Clean (Cleaned 1) c.remove_first.new.core
     h done.0 (Clean place) (stands_for c.clean_of.result) c.give.new.journal
-    (λ rs. clean_gives s rs place done.0.effects done.1) (c.clean_of.ensures (schema_of s.store)) c.give.ensures.has c.give.ensures.limit
+    (λ rs. clean_gives s rs place done.0.effects done.1) (c.clean_of.ensures (schema_of s.store)) c.give.ensures.has c.give.ensures.limit tt
 
 pub returns-in-Ok-clause-faults : goal.returns-in-Ok-clause-faults
 returns-in-Ok-clause-faults g c = c.give.ensures.faults

@@ -34,3 +34,12 @@ returns-clause-held g c = λ before definition x last can.
     (subst (λ (s : State). IsHeld (before ++ definition ∷ []) new s (with_object x (object_of definition))) (sym c.forget_rows.ensures)
     (defined_held before (g.M.SortedMaps.maps t) state definition c.args.first x can c.row_law.ensures.spelling c.key_law.ensures.spelling new here
     (λ i ne. c.put_all.ensures.others i (λ e. ne (e ∙ at)) ∙ ap (λ y. g.M.SortedMaps.maps y i) c.maps_mut.ensures.value)))
+
+pub returns-clause-entries : goal.returns-clause-entries
+returns-clause-entries g c = c.put_all.ensures.map ∙ ap (λ y. filled (g.M.SortedMaps.maps y c.args.number) c.args.first) c.maps_mut.ensures.value
+
+pub returns-clause-others : goal.returns-clause-others
+returns-clause-others g c = λ i ne. c.put_all.ensures.others i ne ∙ ap (λ y. g.M.SortedMaps.maps y i) c.maps_mut.ensures.value
+
+pub returns-clause-other_rooms : goal.returns-clause-other_rooms
+returns-clause-other_rooms g c = λ i ne. subst (λ y. g.M.SortedMaps.spare y i ≤ g.M.SortedMaps.spare c.put_all.new.maps i) c.maps_mut.ensures.value (c.put_all.ensures.other_rooms i ne)

@@ -8,7 +8,7 @@ use Rattle.table_store.specs.Filling.{CanPutAll, filled}
 use Rattle.ghost_rows.specs.State.{State}
 use Rattle.data_store.specs.Held.{IsHeld}
 use Rattle.data_defining.specs.Defining.{with_object}
-use Rattle.definition_replay.proofs.Beginning.{number_is, can_put, defined_held}
+use Rattle.data_defining.proofs.Defined.{number_is, can_put, defined_held}
 use Rattle.definition_replay.proofs.Replayed.{both_ok}
 use Rattle.definition_replay.proofs.entering.enter.Goals as goal
 

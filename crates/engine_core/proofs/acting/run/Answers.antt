@@ -50,7 +50,7 @@ fail_step-requires-clause-next g c κs within =
     let a = act_of c.args.step.now.act in
     let did : Did g.M.SortedMaps.maps g.M.SortedMaps.spare g.M.SortedMaps.limit g.J.Journal.has g.J.Journal.limit s i a (answer_of c.answer-said.result) c.open_step.new.self c.args.journal.now c.answer-said.new.core c.answer-said.new.journal = c.answer-said.ensures.gives s (c.open_step.ensures s q.2 q.4) (may_of s i a q.4 q.5.1) in
     let f : Failed g.M.SortedMaps.maps g.M.SortedMaps.spare g.M.SortedMaps.limit s i a c.answer-said.new.core = failed_of g.M.SortedMaps.maps g.M.SortedMaps.spare g.M.SortedMaps.limit g.J.Journal.has g.J.Journal.limit s i a (answer_of c.answer-said.result) c.open_step.new.self c.args.journal.now c.answer-said.new.core c.answer-said.new.journal did (sym c.tells_fault.ensures ∙ c.if-tells_fault.true) in
-    few_records g.M.SortedMaps.maps g.M.SortedMaps.spare g.M.SortedMaps.limit c.answer-said.new.core s f.began.counts f.began.runs f.began.holds.next
+    few_records g.M.SortedMaps.maps g.M.SortedMaps.spare g.M.SortedMaps.limit c.answer-said.new.core s f.began.counts f.began.runs f.began.holds.next f.began.opening.early
 
 pub fail_step-requires-clause-one : goal.fail_step-requires-clause-one
 fail_step-requires-clause-one g c κs within = c.waiting_of.ensures.one

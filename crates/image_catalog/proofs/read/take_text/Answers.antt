@@ -9,9 +9,9 @@ returns-in-Ok-false-clause-refused c =
     let objects = schema_of c.args.catalog.now in
     let none : MakesNone objects c.deref.result.now = subst (λ (b : Bool). MakesIf objects c.deref.result.now (schema_of c.define.new.catalog) b) c.in-Ok-false.field-0-test c.in-Ok-false.ensures in
     record {
-      text = (c.in_ok-text.text.page, c.in_ok-text.text.bytes.items);
-      later = texts_from c.in_ok-text.text.end (parts_found c.args.parts.now);
-      texts = c.in_ok-text.ensures.text.texts;
+      text = (c.in-Ok.text.page, c.in-Ok.text.bytes.items);
+      later = texts_from c.in-Ok.text.end (parts_found c.args.parts.now);
+      texts = c.in-Ok.ensures.text.texts;
       makes = subst (MakesNone objects) c.deref.ensures.value none;
       rule = refl;
       place = refl;

@@ -7,8 +7,8 @@ use Rattle.ghost_rows.specs.Ghosts.{IsCandidate}
 use Rattle.ghost_rows.specs.Numbers.{numbers_bytes}
 use Rattle.ghost_rows.specs.State.{StoresOnlyAt}
 use Rattle.ghost_rows.proofs.NumberSteps.{length_numbers}
+use Rattle.group_replay.proofs.Replacing.{numbers_held}
 use Rattle.group_replay.proofs.Rows.{value_holds}
-use Rattle.image_store.proofs.Putting.{group_held}
 use Rattle.image_store.proofs.groups.put_group.Goals as goal
 
 pub list_ghost-requires : goal.list_ghost-requires
@@ -31,7 +31,8 @@ returns-clause-put g c =
     let new = g.M.SortedMaps.maps c.put_value.new.maps in
     let after = c.list_ghost.new.views in
     on_ok_weaker c.put_value.result (λ there x numbers n bytes.
-    group_held c.args.store.now.catalog (g.M.SortedMaps.maps c.args.store.now.tables) new c.args.store.now.views after place numbers x n
+    numbers_held c.args.store.now.catalog (g.M.SortedMaps.maps c.args.store.now.tables) new c.args.store.now.views after place numbers x
+    n.held n.group.of n.group.view_is n.width n.in_range n.unkept n.closed
     (there ∙ ap Some bytes)
     (subst (λ t. StoresOnlyAt place (g.M.SortedMaps.maps t) new) c.maps_mut.ensures.value c.put_value.ensures.others)
     c.list_ghost.ensures.rows

@@ -28,7 +28,7 @@ returns g c =
     } in
     subst (λ (most : Option ℕ). Stands g.M.SortedMaps.maps g.M.SortedMaps.spare g.M.SortedMaps.limit core (opened_state (limited c.args.log most) (opened (record { number = c.args.number; schema = []; rows = empty }) empty))) c.in_ok-new-4.ensures.limit
     (subst (λ (log : Option ℕ). Stands g.M.SortedMaps.maps g.M.SortedMaps.spare g.M.SortedMaps.limit core (opened_state (limited log core.data_room.limit) (opened (record { number = c.args.number; schema = []; rows = empty }) empty))) c.new-5.ensures.limit
-    (made g.M.SortedMaps.maps g.M.SortedMaps.spare g.M.SortedMaps.limit core c.args.number c.empty_law.ensures c.in_ok-new_store.ensures.held c.in_ok-new_store.ensures.marks c.in_ok-new_store.ensures.past c.in_ok-new-6.ensures.number c.in_ok-new-6.ensures.history.0 c.in_ok-new-6.ensures.history.1 c.in_ok-new-6.ensures.opens
+    (made g.M.SortedMaps.maps g.M.SortedMaps.spare g.M.SortedMaps.limit core c.args.number c.empty_law.ensures c.in_ok-new_store.ensures.held (ap (λ t. g.M.SortedMaps.maps t 0) c.in_ok-new_store.ensures.maps ∙ c.requires.empty 0) c.in_ok-new_store.ensures.marks c.in_ok-new_store.ensures.past c.in_ok-new-6.ensures.number c.in_ok-new-6.ensures.history.0 c.in_ok-new-6.ensures.history.1 c.in_ok-new-6.ensures.opens
     (c.new-5.ensures.room (record { number = c.args.number; schema = []; rows = empty }) empty 1) (subst (λ (log : Option ℕ). Within log (block_bytes + 1)) (sym c.new-5.ensures.limit) c.requires.log) (subst IsSome (sym c.in_ok-new-4.ensures.limit) refl)
     c.in_ok-new-5.ensures c.in_ok-new-3.ensures.rows c.in_ok-new-3.ensures.deltas (ap g.M.SortedMaps.limit c.in_ok-new_store.ensures.maps ∙ (c.requires.data ∙ sym c.in_ok-new-4.ensures.limit)) c.in_ok-new-4.ensures.total c.in_ok-new-4.ensures.shares refl refl refl
     c.in_ok-new.ensures refl refl))

@@ -12,19 +12,20 @@ publish-requires-clause-block g c = subst IsFirstBlock (sym c.first_block.ensure
 
 pub publish-requires-clause-block_fits : goal.publish-requires-clause-block_fits
 publish-requires-clause-block_fits g c =
-    let has = c.requires.begun.3 in
+    let has = c.requires.begun.4 in
     let long : length c.first_block.result.now ≡ 6 + length c.args.self.now.log.first = ap length c.first_block.ensures.bytes ∙ first_long c.args.self.now.log in
     let room : area_room (g.D.Disk.size_of c.args.self.now.disk) c.args.maps.now.pages ≡ c.args.self.now.log.size = omega (arith, has.kept.parts.whole, c.requires.pages) in
     omega (arith, long, room, has.room, has.used_is, has.gate)
 
 pub publish-requires-clause-live_fits : goal.publish-requires-clause-live_fits
 publish-requires-clause-live_fits g c told =
-    subst (λ (n : ℕ). LiveFits (g.D.Disk.size_of c.args.self.now.disk) n (g.D.Disk.seen c.args.self.now.disk)) (sym c.requires.pages) (c.requires.begun.3.kept.header told).fits
+    subst (λ (n : ℕ). LiveFits (g.D.Disk.size_of c.args.self.now.disk) n (g.D.Disk.seen c.args.self.now.disk)) (sym c.requires.pages) (c.requires.begun.4.kept.header told).fits
 
 pub returns-in-Ok-clause-has : goal.returns-in-Ok-clause-has
-returns-in-Ok-clause-has g c records carried used has =
+returns-in-Ok-clause-has g c definitions records next carried used marks has =
     let room : area_room (g.D.Disk.size_of c.args.self.now.disk) c.args.maps.now.pages ≡ c.args.self.now.log.size = omega (arith, has.kept.parts.whole, c.requires.pages) in
-    saved g.D.Disk.is_told g.D.Disk.size_of g.D.Disk.seen g.D.Disk.may_leave c.args.self.now records carried used c.args.commits c.in-Ok.ensures.image.0 c.in-Ok.ensures.image.1 c.publish.new.disk has
+    saved g.D.Disk.is_told g.D.Disk.size_of g.D.Disk.seen g.D.Disk.may_leave c.args.self.now records next carried used c.args.commits c.in-Ok.ensures.image.0 c.in-Ok.ensures.image.1 c.publish.new.disk has
+    c.args.maps.now c.requires.pages c.in-Ok.ensures.image.2 definitions marks
     c.in-Ok.ensures.size c.first_block.ensures.short c.first_block.ensures.begins (λ told. g.met.D.Disk.has_size told c.publish.new.disk)
     (λ told. renewed (λ (n : ℕ) (facts : HeaderFacts) (block : List ℕ). IsNew n facts block c.in-Ok.ensures.image.0 c.in-Ok.ensures.image.1 (g.D.Disk.seen c.publish.new.disk))
     _ _ _ (first_block c.args.self.now.log) _ _ _ _ _ room c.first_block.ensures.bytes c.next_number.ensures (c.in-Ok.ensures.image.3 told))
@@ -33,7 +34,7 @@ returns-in-Ok-clause-has g c records carried used has =
 
 pub returns-in-Ok-clause-image : goal.returns-in-Ok-clause-image
 returns-in-Ok-clause-image g c =
-    let has = c.requires.begun.3 in
+    let has = c.requires.begun.4 in
     let room : area_room (g.D.Disk.size_of c.args.self.now.disk) c.args.maps.now.pages ≡ c.args.self.now.log.size = omega (arith, has.kept.parts.whole, c.requires.pages) in (
       c.in-Ok.ensures.image.0,
       c.in-Ok.ensures.image.1,
@@ -46,7 +47,7 @@ returns-in-Ok-clause-image g c =
 
 pub returns-in-Err-clause-image : goal.returns-in-Err-clause-image
 returns-in-Err-clause-image g c =
-    let has = c.requires.begun.3 in
+    let has = c.requires.begun.4 in
     let room : area_room (g.D.Disk.size_of c.args.self.now.disk) c.args.maps.now.pages ≡ c.args.self.now.log.size = omega (arith, has.kept.parts.whole, c.requires.pages) in (
       c.in-Err.ensures.image.0,
       c.in-Err.ensures.image.1,

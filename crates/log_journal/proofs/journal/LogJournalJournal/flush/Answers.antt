@@ -6,7 +6,7 @@ use Rattle.log_journal.proofs.journal.LogJournalJournal.flush.Goals as goal
 pub returns-in-Ok-clause-ok : goal.returns-in-Ok-clause-ok
 returns-in-Ok-clause-ok g c = (
   (λ records has. flushed g.D.Disk.is_told g.D.Disk.size_of g.D.Disk.seen g.D.Disk.may_leave c.args.self.now records c.flush.new.self c.reserve.new.log c.flush.new.disk has c.reserve.ensures
-      c.in-Ok.ensures.size c.in-Ok.ensures.durable c.in-Ok.ensures.ok c.in-Ok.ensures.short c.in-Ok.ensures.holds c.in-Ok.ensures.outside),
+      c.in-Ok.ensures.size (λ told. g.met.D.Disk.has_size told c.args.self.now.disk) c.in-Ok.ensures.durable c.in-Ok.ensures.ok c.in-Ok.ensures.short c.in-Ok.ensures.holds c.in-Ok.ensures.outside),
   c.in-Ok.ensures.cause,
 )
 

@@ -1,0 +1,5 @@
+pub mod Entries
+pub mod Texts
+pub mod Parting
+pub mod Sizes
+pub mod Standing

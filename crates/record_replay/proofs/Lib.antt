@@ -1,0 +1,9 @@
+pub mod Lists
+pub mod Live
+pub mod Saying
+pub mod Sound
+pub mod Passing
+pub mod Orders
+pub mod Standing
+pub mod EachKind
+pub mod Changed

@@ -1,0 +1,4 @@
+pub mod Past
+pub mod Standing
+pub mod Reversing
+pub mod Telling
