@@ -26,7 +26,7 @@ use Rattle.data_store.specs.Contents.{contents_of}
 use Rattle.data_store.specs.Held.{IsHeld}
 use Rattle.core_state.specs.Rooms.{gone_if}
 use Rattle.core_state.specs.Stands.{Holds, Texts, all_texts}
-use Rattle.core_state.proofs.Texts.{same_texts}
+use Rattle.definition_parts.proofs.Staying.{same_texts}
 use Rattle.core_state.specs.declared.state.CoreState.{CoreState}
 use Rattle.core_state.proofs.Rooms.{rooms_changed, elsewhere_same, covered_by}
 use Rattle.core_effects.proofs.Opened.{Has, own}

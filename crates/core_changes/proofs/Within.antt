@@ -38,7 +38,7 @@ use Rattle.txn_book.specs.Txns.{txn_of}
 use Rattle.core_state.specs.Rooms.{all_gone}
 use Rattle.core_state.specs.Stands.{Began, Holds, its_texts}
 use Rattle.core_state.specs.declared.state.CoreState.{CoreState}
-use Rattle.core_effects.proofs.Entries.{each_held}
+use Rattle.data_room.proofs.Entries.{each_held}
 use Rattle.core_effects.proofs.Gone.{its_number}
 use Rattle.core_changes.specs.Putting.{CanPut}
 use Rattle.core_changes.specs.Room.{HasRoom}

@@ -22,7 +22,7 @@ use Rattle.core_state.specs.Rooms.{HasRooms}
 use Rattle.core_state.specs.Stands.{Began, Told}
 use Rattle.core_state.specs.declared.state.CoreState.{CoreState}
 use Rattle.core_state.proofs.Logged.{carries_less}
-use Rattle.core_state.proofs.Texts.{same_texts}
+use Rattle.definition_parts.proofs.Staying.{same_texts}
 use Rattle.core_effects.proofs.Done.{done_told}
 use Rattle.core_recording.specs.Carried.{CarriesAll}
 use Rattle.core_recording.specs.Giving.{IsSaved}

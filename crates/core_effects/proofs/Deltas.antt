@@ -5,7 +5,6 @@ use Rattle.std.specs.FinMap.{get, insert}
 use Rattle.std.specs.Option.{option_map}
 use mathlib.Core.Path.{sym, ap, subst, ◌∙◌}
 use Rattle.std.proofs.Common.{arith}
-use Rattle.std.proofs.lemmas.Option.{slice_get_within}
 use Rattle.std.proofs.lemmas.List.Elements.{recursion_from_All, Contains-append_left}
 use Rattle.iv_types.specs.Maps.{Map, IsWithin, used, with_map}
 use Rattle.iv_types.specs.Encoding.{IsHuge}
@@ -16,7 +15,6 @@ use Rattle.iv_types.specs.declared.lock.KeptStep.TheVariants as step
 use Rattle.iv_meaning.specs.Schema.{Schema, view, ViewTree, numbered}
 use Rattle.table_laws.specs.Place.{Place}
 use Rattle.query_laws.specs.Limited.{IsLimited}
-use Rattle.query_laws.proofs.LimitedLemmas.{numbers_law}
 use Rattle.query_laws.proofs.Widths.{width_law}
 use Rattle.ghost_rows.specs.Kept as ghost
 use Rattle.ghost_rows.specs.Kept.{width}
@@ -37,6 +35,7 @@ use Rattle.txn_book.specs.declared.open_table.Open.{Open as BookOpen}
 use Rattle.data_store.specs.Contents.{contents_of, pays_on}
 use Rattle.data_changes.specs.Paying.{HasFor}
 use Rattle.data_room.specs.Reserved.{Where}
+use Rattle.data_room.proofs.Entries.{few_numbers}
 use Rattle.data_room.proofs.Wheres.{where_always, where_map, within_fewer}
 use Rattle.core_state.specs.Rooms.{IsCovered, still_owed, paid_on}
 use Rattle.core_state.specs.Stands.{Holds, told, Texts}
@@ -44,11 +43,6 @@ use Rattle.core_state.proofs.Texts.{told_stored}
 use Rattle.core_state.specs.declared.state.CoreState.{CoreState}
 use Rattle.core_effects.specs.Owing.{OwesFirst}
 use Rattle.core_effects.proofs.Opened.{Has, own}
-
--- a number of an object is at most 192
-pub few_numbers : (objects : Schema) (n : ℕ) (o : _) → IsLimited objects → numbered objects n ≡ Some o → n ≤ 192
-few_numbers objects zero o limited e = omega arith
-few_numbers objects (suc n) o limited e = let lt : n < length objects = slice_get_within objects n o e in let most : length objects ≤ 192 = numbers_law.1 objects limited in omega (arith, lt, most)
 
 -- the pays on a row are the same in the book
 pub paid_as : (place : Place) (bs : List BookStep) (ks : List KeptStep) (ns : List ℕ) → AreKept bs ks ns → paid_on place bs ≡ pays_on place ks

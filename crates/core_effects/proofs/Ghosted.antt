@@ -40,7 +40,8 @@ use Rattle.data_changes.specs.Effects.{with_ghost as with_ghost_row}
 use Rattle.iv_types.specs.Definitions.{AreNumbered}
 use Rattle.core_effects.proofs.Gone.{view_all_gone}
 use Rattle.core_state.specs.Stands.{Holds, told, Texts, all_texts}
-use Rattle.core_state.proofs.Texts.{told_stored, texts_now}
+use Rattle.definition_parts.proofs.Staying.{texts_now}
+use Rattle.core_state.proofs.Texts.{told_stored}
 use Rattle.core_state.specs.declared.state.CoreState.{CoreState}
 use Rattle.core_state.proofs.Rooms.{rooms_changed, elsewhere_same, covered_alike}
 use Rattle.core_effects.specs.Owing.{OwesFirst}

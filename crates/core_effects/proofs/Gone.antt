@@ -21,6 +21,7 @@ use Rattle.table_store.proofs.Fresh.{in_schema}
 use Rattle.txn_book.specs.Opens.{open_at}
 use Rattle.txn_book.specs.Txns.{txn_of, changes_in}
 use Rattle.txn_book.specs.declared.open_table.Open.{Open}
+use Rattle.data_room.proofs.Entries.{index_in_schema}
 use Rattle.core_state.specs.Rooms.{CanBeTakenBack, gone_of, gone_if, all_gone}
 
 is_table : (o : Option Definition) (t : TableDef) → as_table o ≡ Some t → o ≡ Some (Table t)
@@ -28,12 +29,6 @@ is_table None t e = absurd cc
 is_table (Some (Table u)) t e = let same : u ≡ t = cc in ap (λ x. Some (Table x)) same
 is_table (Some (Index i)) t e = absurd cc
 is_table (Some (View v)) t e = absurd cc
-
-is_index : (o : Option Definition) (i : IndexDef) → as_index o ≡ Some i → o ≡ Some (Index i)
-is_index None i e = absurd cc
-is_index (Some (Index j)) i e = let same : j ≡ i = cc in ap (λ x. Some (Index x)) same
-is_index (Some (Table t)) i e = absurd cc
-is_index (Some (View v)) i e = absurd cc
 
 module _ (ds : Definitions) (are : AreNumbered ds) where
   -- a table has its number
@@ -64,7 +59,7 @@ module _ (ds : Definitions) (are : AreNumbered ds) where
       no_table t e = let bad : Some (schema.table t) ≡ Some (schema.view v) = sym (in_schema ds n t e) ∙ is_view in absurd cc
 
       no_index : (i : IndexDef) → index_of ds n ≡ Some i → ⊥
-      no_index i e = let bad : Some (schema.index i) ≡ Some (schema.view v) = sym (Rattle.data_store.proofs.Finding.object_at ds n (Index i) (is_index (defined_at ds n) i e)) ∙ is_view in absurd cc
+      no_index i e = let bad : Some (schema.index i) ≡ Some (schema.view v) = sym (index_in_schema ds n i e) ∙ is_view in absurd cc
 
   -- of kept steps
   pub steps_gone : (n : ℕ) (ks : List BookStep) → CanBeTakenBack ds ks → gone_of n ks ≤ length (changes_in ks)
@@ -87,7 +82,3 @@ module _ (ds : Definitions) (are : AreNumbered ds) where
       let rest : all_gone n opens ≡ 0 = view_all_gone v n is_view opens (λ j p e. each (suc j) p e) in
       let here : gone_of n (txn_of o).kept ≡ 0 = view_steps_gone v n is_view (txn_of o).kept (each 0 o refl) in
       omega (arith, rest, here, sum_by-cons (gone_if n) (Some o) opens)
-
--- an index that CREATE INDEX made, in the schema
-pub index_in_schema : (ds : Definitions) (n : ℕ) (i : IndexDef) → index_of ds n ≡ Some i → schema.numbered (schema_of ds) n ≡ Some (schema.index i)
-index_in_schema ds n i e = Rattle.data_store.proofs.Finding.object_at ds n (Index i) (is_index (defined_at ds n) i e)

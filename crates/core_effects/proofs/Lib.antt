@@ -9,7 +9,6 @@ pub mod Paid
 pub mod Ghosted
 pub mod Gone
 pub mod Unpaid
-pub mod Entries
 pub mod Unput
 pub mod Latest
 pub mod Written

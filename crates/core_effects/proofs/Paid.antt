@@ -45,7 +45,7 @@ use Rattle.data_past.proofs.Aheads.{ahead_pays}
 use Rattle.data_past.proofs.Effects.{past_pays}
 use Rattle.core_state.specs.Rooms.{IsWanted, AreWanted, IsCovered, HasRooms, gone_if, still_owed, paid, paid_on}
 use Rattle.core_state.specs.Stands.{Holds, told, Texts, all_texts}
-use Rattle.core_state.proofs.Texts.{texts_now, same_texts}
+use Rattle.definition_parts.proofs.Staying.{texts_now, same_texts}
 use Rattle.core_state.specs.declared.state.CoreState.{CoreState}
 use Rattle.core_state.proofs.Rooms.{rooms_changed}
 use Rattle.core_state.proofs.Sessions.{contents_as, kept_of, locks_same}

@@ -47,7 +47,8 @@ use Rattle.data_past.proofs.Aheads.{ahead_unpaid}
 use Rattle.data_past.proofs.Effects.{past_unpaid}
 use Rattle.core_state.specs.Rooms.{AreWanted, IsCovered, CanBeTakenBack, gone_if, gone_of, still_owed, paid}
 use Rattle.core_state.specs.Stands.{Holds, told, Texts, all_texts}
-use Rattle.core_state.proofs.Texts.{told_stored, texts_now}
+use Rattle.definition_parts.proofs.Staying.{texts_now}
+use Rattle.core_state.proofs.Texts.{told_stored}
 use Rattle.core_state.specs.declared.state.CoreState.{CoreState}
 use Rattle.core_state.proofs.Rooms.{rooms_changed}
 use Rattle.core_state.proofs.Sessions.{contents_as, kept_of, locks_same}

@@ -60,13 +60,13 @@ use Rattle.data_room.proofs.Counted.{change_sizes}
 use Rattle.data_room.proofs.Wheres.{where_always, within_fewer}
 use Rattle.core_state.specs.Rooms.{IsCovered, CanBeTakenBack, gone_if, gone_of, still_owed, paid}
 use Rattle.core_state.specs.Stands.{Holds, told, Texts, all_texts}
-use Rattle.core_state.proofs.Texts.{texts_now}
+use Rattle.definition_parts.proofs.Staying.{texts_now}
 use Rattle.core_state.specs.declared.state.CoreState.{CoreState}
 use Rattle.core_state.proofs.Rooms.{rooms_changed, gone_set}
 use Rattle.core_state.proofs.Sessions.{contents_as, kept_of, locks_same}
 use Rattle.core_effects.specs.Undoing.{KeepsPut, FitsBack}
 use Rattle.core_effects.proofs.Opened.{Has, own}
-use Rattle.core_effects.proofs.Entries.{each_held}
+use Rattle.data_room.proofs.Entries.{each_held}
 use Rattle.core_effects.proofs.Gone.{its_number}
 
 -- the book's latest step is that change

@@ -49,7 +49,7 @@ use Rattle.table_laws.specs.Place.{Place}
 use Rattle.core_state.proofs.Few.{session_few}
 use Rattle.core_state.specs.Rooms.{AreWanted, IsCovered, CanBeTakenBack, all_gone, gone_if, gone_of, paid}
 use Rattle.core_state.specs.Stands.{Holds, told, Texts, all_texts}
-use Rattle.core_state.proofs.Texts.{texts_now}
+use Rattle.definition_parts.proofs.Staying.{texts_now}
 use Rattle.core_state.specs.declared.state.CoreState.{CoreState}
 use Rattle.core_state.proofs.Rooms.{rooms_moved}
 use Rattle.core_state.proofs.Sessions.{contents_as, kept_of, locks_same}

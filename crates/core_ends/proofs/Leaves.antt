@@ -49,8 +49,9 @@ use Rattle.data_room.specs.declared.room.DataRoom.{DataRoom}
 use Rattle.data_room.proofs.Kept.{reserved_moved, settled_moves}
 use Rattle.log_room.specs.Rooms.{IsRoomOf}
 use Rattle.log_room.specs.declared.room.LogRoom.{LogRoom}
-use Rattle.core_state.specs.Stands.{IsOpening, Began, Told, Holds, Reserves, Counts, is_blocked, HasTexts, its_texts}
-use Rattle.core_state.proofs.Texts.{same_texts}
+use Rattle.definition_parts.specs.Parts.{HasTexts}
+use Rattle.core_state.specs.Stands.{IsOpening, Began, Told, Holds, Reserves, Counts, is_blocked, its_texts}
+use Rattle.definition_parts.proofs.Staying.{same_texts}
 use Rattle.core_state.proofs.Data.{data_holds, log_holds}
 use Rattle.core_state.proofs.Unchanged.{not_blocked}
 use Rattle.core_state.specs.declared.state.CoreState.{CoreState}

@@ -19,7 +19,8 @@ use Rattle.ghost_rows.specs.State as views
 use Rattle.data_store.specs.Contents.{contents_of}
 use Rattle.data_store.specs.Held.{IsHeld}
 use Rattle.core_journal.specs.Records.{Records, Saved, records_after, GivesTo}
-use Rattle.core_state.specs.Stands.{HasTexts, Began, Told, Failed}
+use Rattle.definition_parts.specs.Parts.{HasTexts}
+use Rattle.core_state.specs.Stands.{Began, Told, Failed}
 use Rattle.core_state.specs.declared.state.CoreState.{CoreState}
 use Rattle.core_recording.specs.Carried.{CarriesAll}
 

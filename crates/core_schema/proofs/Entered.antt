@@ -49,7 +49,8 @@ use Rattle.lock_manager.specs.Table as table
 use Rattle.lock_desk.specs.Asking.{HasLocks}
 use Rattle.data_room.specs.Reserved.{IsReserved}
 use Rattle.data_room.specs.declared.room.DataRoom.{DataRoom}
-use Rattle.core_state.specs.Stands.{Began, Told, Counts, IsOpening, HasTexts}
+use Rattle.definition_parts.specs.Parts.{HasTexts}
+use Rattle.core_state.specs.Stands.{Began, Told, Counts, IsOpening}
 use Rattle.core_state.proofs.Rooms.{no_rooms}
 use Rattle.core_state.proofs.Sessions.{contents_as}
 use Rattle.data_past.specs.Ahead.{IsAhead}
@@ -63,7 +64,7 @@ use Rattle.core_schema.specs.Making.{MayEnter, IsTextOf}
 use Rattle.iv_types.specs.Definitions.{CanAdd}
 use Rattle.data_defining.proofs.Adding.{can_add}
 use Rattle.data_defining.proofs.Defined.{number_is}
-use Rattle.core_schema.proofs.Names.{name_is_free}
+use Rattle.data_defining.proofs.Names.{name_is_free}
 use Rattle.core_schema.proofs.Made.{accepted, can_define}
 use Rattle.core_schema.proofs.Needs.{defined_reserved}
 

@@ -1,4 +1,3 @@
-pub mod Names
 pub mod Short
 pub mod Made
 pub mod Needs

@@ -35,7 +35,7 @@ use Rattle.txn_machine.proofs.Shapes.{add_all_stored, made_are, more_stored, las
 use Rattle.txn_log.specs.Room.{rows_bytes}
 use Rattle.txn_log.specs.Stored.{in_parts}
 use Rattle.txn_log.proofs.Defining.{made_is}
-use Rattle.definition_parts.specs.Parts.{parts_map, part_entries, IsShort, CanPutText}
+use Rattle.definition_parts.specs.Parts.{parts_map, part_entries, IsShort, CanPutText, HasTexts}
 use Rattle.definition_parts.proofs.Entries.{entries_many}
 use Rattle.definition_parts.proofs.Sizes.{size_filled, sizes_are}
 use Rattle.ghost_rows.specs.Rows.{no_rows}
@@ -46,12 +46,12 @@ use Rattle.data_room.specs.Reserved.{Where, kept_for, IsReserved}
 use Rattle.data_room.proofs.Kept.{reserved_alike}
 use Rattle.data_room.proofs.Used.{used_is}
 use Rattle.data_room.proofs.Wheres.{where_map, within_is, within_fewer}
-use Rattle.core_state.specs.Stands.{HasTexts}
 use Rattle.core_state.specs.declared.state.CoreState.{CoreState}
 use Rattle.core_state.proofs.Data.{began_entries, began_used, limit_of}
 use Rattle.core_schema.specs.Making.{MayMake}
 use Rattle.core_schema.proofs.Made.{can_define, rows_stay}
-use Rattle.core_schema.proofs.Short.{few_parts, text_short}
+use Rattle.data_defining.proofs.Short.{text_short}
+use Rattle.core_schema.proofs.Short.{few_parts}
 
 -- each entry counts eight bytes at least
 entries_few : (es : List IndexEntry) → 8 * length es ≤ sizes es

@@ -15,7 +15,7 @@ use Rattle.data_store.specs.Contents.{contents_of}
 use Rattle.data_store.specs.Held.{IsHeld}
 use Rattle.core_state.specs.Rooms.{all_gone}
 use Rattle.core_state.specs.Stands.{Began}
-use Rattle.core_state.proofs.Texts.{same_texts}
+use Rattle.definition_parts.proofs.Staying.{same_texts}
 use Rattle.core_state.specs.declared.state.CoreState.{CoreState}
 
 -- what holds after whatever error

@@ -32,7 +32,8 @@ use Rattle.data_room.proofs.Used.{used_is}
 use Rattle.definition_parts.proofs.Sizes.{sizes_are}
 use Rattle.data_room.proofs.Wheres.{where_always, where_map, where_two, where_above, within_is, is_within, within_fewer, above_more}
 use Rattle.log_room.specs.declared.room.LogRoom.{LogRoom}
-use Rattle.core_state.specs.Stands.{IsOpening, Began, Reserves, Holds, Counts, HasTexts, Texts}
+use Rattle.definition_parts.specs.Parts.{HasTexts}
+use Rattle.core_state.specs.Stands.{IsOpening, Began, Reserves, Holds, Counts, Texts}
 use Rattle.core_state.specs.declared.state.CoreState.{CoreState}
 
 -- ---- what is kept of the data alone becomes another

@@ -2,9 +2,7 @@
 --
 -- In which state of the machine a core is. Its data have a limit, its log may have one; what a crash leaves is not told.
 use Rattle.std.specs.Prelude.{◌≡◌, ◌≢◌, ℕ, ◌+◌, ◌<◌, ◌≤◌, ◌^◌, List, [], ◌++◌, length, None, Some, IsSome, false, true, Bool, Option}
-use Rattle.std.specs.List.{AllByRecursion}
 use Rattle.std.specs.Option.{option_map}
-use Rattle.iv_types.specs.Definitions.{Definitions}
 use Rattle.iv_types.specs.Maps.{Map}
 use Rattle.iv_types.specs.declared.refusal.EngineRefusal.TheVariants.{DiskFault}
 use Rattle.iv_types.specs.declared.session.Sessions.{Sessions}
@@ -23,7 +21,7 @@ use Rattle.txn_machine.specs.Steps.{Says, Step, asked, definitions_after, log_af
 use Rattle.txn_machine.specs.Laws.{IsReached}
 use Rattle.txn_log.specs.Room.{OpensWithin}
 use Rattle.txn_book.specs.Holding as book
-use Rattle.definition_parts.specs.Parts.{parts_map, IsShort}
+use Rattle.definition_parts.specs.Parts.{parts_map, HasTexts}
 use Rattle.data_store.specs.Contents.{Contents, contents_of, with_texts}
 use Rattle.data_store.specs.Held.{IsHeld}
 use Rattle.data_store.specs.Machine.{IsPast}
@@ -74,13 +72,6 @@ its_texts s = record { before = s.opening.definitions; since = s.definitions }
 -- after an act is answered so
 abbrev pub texts_after : State → Act → Answer → Texts
 texts_after s a said = record { before = s.opening.definitions; since = definitions_after s.definitions a said }
-
--- these are the entries of the parts of texts, one for each definition, whose numbers tell them apart
-pub record HasTexts (entries : Map) (definitions : Definitions) (texts : List (List ℕ)) : Type 0 where
-  pub are : entries ≡ parts_map texts
-  pub many : length texts ≡ length definitions
-  pub short : AllByRecursion IsShort texts
-  pub few : length texts < 2 ^ 32
 
 -- what a store has, with the texts of these definitions
 abbrev pub told : Store → Texts → Contents

@@ -55,7 +55,8 @@ use Rattle.log_room.specs.Rooms.{IsRoomOf}
 use Rattle.log_room.specs.declared.room.LogRoom.{LogRoom}
 use Rattle.core_state.specs.Rooms.{HasRooms}
 use Rattle.core_state.specs.Stands.{Began, Told, Holds, told, its_texts}
-use Rattle.core_state.proofs.Texts.{told_stored, texts_now}
+use Rattle.definition_parts.proofs.Staying.{texts_now}
+use Rattle.core_state.proofs.Texts.{told_stored}
 use Rattle.data_store.proofs.Told.{untold_held}
 use Rattle.core_state.specs.declared.state.CoreState.{CoreState}
 use Rattle.core_state.proofs.Logged.{log_fits, log_full}

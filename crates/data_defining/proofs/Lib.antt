@@ -3,3 +3,5 @@ pub mod Defined
 pub mod Adding
 pub mod TableReads
 pub mod Beside
+pub mod Names
+pub mod Short

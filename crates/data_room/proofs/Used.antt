@@ -10,7 +10,6 @@ use mathlib.Core.Path.{sym, ap, subst, ◌∙◌}
 use mathlib.Core.Logic.{inl, inr}
 use Rattle.std.proofs.Common.{arith}
 use Rattle.std.proofs.lemmas.Bool.{cases_eq}
-use Rattle.std.proofs.lemmas.Option.{slice_get_within}
 use Rattle.iv_types.specs.Definitions.{Definitions, AreNumbered, number_of, numbered as defined_at}
 use Rattle.iv_types.specs.Maps.{Map, map_size, used, with_map, last_index}
 use Rattle.iv_types.specs.declared.catalog.Definition.{Definition}
@@ -28,7 +27,6 @@ use Rattle.iv_meaning.specs.Objects.{schema_of, object_of}
 use Rattle.iv_meaning.specs.Schema.{Schema, Object, table, index, view, numbered, indexes_of}
 use Rattle.iv_meaning.specs.Sound.{IsRow, IsObject}
 use Rattle.query_laws.specs.Limited.{IsLimited}
-use Rattle.query_laws.proofs.LimitedLemmas.{numbers_law}
 use Rattle.row_codec.proofs.Formats.{one_spelling}
 use Rattle.row_codec.proofs.RowFormat.{row_format}
 use Rattle.row_codec.proofs.KeyFormat.{key_format}
@@ -54,6 +52,7 @@ use Rattle.ghost_rows.specs.Numbers.{numbers_bytes}
 use Rattle.ghost_rows.proofs.NumberSteps.{length_numbers}
 use Rattle.data_room.specs.Used.{UsedLaw}
 use Rattle.data_room.proofs.Counted.{own_sizes}
+use Rattle.data_room.proofs.Entries.{few_numbers}
 
 -- ---- how many entries a map has
 
@@ -160,11 +159,6 @@ takes (e ∷ es) maps apart there held =
     (take_step e es maps mid (taken_out es mid) apart (with_here maps e.index (remove (maps e.index) e.key)) others rest.0, omega (arith, out, all, left))
 
 -- ---- rows, with the view rows
-
--- a number of an object is at most 192
-few_numbers : (objects : Schema) (n : ℕ) (o : Object) → IsLimited objects → numbered objects n ≡ Some o → n ≤ last_index
-few_numbers objects zero o limited e = omega arith
-few_numbers objects (suc n) o limited e = let lt : n < length objects = slice_get_within objects n o e in let most : length objects ≤ 192 = numbers_law.1 objects limited in omega (arith, lt, most)
 
 -- no table and no index has this number
 pub record IsNoTable (objects : Schema) (n : ℕ) : Type 0 where

@@ -3,3 +3,4 @@ pub mod Texts
 pub mod Parting
 pub mod Sizes
 pub mod Standing
+pub mod Staying

@@ -2,7 +2,9 @@
 --
 -- The texts of definitions as entries of index 0: in parts, each under its object's number and its own.
 use Rattle.std.specs.Prelude.{◌≡◌, ℕ, suc, ◌+◌, ◌≤◌, ◌<◌, ◌^◌, List, [], ◌∷◌, length, Option}
+use Rattle.std.specs.List.{AllByRecursion}
 use Rattle.std.specs.FinMap.{empty}
+use Rattle.iv_types.specs.Definitions.{Definitions}
 use Rattle.iv_types.specs.Maps.{Map, IsWithin, used}
 use Rattle.iv_types.specs.declared.lock.IndexEntry.{IndexEntry}
 use Rattle.table_store.specs.Filling.{filled}
@@ -39,6 +41,13 @@ with_texts number m (text ∷ texts) = with_texts (suc number) (filled m (part_e
 -- the parts of the texts of objects 1, 2, ..
 abbrev pub parts_map : List (List ℕ) → Map
 parts_map texts = with_texts 1 empty texts
+
+-- these are the entries of the parts of texts, one for each definition, whose numbers tell them apart
+pub record HasTexts (entries : Map) (definitions : Definitions) (texts : List (List ℕ)) : Type 0 where
+  pub are : entries ≡ parts_map texts
+  pub many : length texts ≡ length definitions
+  pub short : AllByRecursion IsShort texts
+  pub few : length texts < 2 ^ 32
 
 -- ---- one text more
 

@@ -26,7 +26,7 @@ use Rattle.ghost_rows.proofs.RowLemmas.{huge_fit}
 use Rattle.data_store.specs.Contents.{Contents, pays_on}
 use Rattle.data_store.specs.Held.{IsHeld}
 use Rattle.data_changes.specs.Ghosts.{HasAbsent, HasGhost}
-use Rattle.core_effects.proofs.Deltas.{few_numbers}
+use Rattle.data_room.proofs.Entries.{few_numbers}
 use Rattle.group_replay.specs.Closed.{IsClosed, with_view, HasZeros}
 
 -- ---- the numbers of a row

@@ -3,3 +3,4 @@ pub mod Making
 pub mod Telling
 pub mod Short
 pub mod Putting
+pub mod Kept

@@ -25,7 +25,7 @@ use Rattle.txn_machine.specs.May.{IsCreate}
 use Rattle.txn_machine.specs.ViewLaws.{AreSound}
 use Rattle.txn_machine.proofs.Creating.{creates_sound}
 use Rattle.data_defining.proofs.Adding.{can_add}
-use Rattle.core_schema.proofs.Names.{name_is_free}
+use Rattle.data_defining.proofs.Names.{name_is_free}
 use Rattle.txn_log.specs.Appended.{Creates}
 use Rattle.txn_log.specs.Stored.{AllCreate}
 use Rattle.log_disk.proofs.Building.{none_sound}

@@ -96,7 +96,7 @@ front_few d ds (f ∷ fs) keys small = by (is_first f) refl (front_few f (d ∷ 
         let here : length f.entry.1 ≤ part_bytes = small.0 in
         omega (arith, next.0, next.1, rest, all, both, here)
 
-is_short : (text : List ℕ) → length text ≤ 65536 * part_bytes → IsShort text
+pub is_short : (text : List ℕ) → length text ≤ 65536 * part_bytes → IsShort text
 is_short text few =
     let many : length (in_parts text) ≡ (length text + 1023) / 1024 = parts_many ((length text + 1023) / 1024) text in
     let short : length (in_parts text) ≤ 2 ^ 16 = omega (arith, many, few) in

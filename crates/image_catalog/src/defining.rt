@@ -1,12 +1,16 @@
 //! What a text defines beside the definitions of a catalog.
-ghost use Rattle.std.specs.Prelude.{IfOk};
+ghost use Rattle.std.specs.Prelude.{◌≡◌, IfOk};
+ghost use Rattle.iv_types.specs.Grammar.{Spells};
+ghost use Rattle.iv_types.specs.Printing.{statement_text as text_of};
+ghost use Rattle.iv_types.specs.Syntax.{StatementTree};
 ghost use Rattle.iv_types.specs.Trees.{statement_tree};
 ghost use Rattle.iv_meaning.specs.Bound.{bound_tree};
 ghost use Rattle.iv_meaning.specs.Objects.{schema_of};
 ghost use Rattle.image_catalog.specs.Texts.{AreMade, IsSpelled, IsCreated, IsBound, IsDefined, MakesIf};
 
-use iv_types::{Bound, Catalog, Definition, NoMemory, Refusal, Statement};
+use iv_types::{Bound, Bytes, Catalog, Definition, NoMemory, Refusal, Statement};
 use sql_bind::bind;
+use sql_print::statement_text;
 use sql_readers::read_statement;
 use sql_tokens::split;
 use std::alloc::Global;
@@ -21,6 +25,26 @@ fn statement_of(alloc: Global, text: &[u8]) -> Result<Option<Statement>, NoMemor
         Ok(statement) => Ok(Some(statement)),
         Err(ParseError::Memory) => Err(NoMemory),
         Err(ParseError::Fault(_)) => Ok(None),
+    }
+}
+
+/// What the statement of a text is printed as.
+///
+/// # Errors
+///
+/// Where there is no memory for it.
+pub(crate) fn printed(alloc: Global, text: &[u8]) -> Result<Bytes, NoMemory>
+    requires { (s : StatementTree) × Spells text.now s }
+    ensures { IfOk result (λ bytes. (s : StatementTree) → Spells text.now s → bytes ≡ text_of s) }
+{
+    match statement_of(alloc, text) {
+        Ok(Some(statement)) => {
+            let bytes = statement_text(alloc, &statement);
+            statement.let_go();
+            bytes
+        }
+        Ok(None) => unreachable!(),
+        Err(NoMemory) => Err(NoMemory),
     }
 }
 

@@ -1,22 +1,34 @@
 //! The texts of definitions, put into sorted maps in their parts.
-ghost use Rattle.std.specs.Prelude.{◌≡◌, ◌≢◌, ◌<◌, ◌≤◌, ◌^◌, ◌++◌, ◌∷◌, ℕ, List, [], length, None, IfOk, OnOk};
+ghost use Rattle.std.specs.Prelude.{◌≡◌, ◌≢◌, ◌↔◌, ◌<◌, ◌≤◌, ◌^◌, ◌++◌, ◌∷◌, ℕ, List, [], length, None, IsTrue, IfOk, OnOk, OnErr};
 ghost use Rattle.std.specs.List.{AllByRecursion};
 ghost use Rattle.std.specs.FinMap.{empty};
 ghost use Rattle.iv_types.specs.Definitions.{Definitions};
-ghost use Rattle.iv_meaning.specs.Schema.{Schema};
+ghost use Rattle.iv_meaning.specs.Schema.{Schema, Object};
 ghost use Rattle.iv_meaning.specs.Objects.{schema_of};
+ghost use Rattle.txn_log.specs.Appended.{Creates};
 ghost use Rattle.txn_log.specs.Damaged.{in_texts, texts_found};
 ghost use Rattle.txn_log.specs.Stored.{AllCreate};
 ghost use Rattle.definition_parts.specs.Parts.{parts_map, IsShort};
 ghost use Rattle.image_entries.specs.Parts.{parts_found, KeysStand, SizesStand};
 ghost use Rattle.image_catalog.specs.Texts.{BeginsAt, texts_from};
-ghost use Rattle.image_catalog.specs.Storing.{HasBefore, StoresText};
+ghost use Rattle.image_catalog.specs.Storing.{HasBefore, StoresText, StoresKept};
 
+use crate::defining::printed;
 use crate::texts::text_at;
 use definition_parts::{parts_of, put_parts, reserve_parts};
 use image_entries::Part;
 use iv_types::{NoMemory, SortedMaps};
 use std::alloc::Global;
+
+/// The most bytes of a text whose parts two bytes tell apart: 65,536 parts of 1,024 bytes.
+const MOST_BYTES: usize = 1 << 26;
+
+/// Whether two bytes tell the parts of a text apart.
+fn is_short(text: &[u8]) -> bool
+    ensures { IsTrue result ↔ IsShort text.now }
+{
+    text.len() <= MOST_BYTES
+}
 
 /// Puts the text of the object that comes next behind those before it.
 fn put_text<M: SortedMaps>(
@@ -29,6 +41,7 @@ fn put_text<M: SortedMaps>(
     requires before { (texts : List (List ℕ)) × HasBefore number (M.maps maps.old 0) texts }
     requires limit { M.limit maps.old ≡ None }
     ensures stored { OnOk result ((texts : List (List ℕ)) → HasBefore number (M.maps maps.old 0) texts → M.maps maps.new 0 ≡ parts_map (texts ++ text.now ∷ [])) }
+    ensures err { OnErr result (M.maps maps.new 0 ≡ M.maps maps.old 0) }
     ensures others { (i : ℕ) → i ≢ 0 → M.maps maps.new i ≡ M.maps maps.old i }
     ensures other_rooms { (i : ℕ) → i ≢ 0 → M.spare maps.old i ≤ M.spare maps.new i }
     ensures limit { M.limit maps.new ≡ M.limit maps.old }
@@ -37,6 +50,36 @@ fn put_text<M: SortedMaps>(
     reserve_parts(maps, text)?;
     put_parts(maps, parts);
     Ok(())
+}
+
+/// Puts the text of the object that comes next behind those before it, into maps without a limit: in its parts, each under the
+/// object's number and its own. A text of more than 64 MiB has more parts than two bytes tell apart: what its statement is printed
+/// as is put in then, which makes the same object.
+///
+/// # Errors
+///
+/// Where there is no memory for it. No entry is changed then.
+pub fn put_next_text<M: SortedMaps>(
+    alloc: Global,
+    maps: &mut M,
+    number: u32,
+    text: &[u8],
+) -> Result<(), NoMemory>
+    requires creates { (objects : Schema) × (o : Object) × Creates objects text.now o }
+    requires before { (texts : List (List ℕ)) × HasBefore number (M.maps maps.old 0) texts }
+    requires limit { M.limit maps.old ≡ None }
+    ensures stored { OnOk result ((texts : List (List ℕ)) → HasBefore number (M.maps maps.old 0) texts → StoresKept text.now texts (M.maps maps.new 0)) }
+    ensures err { OnErr result (M.maps maps.new 0 ≡ M.maps maps.old 0) }
+    // The other indexes keep their entries and their room.
+    ensures others { (i : ℕ) → i ≢ 0 → M.maps maps.new i ≡ M.maps maps.old i }
+    ensures other_rooms { (i : ℕ) → i ≢ 0 → M.spare maps.old i ≤ M.spare maps.new i }
+    ensures limit { M.limit maps.new ≡ M.limit maps.old }
+{
+    if is_short(text) {
+        return put_text(alloc, maps, number, text);
+    }
+    let bytes = printed(alloc, text)?;
+    put_text(alloc, maps, number, bytes.as_slice())
 }
 
 /// Puts the text whose first part stands at this place behind those before it, and answers how many parts stand up to its last.

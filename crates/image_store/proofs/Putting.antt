@@ -28,7 +28,7 @@ use Rattle.ghost_rows.proofs.GhostLemmas.{zeros_long}
 use Rattle.data_store.specs.Contents.{Contents}
 use Rattle.data_store.specs.Held.{IsHeld}
 use Rattle.data_changes.proofs.Frames.{rows_changed, views_stay, unused_stay}
-use Rattle.core_effects.proofs.Entries.{each_held}
+use Rattle.data_room.proofs.Entries.{each_held}
 use Rattle.image_store.specs.Filled.{IsFilled, IsNewRow, with_row}
 use Rattle.image_store.proofs.Entries.{of_none}
 

@@ -14,7 +14,7 @@ use Rattle.wal_log.specs.Log.{LogState, area_at, after_flush, restarted as log_r
 use Rattle.log_disk.proofs.Areas.{log_alone}
 use Rattle.core_journal.specs.Records.{Records, Saved, flushed_all, restarted}
 use Rattle.log_journal.specs.declared.journal.LogJournal.{LogJournal}
-use Rattle.log_journal.specs.Standing.{HasParts, HasHeader, Has, Carries}
+use Rattle.log_journal.specs.Standing.{maps_limit, HasParts, HasHeader, IsKept, Has, Carries}
 use Rattle.log_journal.specs.Saved.{MarksSaved, HasSaved, next_header, first_block}
 use Rattle.log_journal.proofs.Headers.{same_number, same_other, same_fits}
 use Rattle.log_journal.proofs.Blocks.{flushed_blocks, begun_blocks}
@@ -134,12 +134,12 @@ module _ {D : Type 0} (is_told : Type 0) (size_of : D → ℕ) (seen : D → Lis
             (omega (arith, has.in_area, area_high old.log.size old.area)) (outside told) (has.image told);
       }))
 
-  -- a checkpoint begins
-  pub restarts : (old : LogJournal D) (records : Records) (next : ℕ) (log : LogState) → Has is_told size_of seen may_leave old records → old.saved < 2 ^ 63 → 6 ≤ old.log.size
-      → log ≡ log_restarted (1 - old.area) next old.log → Carries is_told size_of seen may_leave (with_log old log) records next [] 6
-  restarts old records next log has few least is =
+  -- a checkpoint begins, whatever records there are
+  pub begun_over : (old : LogJournal D) (records : Records) (next : ℕ) (log : LogState) → IsKept is_told size_of seen may_leave old → records.image_limit ≡ maps_limit old → old.saved ≤ 2 ^ 62 + records.saves → old.saved < 2 ^ 63
+      → 6 ≤ old.log.size → log ≡ log_restarted (1 - old.area) next old.log → Carries is_told size_of seen may_leave (with_log old log) records next [] 6
+  begun_over old records next log kept maps saves few least is =
       subst (λ (l : LogState). Carries is_told size_of seen may_leave (with_log old l) records next [] 6) (sym is) (record {
-        kept = record { parts = has.kept.parts; low_area = has.kept.low_area; header = has.kept.header; free = has.kept.free };
+        kept = record { parts = kept.parts; low_area = kept.low_area; header = kept.header; free = kept.free };
         in_area = refl;
         next_is = refl;
         first = refl;
@@ -148,10 +148,15 @@ module _ {D : Type 0} (is_told : Type 0) (size_of : D → ℕ) (seen : D → Lis
         none_waits = refl;
         used_is = refl;
         room = least;
-        saves = has.saves;
+        saves = saves;
         few = few;
-        maps = has.maps;
+        maps = maps;
       })
+
+  -- behind those that it has
+  pub restarts : (old : LogJournal D) (records : Records) (next : ℕ) (log : LogState) → Has is_told size_of seen may_leave old records → old.saved < 2 ^ 63 → 6 ≤ old.log.size
+      → log ≡ log_restarted (1 - old.area) next old.log → Carries is_told size_of seen may_leave (with_log old log) records next [] 6
+  restarts old records next log has few least is = begun_over old records next log has.kept has.maps has.saves few least is
 
   -- the checkpoint is saved
   pub saved : (old : LogJournal D) (records : Records) (next : ℕ) (es : List Entry) (used commits : ℕ) (flags : List Bool) (bytes : List ℕ) (disk : D) → Carries is_told size_of seen may_leave old records next es used

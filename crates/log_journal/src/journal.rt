@@ -77,6 +77,37 @@ impl<D: Disk> LogJournal<D> {
         }
     }
 
+    /// A journal that begins a checkpoint behind whatever records stand on a disk, which the checkpoint takes over: those of an image
+    /// that was read. The live header has the number `saved` and names this log area, and the disk so many pages. No record is carried
+    /// yet, and the next record is to have this number.
+    pub fn restarting(
+        mut log: Log,
+        disk: D,
+        pages: u32,
+        saved: u64,
+        area: u8,
+        next: u64,
+    ) -> LogJournal<D>
+        requires parts { HasParts log.size pages (D.size_of disk) }
+        requires low_area { area ≤ 1 }
+        requires free { log.reserved ≡ 0 }
+        requires few { saved ≤ 2 ^ 62 }
+        requires header { D.is_told → HasHeader (D.size_of disk) pages saved area (D.seen disk) (D.may_leave disk) }
+        ensures carries { (records : Records) → records.image_limit ≡ maps_limit result → Carries D.is_told D.size_of D.seen D.may_leave result records next [] (block_bytes + 1) }
+        ensures disk { disk_of result ≡ disk }
+        ensures limit { area_limit result ≡ Some log.size }
+        ensures maps_limit { maps_limit result ≡ Some (data_limit pages) }
+    {
+        log.restart(1 - area, next);
+        LogJournal {
+            log,
+            disk,
+            pages,
+            saved,
+            area,
+        }
+    }
+
     /// The disk.
     pub fn disk(&self) -> &D
         ensures { result.now ≡ disk_of self.now }

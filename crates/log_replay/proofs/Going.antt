@@ -1,5 +1,5 @@
 -- One record after another.
-use Rattle.std.proofs.Common.{◌≡◌, ℕ, suc, ◌+◌, ◌<◌, List, [], ◌∷◌, length, get_or, drop, Option, refl, sym, ap, subst, ◌∙◌, inr, add-one, drop-cons}
+use Rattle.std.proofs.Common.{◌≡◌, ℕ, suc, ◌+◌, ◌^◌, ◌<◌, List, [], ◌∷◌, length, get_or, drop, Option, refl, sym, ap, subst, ◌∙◌, inr, arith, add-one, drop-cons}
 use Rattle.iv_types.specs.Maps.{Map}
 use Rattle.iv_meaning.specs.Schema.{Schema}
 use Rattle.iv_meaning.specs.Objects.{schema_of}
@@ -27,8 +27,8 @@ use Rattle.log_replay.proofs.Through.{carried_breaks, further_breaks, said_known
 stands_as : (objects : Schema) (s : Scanned) (o : _) (n : ℕ) → n ≡ s.number → StandsFor objects (record { number = s.number; entry = s.entry }) o → StandsFor objects (record { number = n; entry = s.entry }) o
 stands_as objects s o n e h = subst (λ m. StandsFor objects (record { number = m; entry = s.entry }) o) (sym e) h
 
-pub carried_comes : (at : ℕ) (objects : Schema) (s : Scanned) (r : Placed) (head : Head) → head.place ≡ at + s.place → head.number ≡ s.number → IsCarriedAt at objects s r → Comes objects head s.entry r
-carried_comes at objects s r head place number is = record { place = is.place ∙ sym place; stands_for = stands_as objects s r.entry head.number number is.stands_for }
+pub carried_comes : (at : ℕ) (objects : Schema) (s : Scanned) (r : Placed) (head : Head) → (at + s.place < 2 ^ 64 → head.place ≡ at + s.place) → head.number ≡ s.number → IsCarriedAt at objects s r → Comes objects head s.entry r
+carried_comes at objects s r head place number is = record { place = is.place ∙ sym (place (let low = is.low in let same = is.place in omega (arith, low, same))); stands_for = stands_as objects s r.entry head.number number is.stands_for }
 
 module _ {M : Type 0} (maps : M → ℕ → Map) (limit : M → Option ℕ) where
   -- ---- carried records
@@ -66,11 +66,11 @@ module _ {M : Type 0} (maps : M → ℕ → Map) (limit : M → Option ℕ) wher
     abbrev x : Past
     x = going p first ds on.rs on.es
 
-    pub further_comes : (head : Head) → head.place ≡ at + s.place → head.number ≡ s.number → Comes (left_by x).db.schema head s.entry on.rest.0
+    pub further_comes : (head : Head) → (at + s.place < 2 ^ 64 → head.place ≡ at + s.place) → head.number ≡ s.number → Comes (left_by x).db.schema head s.entry on.rest.0
     further_comes head place number =
         let leads : LeadTo p.db.schema (known on.rs) (left_by x).db.schema
         = subst (LeadTo p.db.schema (known on.rs)) (sym (schema_is x)) (said_leads p.db.schema (known on.rs) on.es (said_known p first ds on.rs on.es on.replayed.passed.events)) in
-        record { place = on.rest.1.place ∙ sym place; stands_for = stands_as (left_by x).db.schema s on.rest.0.entry head.number number (on.rest.1.stands_for (left_by x).db.schema leads) }
+        record { place = on.rest.1.place ∙ sym (place (let low = on.rest.1.low in let same = on.rest.1.place in omega (arith, low, same))); stands_for = stands_as (left_by x).db.schema s on.rest.0.entry head.number number (on.rest.1.stands_for (left_by x).db.schema leads) }
 
     pub go_more : Tells maps limit now x on.rest.0 Passed → GoesOn now at p first ds ss all
     go_more told = record { rs = on.rest.0 ∷ on.rs; es = told.0 ∷ on.es; replayed = told.2; rest = on.rest.2 }

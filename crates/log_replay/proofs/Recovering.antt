@@ -68,13 +68,13 @@ module _ (at redo : ℕ) (records : List Scanned) (i : PlacedImage) (scanned : A
   carry_to =
       subst (λ (ss : List Scanned). CarryTo at i.pages.db.schema [] ss i.carried)
       (sym (ap (λ n. take n records) so_many ∙ (ap (λ (ss : List Scanned). take (length scanned.first) ss) scanned.split ∙ take_first scanned.first scanned.others)))
-      (carried_to at i.pages.db.schema scanned.first i.carried scanned.carried)
+      (carried_to at i.pages.db.schema scanned.first i.carried scanned.carried scanned.carried_on)
 
   pub go_to : GoTo at i.pages.db.schema [] (drop (count_before redo records) records) i.after
   go_to =
       subst (λ (ss : List Scanned). GoTo at i.pages.db.schema [] ss i.after)
       (sym (ap (λ n. drop n records) so_many ∙ (ap (λ (ss : List Scanned). drop (length scanned.first) ss) scanned.split ∙ drop_first scanned.first scanned.others)))
-      (further_to at i.pages.db.schema scanned.others i.after scanned.after)
+      (further_to at i.pages.db.schema scanned.others i.after scanned.after scanned.after_on)
 
 -- ---- what is told
 

@@ -14,6 +14,7 @@ use Rattle.record_replay.specs.Standing.{Has, HasReplayed}
 use Rattle.record_replay.specs.declared.answer.Replayed.{Replayed}
 use Rattle.record_replay.specs.declared.answer.Replayed.TheVariants.{Passed, Broken}
 use Rattle.record_replay.specs.declared.replay.Replay.{Replay}
+use Rattle.log_replay.specs.Through.{AreOnDevice}
 
 -- so many of these stand before the redo place, up to the first that does not
 abbrev pub count_before : ℕ → List Scanned → ℕ
@@ -30,6 +31,8 @@ pub record AreScanned (at redo : ℕ) (records : List Scanned) (i : PlacedImage)
   pub behind : All (λ s. redo ≤ s.place) others
   pub carried : AreCarriedAt at i.pages.db.schema i.carried (reverse first)
   pub after : AreFurtherAt at i.pages.db.schema i.after (reverse others)
+  pub carried_on : AreOnDevice i.carried
+  pub after_on : AreOnDevice i.after
 
 module _ {M : Type 0} (maps : M → ℕ → Map) (limit : M → Option ℕ) where
   -- an image of which no record is replayed yet, with these records

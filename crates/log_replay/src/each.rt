@@ -1,6 +1,5 @@
 //! Records one after another.
-ghost use Rattle.std.specs.Prelude.{◌≡◌, ◌+◌, ◌<◌, ◌^◌, List, [], IfOk};
-ghost use Rattle.std.specs.List.{All};
+ghost use Rattle.std.specs.Prelude.{◌≡◌, List, [], IfOk};
 ghost use Rattle.txn_log.specs.Replay.{Deed, Pages};
 ghost use Rattle.txn_log.specs.Refused.{Placed};
 ghost use Rattle.record_replay.specs.Past.{Past, carrying};
@@ -25,7 +24,6 @@ pub(crate) fn carry_each<M: SortedMaps>(
     records: &[Scanned],
 ) -> Result<Replayed, NoMemory>
     requires begins { (p : Pages) × HasReplayed M.maps M.limit replay.old (carrying p [] []) }
-    requires places { All (λ s. area + s.place < 2 ^ 64) records.now }
     ensures told { IfOk result (λ answer. (p : Pages) → HasReplayed M.maps M.limit replay.old (carrying p [] [])
         → (all : List Placed) → CarryTo area p.db.schema [] records.now all → TellsEachCarried M.maps M.limit replay.new p all answer) }
     ensures some { IfOk result (λ answer. answer ≡ Passed → (p : Pages) × (first : List Placed) × (ds : List Deed) × HasReplayed M.maps M.limit replay.new (carrying p first ds)) }
@@ -51,7 +49,6 @@ pub(crate) fn follow_each<M: SortedMaps>(
     records: &[Scanned],
 ) -> Result<Replayed, NoMemory>
     requires begins { (p : Pages) × (first : List Placed) × (ds : List Deed) × HasReplayed M.maps M.limit replay.old (carrying p first ds) }
-    requires places { All (λ s. area + s.place < 2 ^ 64) records.now }
     ensures told { IfOk result (λ answer. (p : Pages) (first : List Placed) (ds : List Deed) → HasReplayed M.maps M.limit replay.old (carrying p first ds)
         → (all : List Placed) → GoTo area p.db.schema [] records.now all → TellsEach M.maps M.limit replay.new p first ds all answer) }
     ensures some { IfOk result (λ answer. answer ≡ Passed → (x : Past) × HasReplayed M.maps M.limit replay.new x) }

@@ -1,11 +1,10 @@
 //! The records of an image.
-ghost use Rattle.std.specs.Prelude.{◌≡◌, ◌+◌, ◌<◌, ◌^◌, ℕ, [], Ok, OnOk};
-ghost use Rattle.std.specs.List.{All};
+ghost use Rattle.std.specs.Prelude.{◌≡◌, ℕ, [], Ok, OnOk};
 ghost use Rattle.txn_log.specs.Replay.{Pages};
 ghost use Rattle.txn_log.specs.Refused.{PlacedImage, BadImage, IsRefused};
 ghost use Rattle.image_finding.specs.Faults.{IfBad, FindFaults};
 ghost use Rattle.record_replay.specs.Past.{carrying};
-ghost use Rattle.record_replay.specs.Standing.{HasReplayed};
+ghost use Rattle.record_replay.specs.Standing.{Has, HasReplayed};
 ghost use Rattle.record_replay.specs.declared.answer.Replayed.TheVariants.{Passed, Broken};
 ghost use Rattle.log_replay.specs.Told.{IsImageOf, IsRecovered};
 
@@ -44,9 +43,10 @@ pub fn replay_records<M: SortedMaps>(
     records: &[Scanned],
 ) -> Result<(), FindFault>
     requires begins { (p : Pages) × HasReplayed M.maps M.limit replay.old (carrying p [] []) }
-    requires places { All (λ s. area + s.place < 2 ^ 64) records.now }
     // The store has what is recovered.
     ensures recovered { OnOk result ((i : PlacedImage) → IsImageOf M.maps M.limit area redo records.now replay.old i → IsRecovered M.maps M.limit replay.new i) }
+    // It has some pages, whatever the records stand for.
+    ensures some { OnOk result ((p : Pages) × Has M.maps M.limit replay.new.store p) }
     // The rule and the place that are told are those for which the image is refused.
     ensures refused { IfBad result (λ bad. (i : PlacedImage) → IsImageOf M.maps M.limit area redo records.now replay.old i → IsRefused i (BadImage bad.rule bad.place)) }
     // Nothing else of the store is changed.

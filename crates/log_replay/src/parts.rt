@@ -5,14 +5,13 @@ ghost use Rattle.log_replay.specs.Told.{count_before};
 use log_records::Scanned;
 use record_replay::Head;
 
-/// The head of a record in an area that begins at this place of the device.
+/// The head of a record in an area that begins at this place of the device. A device has fewer than 2^64 bytes.
 pub(crate) fn head_of(area: u64, scanned: &Scanned) -> Head
-    requires { area + scanned.now.place < 2 ^ 64 }
-    ensures place { result.place ≡ area + scanned.now.place }
+    ensures place { area + scanned.now.place < 2 ^ 64 → result.place ≡ area + scanned.now.place }
     ensures number { result.number ≡ scanned.now.number }
 {
     Head {
-        place: area + scanned.place,
+        place: area.saturating_add(scanned.place),
         number: scanned.number,
     }
 }

@@ -7,22 +7,18 @@ use Rattle.table_laws.specs.Place.{Place}
 use Rattle.table_laws.specs.Table.{write}
 use Rattle.iv_types.specs.Maps.{Map}
 use Rattle.iv_meaning.specs.Schema.{Schema, Object}
-use Rattle.iv_meaning.specs.Objects.{schema_of}
 use Rattle.txn_machine.specs.Records as log
 use Rattle.iv_meaning.specs.Database.{Rows}
 use Rattle.txn_machine.specs.Stored.{ViewRows, zeros}
-use Rattle.txn_log.specs.Replay.{What, Deed, Ghost, Clean, Undo, Commit, Abort, Defined, Stored, apply, survives, spares, find, undo_found, keep_where, own}
+use Rattle.txn_log.specs.Replay.{What, Deed, Ghost, Clean, Undo, Commit, Abort, Defined, Stored, survives, spares, find, undo_found, keep_where, own}
 use Rattle.txn_log.specs.Fitting.{InRange, BackFits, Stands, IsKnown, IsGroup, CarriedBelow}
-use Rattle.txn_log.specs.Appended.{Numbered, Creates}
+use Rattle.txn_log.specs.Appended.{Numbered}
 use Rattle.txn_log.specs.Refused.{Placed, Anyhow, BackAnyhow, Untried, most_number, place_by, fails_at, Passes, BreaksBy}
 use Rattle.txn_log.specs.Reversals.{BreaksBack}
 use Rattle.txn_log.proofs.Finding.{by_number}
 use Rattle.log_records.specs.declared.record.Record.TheVariants as bytes
 use Rattle.data_store.specs.declared.store.DataStore.{DataStore}
 use Rattle.group_replay.specs.Closed.{IsClosed, with_view, HasZeros}
-use Rattle.image_catalog.specs.Texts.{AreMade}
-use Rattle.definition_replay.specs.Replaying.{CanReplay, IsReplayed, IsNoneAccepted}
-use Rattle.ghost_rows.specs.State.{State}
 use Rattle.record_reading.specs.Groups.{IsGroupOf}
 use Rattle.image_finding.specs.declared.fault.BadImage.{BadImage}
 use Rattle.live_records.specs.declared.kept.LiveRecords.{LiveRecords}
@@ -32,15 +28,16 @@ use Rattle.record_replay.specs.declared.answer.Head.{Head}
 use Rattle.record_replay.specs.declared.answer.Replayed.{Replayed}
 use Rattle.record_replay.specs.declared.answer.Replayed.TheVariants.{Passed, Broken}
 use Rattle.record_replay.specs.declared.replay.Replay.{Replay}
-use Rattle.record_replay.specs.Past.{Past, left_by, pages_in, Comes}
-use Rattle.record_replay.specs.Standing.{contents_of, Has, Keeps, AreLive, HasReplayed}
-use Rattle.record_replay.specs.Telling.{TellsBack, Tells}
+use Rattle.record_replay.specs.Past.{Past, left_by, pages_in, with_defined, Comes}
+use Rattle.record_replay.specs.Standing.{Has, Keeps, AreLive, HasReplayed}
+use Rattle.record_replay.specs.Telling.{TellsBack, DefinesOne, Defines, Tells}
 use Rattle.record_replay.proofs.Lists.{found_below, below_weaker, same_latest, keep_below, keep_fall, keep_each, each_found}
 use Rattle.record_replay.proofs.Live.{is_found, keeps_still, keeps_without, keeps_ended, latest_is, none_own}
 use Rattle.record_replay.proofs.Passing.{refused, accepted, is_this}
 use Rattle.record_replay.proofs.Saying.{says_ghost, says_clean, says_undo, says_commit, says_abort, says_defined}
 use Rattle.record_replay.proofs.Sound.{stored_with, zeros_length, all_known}
-use Rattle.record_replay.proofs.Standing.{live_later, same_ended, has_view, objects_are, one_more, below_it, lives, has_gone}
+use Rattle.record_replay.proofs.Standing.{live_later, same_ended, has_view, has_number, one_more, below_it, lives, has_gone}
+use Rattle.record_replay.proofs.Texts.{told_in}
 
 -- a group that was read
 pub a_group : (objects : Schema) (place : Place) (found : Option ℕ) → is_none found ≡ false → IfSome found (IsGroupOf objects place) → IsGroup objects place
@@ -73,14 +70,6 @@ module _ {M : Type 0} (maps : M → ℕ → Map) (limit : M → Option ℕ) (old
   pub latest_known : (t : ℕ) (q : LiveRecord) → IsLatest old.live t q → IsKnown s.db.schema (what_of q.change)
   latest_known t q latest =
       each_found (IsKnown s.db.schema) t q.number s.live (deed_of q) is.live.known (is_found old.live (x.after ++ x.first) s.live is.kept t q.number q latest.kept)
-
-  -- the store is one on which definitions are replayed
-  pub can_replay : CanReplay old.store.catalog (maps old.store.tables) old.store.views (contents_of (pages_in s))
-  can_replay = record { readable = record { held = is.store.closed.held; stored = is.store.stored }; sound = is.store.sound; unkept = λ session. refl }
-
-  -- a commit number changes nothing that is stored
-  has_number : (new : DataStore M) (n : ℕ) → Has maps limit new (pages_in s) → Has maps limit new (record { db = record s.db { number = n }; view = s.view })
-  has_number new n h = record { made = h.made; closed = h.closed; stored = h.stored; sound = h.sound; unlimited = h.unlimited }
 
   module _ (head : Head) (up : old.next ≤ head.number) (small : head.number ≤ most_number) (r : Placed) where
     below_head : CarriedBelow head.number s.live
@@ -117,7 +106,7 @@ module _ {M : Type 0} (maps : M → ℕ → Map) (limit : M → Option ℕ) (old
             (refl, g.0.of, g.0.view_is, ap suc g.1) (g.0, none) (below_it maps limit old x is head.number up) small
 
         pub ghost_more : (new : Replay M) (sums : ℕ) → IsGroupOf s.db.schema (v, group) sums → get s.view (v, group) ≡ None
-            → IsClosed new.store.catalog (maps new.store.tables) new.store.views (with_view (contents_of (pages_in s)) (write s.view (v, group) (Some (zeros (suc sums)))))
+            → IsClosed new.store.catalog (maps new.store.tables) new.store.views (with_view (told_in maps old.store (pages_in s)) (write s.view (v, group) (Some (zeros (suc sums)))))
             → new.store.catalog ≡ old.store.catalog → limit new.store.tables ≡ limit old.store.tables → new.live ≡ old.live → new.next ≡ head.number + 1 → new.commits ≡ old.commits → Tells maps limit new x r Passed
         ghost_more new sums g none closed same unlimited live next commits =
             one_more maps limit old x is new r (Ghost head.number (v, group) (suc sums)) head.number (ghost_passes sums g none) refl up small
@@ -146,7 +135,7 @@ module _ {M : Type 0} (maps : M → ℕ → Map) (limit : M → Option ℕ) (old
             refl (g, zeros_there.0, zeros_there.1) (below_it maps limit old x is head.number up) small
 
         pub clean_more : (new : Replay M) → IsGroup s.db.schema (v, group) → HasZeros s.view (v, group)
-            → IsClosed new.store.catalog (maps new.store.tables) new.store.views (with_view (contents_of (pages_in s)) (write s.view (v, group) None))
+            → IsClosed new.store.catalog (maps new.store.tables) new.store.views (with_view (told_in maps old.store (pages_in s)) (write s.view (v, group) None))
             → new.store.catalog ≡ old.store.catalog → limit new.store.tables ≡ limit old.store.tables → new.live ≡ old.live → new.next ≡ head.number + 1 → new.commits ≡ old.commits → Tells maps limit new x r Passed
         clean_more new g zeros_there closed same unlimited live next commits =
             one_more maps limit old x is new r (Clean head.number (v, group)) head.number (clean_passes g zeros_there) refl up small
@@ -257,7 +246,7 @@ module _ {M : Type 0} (maps : M → ℕ → Map) (limit : M → Option ℕ) (old
             (accepted x head (bytes.Commit t k session) r comes (log.Commit t k session) (Commit head.number t k) tt refl (session, refl)
             (lives maps limit old x is t head.number up open_still, next_commit ∙ ap (λ n. n + 1) is.commits) (below_it maps limit old x is head.number up) small)
             refl up small
-            (subst (λ (store : DataStore M). Has maps limit store (record { db = record s.db { number = k }; view = s.view })) (sym same) (has_number old.store k is.store))
+            (subst (λ (store : DataStore M). Has maps limit store (record { db = record s.db { number = k }; view = s.view })) (sym same) (has_number maps limit old.store (pages_in s) k is.store))
             (keeps_ended (x.after ++ x.first) r (record { number = head.number; of = log.Commit t k session }) (is_this s.db.schema head (bytes.Commit t k session) r comes (log.Commit t k session) tt refl)
             (spares (Commit head.number t k)) old.live new.live s.live t (λ u n. refl) is.kept below_head ends)
             (live_where (spares (Commit head.number t k)) s.db.schema old.next head.number s.live up is.live)
@@ -290,35 +279,19 @@ module _ {M : Type 0} (maps : M → ℕ → Map) (limit : M → Option ℕ) (old
           let defined = says_defined s.db.schema m k session text e says fields in
           differs ((subst (λ f. Stands Anyhow Untried s x.events f) defined.1 stands).0 ∙ ap (λ n. n + 1) (sym is.commits)))
 
-      pub define_none : IsNoneAccepted old.store.catalog (maps old.store.tables) old.store.views text → Breaks 13 head.place r
-      define_none none = refused x head (bytes.Schema k session text) r comes (λ m e number fields says stands below few.
+      pub define_none : (new : DataStore M) → Defines maps limit new (pages_in s) text false → Breaks 13 head.place r
+      define_none new none = refused x head (bytes.Schema k session text) r comes (λ m e number fields says stands below few.
           let defined = says_defined s.db.schema m k session text e says fields in
-          none defined.0 (subst (λ objects. Creates objects text defined.0) (sym (objects_are maps limit old.store (pages_in s) is.store)) defined.2)
-          (contents_of (pages_in s)) can_replay s.db.number (subst (λ f. Stands Anyhow Untried s x.events f) defined.1 stands).1)
+          none defined.0 defined.2 (subst (λ f. Stands Anyhow Untried s x.events f) defined.1 stands).1)
 
-      pub define_more : (new : Replay M) → k ≡ old.commits + 1 → IsReplayed old.store.catalog new.store.catalog (maps old.store.tables) (maps new.store.tables) old.store.views text
-          → AreMade (schema_of new.store.catalog) → new.store.views ≡ old.store.views → limit new.store.tables ≡ limit old.store.tables → new.live ≡ old.live → new.next ≡ head.number + 1 → new.commits ≡ k
-          → Tells maps limit new x r Passed
-      define_more new next_commit replayed made views unlimited live next commits =
-          let objects : schema_of old.store.catalog ≡ s.db.schema = objects_are maps limit old.store (pages_in s) is.store in
-          let o : Object = replayed.object in
-          let creates : Creates s.db.schema text o = subst (λ os. Creates os text o) objects replayed.creates in
-          let has = replayed.has (contents_of (pages_in s)) can_replay in
+      pub define_more : (new : Replay M) → k ≡ old.commits + 1 → DefinesOne maps limit new.store (pages_in s) text → new.live ≡ old.live → new.next ≡ head.number + 1 → new.commits ≡ k → Tells maps limit new x r Passed
+      define_more new next_commit one live next commits =
+          let o : Object = one.object in
           one_more maps limit old x is new r (Defined head.number k o) head.number
-          (accepted x head (bytes.Schema k session text) r comes (log.Definition k session text) (Defined head.number k o) tt refl (session, text, refl, creates)
-          (next_commit ∙ ap (λ n. n + 1) is.commits, replayed.accepted (contents_of (pages_in s)) can_replay s.db.number) (below_it maps limit old x is head.number up) small)
+          (accepted x head (bytes.Schema k session text) r comes (log.Definition k session text) (Defined head.number k o) tt refl (session, text, refl, one.creates)
+          (next_commit ∙ ap (λ n. n + 1) is.commits, one.accepted) (below_it maps limit old x is head.number up) small)
           refl up small
-          (record {
-            made = made;
-            closed = record {
-              held = subst (λ state. Rattle.data_store.specs.Held.IsHeld new.store.catalog (maps new.store.tables) state (contents_of (pages_in (apply (Defined head.number k o) s)))) (sym views) has.readable.held;
-              closed = ap (λ (state : State). state.rows) views ∙ is.store.closed.closed;
-              unkept = λ session. refl;
-            };
-            stored = has.readable.stored;
-            sound = has.sound;
-            unlimited = unlimited ∙ is.store.unlimited;
-          })
+          (has_number maps limit new.store (with_defined o (pages_in s)) k one.has)
           (still_kept (record { number = head.number; of = log.Definition k session text }) (is_this s.db.schema head (bytes.Schema k session text) r comes (log.Definition k session text) tt refl) refl new live)
           (record {
             known = all_known s.db.schema s.db.rows o is.store.sound s.live is.live.known;

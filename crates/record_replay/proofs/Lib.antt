@@ -4,6 +4,8 @@ pub mod Saying
 pub mod Sound
 pub mod Passing
 pub mod Orders
+pub mod Texts
 pub mod Standing
+pub mod Defined
 pub mod EachKind
 pub mod Changed

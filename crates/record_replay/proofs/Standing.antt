@@ -24,12 +24,13 @@ use Rattle.record_replay.specs.declared.answer.Replayed.TheVariants.{Passed}
 use Rattle.record_replay.specs.declared.answer.Tried.TheVariants.{Done, Misfit, OutOfRange}
 use Rattle.record_replay.specs.declared.replay.Replay.{Replay}
 use Rattle.record_replay.specs.Past.{Past, carrying, left_by, pages_in, with_rows_of, Comes}
-use Rattle.record_replay.specs.Standing.{contents_of, Has, Keeps, AreLive, HasReplayed}
+use Rattle.record_replay.specs.Standing.{Has, Keeps, AreLive, HasReplayed}
 use Rattle.record_replay.specs.Telling.{Reads, ReadsNone, IsRecordOf, Does, Tells}
 use Rattle.record_replay.proofs.Lists.{below_weaker}
 use Rattle.record_replay.proofs.Live.{keeps_more}
 use Rattle.record_replay.proofs.Passing.{refused, read_is, is_record, next_more, next_carried}
 use Rattle.record_replay.proofs.Saying.{says_kept, says_deed}
+use Rattle.record_replay.proofs.Texts.{told_in, untold_closed, texts_stay}
 
 -- what transactions keep may be followed by a later number
 pub live_later : (objects : Schema) (a b : ℕ) (xs : List Deed) → a ≤ b → AreLive objects a xs → AreLive objects b xs
@@ -46,14 +47,19 @@ same_ended old new e t = ap (λ es. Rattle.std.specs.BTreeSet.contains Rattle.st
 module _ {M : Type 0} (maps : M → ℕ → Map) (limit : M → Option ℕ) where
   -- other rows of views
   pub has_view : (old new : DataStore M) (p : Pages) (rows : ViewRows) → Has maps limit old p → new.catalog ≡ old.catalog → limit new.tables ≡ limit old.tables
-      → IsClosed new.catalog (maps new.tables) new.views (with_view (contents_of p) rows) → AreStored p.db.schema rows → Has maps limit new (record { db = p.db; view = rows })
+      → IsClosed new.catalog (maps new.tables) new.views (with_view (told_in maps old p) rows) → AreStored p.db.schema rows → Has maps limit new (record { db = p.db; view = rows })
   has_view old new p rows h same limited closed stored = record {
     made = subst (λ ds. Rattle.image_catalog.specs.Texts.AreMade (Rattle.iv_meaning.specs.Objects.schema_of ds)) (sym same) h.made;
-    closed = closed;
+    closed = untold_closed new.catalog (maps new.tables) new.views (with_view (told_in maps old p) rows) closed;
     stored = stored;
     sound = h.sound;
     unlimited = limited ∙ h.unlimited;
+    texts = texts_stay (maps old.tables 0) (maps new.tables 0) old.catalog new.catalog p.db.schema closed.held.texts same h.texts;
   }
+
+  -- a commit number changes nothing that is stored
+  pub has_number : (store : DataStore M) (p : Pages) (n : ℕ) → Has maps limit store p → Has maps limit store (record { db = record p.db { number = n }; view = p.view })
+  has_number store p n h = record { made = h.made; closed = h.closed; stored = h.stored; sound = h.sound; unlimited = h.unlimited; texts = h.texts }
 
   pub objects_are : (store : DataStore M) (p : Pages) → Has maps limit store p → Rattle.iv_meaning.specs.Objects.schema_of store.catalog ≡ p.db.schema
   objects_are store p h = h.closed.held.objects

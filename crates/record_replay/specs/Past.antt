@@ -1,9 +1,11 @@
 -- No clause of `run` rests on this module: it serves contracts between crates.
 --
 -- The records of an image that were replayed so far. Lists of records have the latest first.
-use Rattle.std.specs.Prelude.{◌≡◌, List, [], ◌∷◌}
-use Rattle.iv_meaning.specs.Schema.{Schema}
+use Rattle.std.specs.Prelude.{◌≡◌, List, [], ◌∷◌, ◌++◌}
+use Rattle.iv_meaning.specs.Schema.{Schema, Object}
+use Rattle.txn_machine.specs.Fresh.{made_of}
 use Rattle.txn_machine.specs.Records.{Record}
+use Rattle.txn_machine.specs.Stored.{add_all}
 use Rattle.txn_log.specs.Replay.{What, Deed, Event, Pages, Stored, rows_with, view_with, rows_without, view_without, replay, on_pages}
 use Rattle.txn_log.specs.Refused.{Placed, CarriedAs, SaidAs}
 use Rattle.log_records.specs.declared.record.Record as bytes
@@ -49,7 +51,7 @@ pub record Comes (objects : Schema) (head : Head) (fields : bytes.Record) (r : P
   pub place : r.place ≡ head.place
   pub stands_for : StandsFor objects (record { number = head.number; entry = fields }) r.entry
 
--- ---- what a Write or a Delta does to rows
+-- ---- what records do to pages
 
 abbrev pub pages_in : Stored → Pages
 pages_in s = record { db = s.db; view = s.view }
@@ -59,6 +61,13 @@ with_what w p = record { db = record p.db { rows = rows_with w p.db.rows }; view
 
 abbrev pub without_what : What → Pages → Pages
 without_what w p = record { db = record p.db { rows = rows_without w p.db.rows }; view = view_without w p.view }
+
+-- one object is defined, and a view has its rows
+abbrev pub with_defined : Object → Pages → Pages
+with_defined o p = record {
+  db = record p.db { schema = p.db.schema ++ o ∷ [] };
+  view = add_all p.view (made_of (p.db.schema ++ o ∷ []) p.db.rows o);
+}
 
 -- a carried Write sets its row, a carried Delta is in the pages
 abbrev pub with_rows_of : What → Pages → Pages

@@ -1,12 +1,12 @@
 -- No clause of `run` rests on this module: it serves contracts between crates.
 --
 -- What is answered of a record.
-use Rattle.std.specs.Prelude.{◌≡◌, ℕ, List, ◌∷◌, Option, Some}
+use Rattle.std.specs.Prelude.{◌≡◌, ℕ, Bool, true, false, List, ◌∷◌, Option, Some}
 use Rattle.iv_types.specs.Maps.{Map}
-use Rattle.iv_meaning.specs.Schema.{Schema}
+use Rattle.iv_meaning.specs.Schema.{Schema, Object}
 use Rattle.txn_log.specs.Replay.{What, Deed, Event, Pages, Stored, reversed}
-use Rattle.txn_log.specs.Fitting.{InRange, WhatStands, BackFits, IsKnown, AllBack}
-use Rattle.txn_log.specs.Appended.{what_record, written}
+use Rattle.txn_log.specs.Fitting.{InRange, WhatStands, BackFits, IsKnown, IsAccepted, AllBack}
+use Rattle.txn_log.specs.Appended.{what_record, written, Creates}
 use Rattle.txn_log.specs.Refused.{Placed, Anyhow, BackAnyhow, place_by, CarriedStands, Passes, BreaksBy, BackBreaks}
 use Rattle.txn_log.specs.Reversals.{BreaksBack}
 use Rattle.log_records.specs.declared.record.Record as bytes
@@ -14,7 +14,7 @@ use Rattle.log_disk.specs.Spelled.{in_bytes}
 use Rattle.data_store.specs.declared.store.DataStore.{DataStore}
 use Rattle.live_records.specs.declared.record.LiveRecord.{LiveRecord}
 use Rattle.live_records.specs.Live.{what_of, deed_of}
-use Rattle.record_replay.specs.Past.{Past, pages_in, with_what, without_what, carrying, with_record}
+use Rattle.record_replay.specs.Past.{Past, pages_in, with_what, without_what, with_defined, carrying, with_record}
 use Rattle.record_replay.specs.Standing.{Has, HasReplayed}
 use Rattle.record_replay.specs.declared.answer.Head.{Head}
 use Rattle.record_replay.specs.declared.answer.Replayed.{Replayed}
@@ -58,6 +58,18 @@ module _ {M : Type 0} (maps : M → ℕ → Map) (limit : M → Option ℕ) wher
   abbrev pub TellsBack : DataStore M → LiveRecord → Stored → Replayed → Type 0
   TellsBack new q s Passed = BackFits s.db.rows s.view (what_of q.change) × Has maps limit new (without_what (what_of q.change) (pages_in s))
   TellsBack new q s (Broken bad) = (bad.place ≡ q.place) × BreaksBack bad.rule s.db.rows s.view (what_of q.change)
+
+  -- a text makes an object that is accepted beside these pages, and the store has it with them
+  pub record DefinesOne (new : DataStore M) (p : Pages) (text : List ℕ) : Type 0 where
+    pub object : Object
+    pub creates : Creates p.db.schema text object
+    pub accepted : IsAccepted p.db object
+    pub has : Has maps limit new (with_defined object p)
+
+  -- it does, or it makes none that is accepted
+  abbrev pub Defines : DataStore M → Pages → List ℕ → Bool → Type 0
+  Defines new p text true = DefinesOne new p text
+  Defines new p text false = (o : Object) → Creates p.db.schema text o → IsAccepted p.db o → ⊥
 
   -- ---- records one after another
 

@@ -1,15 +1,34 @@
 //! Definitions.
-ghost use Rattle.std.specs.Prelude.{◌≡◌, ◌≤◌, ℕ, IfOk};
+ghost use Rattle.std.specs.Prelude.{◌≡◌, ◌≤◌, ℕ, false, IfOk};
+ghost use Rattle.txn_log.specs.Replay.{Pages};
 ghost use Rattle.txn_log.specs.Refused.{Placed, most_number};
 ghost use Rattle.log_records.specs.declared.record.Record.TheVariants.{Schema};
 ghost use Rattle.record_replay.specs.Past.{Past, left_by, Comes};
-ghost use Rattle.record_replay.specs.Standing.{HasReplayed};
-ghost use Rattle.record_replay.specs.Telling.{Tells};
+ghost use Rattle.record_replay.specs.Standing.{Has, HasReplayed};
+ghost use Rattle.record_replay.specs.Telling.{Defines, Tells};
 
 use crate::answer::{Head, Replayed, misfit};
 use crate::replay::Replay;
+use data_store::DataStore;
 use definition_replay::replay_definition;
+use image_catalog::put_next_text;
 use iv_types::{NoMemory, SortedMaps};
+
+// Defines the object that a text makes, if it is accepted beside what stands there, and puts the text behind those before it. Answers
+// whether it is.
+fn define_text<M: SortedMaps>(store: &mut DataStore<M>, text: &[u8]) -> Result<bool, NoMemory>
+    requires has { (p : Pages) × Has M.maps M.limit store.old p }
+    ensures told { IfOk result (λ defines. (p : Pages) → Has M.maps M.limit store.old p → Defines M.maps M.limit store.new p text.now defines) }
+    ensures untouched { IfOk result (λ defines. defines ≡ false → store.new ≡ store.old) }
+    ensures rest { store.new ≡ record store.old { catalog = store.new.catalog; tables = store.new.tables } }
+{
+    let number = store.catalog.next_number();
+    if !replay_definition(store, text)? {
+        return Ok(false);
+    }
+    put_next_text(store.alloc, store.tables.maps_mut(), number, text)?;
+    Ok(true)
+}
 
 impl<M: SortedMaps> Replay<M> {
     /// Replays a definition.
@@ -31,7 +50,7 @@ impl<M: SortedMaps> Replay<M> {
         if !self.is_next(commit) {
             return Ok(misfit(head.place));
         }
-        if !replay_definition(&mut self.store, text)? {
+        if !define_text(&mut self.store, text)? {
             return Ok(misfit(head.place));
         }
         self.commits = commit;

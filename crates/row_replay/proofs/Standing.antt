@@ -26,7 +26,7 @@ use Rattle.data_store.specs.Contents.{Contents}
 use Rattle.data_store.specs.Held.{IsHeld}
 use Rattle.data_store.proofs.Finding.{table_is}
 use Rattle.data_changes.proofs.Frames.{rows_changed, views_stay, unused_stay}
-use Rattle.core_effects.proofs.Entries.{each_held}
+use Rattle.data_room.proofs.Entries.{each_held}
 use Rattle.row_replay.specs.Exchanged.{AreRowsUnder, with_rows}
 
 -- rows of the same bytes are the same

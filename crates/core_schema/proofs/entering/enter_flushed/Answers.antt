@@ -11,11 +11,10 @@ use Rattle.data_store.specs.declared.store.DataStore.{DataStore}
 use Rattle.iv_types.specs.Printing.{statement_text}
 use Rattle.iv_meaning.specs.Objects.{object_of}
 use Rattle.table_store.specs.Filling.{filled}
-use Rattle.definition_parts.specs.Parts.{parts_map, part_entries, CanPutText}
+use Rattle.definition_parts.specs.Parts.{parts_map, part_entries, CanPutText, HasTexts}
 use Rattle.data_defining.specs.Defining.{with_object}
 use Rattle.data_defining.proofs.Defined.{number_is}
 use Rattle.data_defining.proofs.Beside.{beside_held}
-use Rattle.core_state.specs.Stands.{HasTexts}
 use Rattle.core_state.proofs.Counted.{counted}
 use Rattle.core_state.proofs.Logged.{log_limit_of}
 use Rattle.core_schema.specs.Making.{with_catalog}

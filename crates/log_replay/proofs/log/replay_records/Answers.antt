@@ -27,6 +27,13 @@ returns-clause-recovered g c =
     let third = of_answer _ c.reverse.result Passed passed c.reverse.ensures.told (going maps limit i.pages i.carried first.0 i.after second.0) second.1 in
     is_recovered maps limit i c.follow_each.new.replay c.reverse.new.self first.0 second.0 second.1 third c.reverse.ensures.commits c.reverse.ensures.next) c.outcome-3.ensures.passed
 
+pub returns-clause-some : goal.returns-clause-some
+returns-clause-some g c =
+    once_ok c.outcome-3.result (λ passed.
+    let past = of_answer _ c.follow_each.result Passed c.in-Ok-outcome.ensures.passed c.follow_each.ensures.some refl in
+    let back = of_answer _ c.reverse.result Passed passed c.reverse.ensures.told past.0 past.1 in
+    (_, back.1)) c.outcome-3.ensures.passed
+
 pub returns-clause-refused : goal.returns-clause-refused
 returns-clause-refused g c =
     let maps = g.M.SortedMaps.maps in

@@ -4,6 +4,7 @@ use Rattle.group_replay.specs.Adding.{Tells}
 use Rattle.record_replay.specs.Past.{pages_in}
 use Rattle.record_replay.specs.Standing.{contents_of}
 use Rattle.record_replay.proofs.Changed.{limited, takes_add, no_row_back, out_back}
+use Rattle.record_replay.proofs.Texts.{told_in, told_closed}
 use Rattle.record_replay.proofs.changing.add_back.Goals as goal
 
 pub add_delta-requires-clause-limited : goal.add_delta-requires-clause-limited
@@ -15,7 +16,7 @@ pub returns-in-Added-clause-told : goal.returns-in-Added-clause-told
 returns-in-Added-clause-told g c = λ s h.
     takes_add g.M.SortedMaps.maps g.M.SortedMaps.limit c.args.store.now c.add_delta.new.store c.add_delta.ensures.limit s h c.args.delta.now c.requires.known c.add_delta.ensures.rest
     (subst (λ answer. Tells s.view (negated c.args.delta.now) answer) c.in-Added.is (c.in_ok-add_delta.ensures.told (contents_of (pages_in s)) h.closed))
-    (c.in_ok-add_delta.ensures.added c.in-Added.is (contents_of (pages_in s)) h.closed)
+    (c.in_ok-add_delta.ensures.added c.in-Added.is (told_in g.M.SortedMaps.maps c.args.store.now (pages_in s)) (told_closed g.M.SortedMaps.maps g.M.SortedMaps.limit c.args.store.now (pages_in s) h))
 
 pub returns-in-NoRow-clause-told : goal.returns-in-NoRow-clause-told
 returns-in-NoRow-clause-told g c = λ s h.

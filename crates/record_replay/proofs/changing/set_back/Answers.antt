@@ -2,6 +2,7 @@ use Rattle.txn_machine.specs.RowChanges.{row_change}
 use Rattle.record_replay.specs.Past.{pages_in}
 use Rattle.record_replay.specs.Standing.{contents_of}
 use Rattle.record_replay.proofs.Changed.{limited, takes_set}
+use Rattle.record_replay.proofs.Texts.{told_in, told_closed}
 use Rattle.record_replay.proofs.changing.set_back.Goals as goal
 
 pub set_row_back-requires-clause-limited : goal.set_row_back-requires-clause-limited
@@ -12,7 +13,7 @@ set_row_back-requires-clause-limited g c κs within =
 pub returns-then-branch-clause-told : goal.returns-then-branch-clause-told
 returns-then-branch-clause-told g c = λ s h.
     takes_set g.M.SortedMaps.maps g.M.SortedMaps.limit c.args.store.now c.set_row_back.new.store c.set_row_back.ensures.limit s h (row_change c.args.change.now) c.requires.known c.set_row_back.ensures.rest
-    (c.in_ok-set_row_back.ensures.stands c.if-branch.true (contents_of (pages_in s)) h.closed.held)
+    (c.in_ok-set_row_back.ensures.stands c.if-branch.true (told_in g.M.SortedMaps.maps c.args.store.now (pages_in s)) (told_closed g.M.SortedMaps.maps g.M.SortedMaps.limit c.args.store.now (pages_in s) h).held)
 
 pub returns-else-branch-clause-told : goal.returns-else-branch-clause-told
 returns-else-branch-clause-told g c = λ s h stands. c.in_ok-set_row_back.ensures.other c.if-branch.false (contents_of (pages_in s)) h.closed.held stands

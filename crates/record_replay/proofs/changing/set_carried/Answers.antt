@@ -6,8 +6,9 @@ use Rattle.iv_meaning.specs.Objects.{schema_of}
 use Rattle.live_records.specs.declared.record.LiveChange.{LiveChange}
 use Rattle.live_records.specs.Live.{what_of}
 use Rattle.record_replay.specs.Past.{with_rows_of}
-use Rattle.record_replay.specs.Standing.{contents_of, Has}
+use Rattle.record_replay.specs.Standing.{Has}
 use Rattle.record_replay.proofs.Changed.{limited, carries, once_ok}
+use Rattle.record_replay.proofs.Texts.{told_in, told_closed}
 use Rattle.record_replay.proofs.changing.set_carried.Goals as goal
 
 pub put_row-requires-clause-limited : goal.put_row-requires-clause-limited
@@ -23,4 +24,4 @@ returns-in-Wrote-clause-told g c =
     let new = c.put_row.new.store in
     let known = subst (λ (x : LiveChange). IsKnown (schema_of old.catalog) (what_of x)) c.in-Wrote.is c.requires.known in
     subst (λ (x : LiveChange). OnOk c.put_row.result ((p : Pages) → Has maps limit old p → Has maps limit new (with_rows_of (what_of x) p))) (sym c.in-Wrote.is)
-    (once_ok c.put_row.result (λ put p h. carries maps limit old new c.put_row.ensures.limit p (row_change c.in-Wrote.change) h known c.put_row.ensures.rest (put (contents_of p) h.closed.held)) c.put_row.ensures.put)
+    (once_ok c.put_row.result (λ put p h. carries maps limit old new c.put_row.ensures.limit p (row_change c.in-Wrote.change) h known c.put_row.ensures.rest (put (told_in maps old p) (told_closed maps limit old p h).held)) c.put_row.ensures.put)

@@ -11,6 +11,7 @@ use Rattle.record_replay.specs.Telling.{Tells}
 use Rattle.record_replay.proofs.Changed.{limited}
 use Rattle.record_replay.proofs.Standing.{objects_are}
 use Rattle.record_replay.proofs.EachKind.{ghost_there, ghost_more}
+use Rattle.record_replay.proofs.Texts.{told_in, told_closed}
 use Rattle.record_replay.proofs.replay.Replay.ghost_made.Goals as goal
 
 pub make_row-requires-clause-limited : goal.make_row-requires-clause-limited
@@ -32,8 +33,8 @@ returns-clause-told g c = λ x h r comes.
     let self = c.args.self.now in
     let maps = g.M.SortedMaps.maps in
     let limit = g.M.SortedMaps.limit in
-    let closed = h.store.closed in
-    let here = contents_of (pages_in (left_by x)) in
+    let here = told_in maps self.store (pages_in (left_by x)) in
+    let closed = told_closed maps limit self.store (pages_in (left_by x)) h.store in
     let group = subst (λ (o : Option _). IfSome o (λ sums. IsGroupOf (schema_of self.store.catalog) (c.args.view, c.args.group.now) sums)) c.in-Some.is c.in_ok-sums.ensures.some in
     ghost_more maps limit self x h c.args.head c.requires.number.0 c.requires.number.1 r c.args.view c.args.group.now comes
     (record { store = c.make_row.new.store; live = self.live; commits = self.commits; next = c.args.head.number + 1 }) c.in-Some.sums

@@ -10,6 +10,7 @@ use Rattle.record_replay.specs.Standing.{contents_of}
 use Rattle.record_replay.specs.Telling.{Tells}
 use Rattle.record_replay.proofs.Standing.{objects_are}
 use Rattle.record_replay.proofs.EachKind.{clean_not_zeros, clean_more, a_group}
+use Rattle.record_replay.proofs.Texts.{told_in, told_closed}
 use Rattle.record_replay.proofs.replay.Replay.group_cleaned.Goals as goal
 
 pub returns-then-not-remove_row-clause-told : goal.returns-then-not-remove_row-clause-told
@@ -26,8 +27,8 @@ returns-clause-told g c = λ x h r comes.
     let self = c.args.self.now in
     let maps = g.M.SortedMaps.maps in
     let limit = g.M.SortedMaps.limit in
-    let closed = h.store.closed in
-    let here = contents_of (pages_in (left_by x)) in
+    let here = told_in maps self.store (pages_in (left_by x)) in
+    let closed = told_closed maps limit self.store (pages_in (left_by x)) h.store in
     let some : is_none c.in_ok-read_group.field-0 ≡ false = search rules in
     let group : IsGroup (schema_of self.store.catalog) (c.args.view, c.args.group.now) = a_group (schema_of self.store.catalog) (c.args.view, c.args.group.now) c.in_ok-read_group.field-0 some c.in_ok-read_group.ensures.some in
     clean_more maps limit self x h c.args.head c.requires.number.0 c.requires.number.1 r c.args.view c.args.group.now comes

@@ -1,0 +1,4 @@
+pub mod Sizes
+pub mod Scanned
+pub mod Texts
+pub mod Opening

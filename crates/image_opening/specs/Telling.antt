@@ -1,0 +1,58 @@
+-- No clause of `run` rests on this module: it serves contracts between crates.
+--
+-- What is told of an image, and what is read of it.
+use Rattle.std.specs.Prelude.{◌≡◌, ◌⊎◌, ℕ, ◌≤◌, ◌<◌, List, []}
+use Rattle.std.specs.FinMap.{empty}
+use Rattle.table_laws.specs.Place.{Place}
+use Rattle.table_store.specs.Lists.{map_at}
+use Rattle.txn_machine.specs.Laws.{AreInRange}
+use Rattle.txn_log.specs.Refused.{PlacedImage, IsFreshAt, BadImage, BadView, IsRefused, IsFine}
+use Rattle.data_store.specs.Contents.{Contents}
+use Rattle.image_finding.specs.Headers.{as_header, StandsUpTo}
+use Rattle.image_finding.specs.Rules as rules
+use Rattle.image_views.specs.Compared.{pages_of, IsWrong}
+use Rattle.log_replay.specs.Told.{IsRecovered}
+use Rattle.image_pages.specs.Pages.{TreeStore, no_limit}
+use Rattle.image_opening.specs.declared.fault.OpenFault.{OpenFault}
+use Rattle.image_opening.specs.declared.fault.OpenFault.TheVariants as why
+use Rattle.image_opening.specs.declared.read.Recovered.{Recovered}
+use Rattle.image_opening.specs.Images.{IsImageIn}
+
+-- a store has no versions, none was dropped, and no row is pending
+pub record HasNoPast (store : TreeStore) : Type 0 where
+  pub row_versions : store.row_versions.versions ≡ []
+  pub delta_versions : store.delta_versions.versions ≡ []
+  pub row_mark : store.row_versions.pruned ≡ 0
+  pub delta_mark : store.delta_versions.pruned ≡ 0
+  pub pending : store.pending.entries ≡ empty
+
+-- ---- of some contents
+
+-- each sum is in range, so many bytes are within the limit, and each stored row is what its view has
+pub record IsFineSo (bytes most : ℕ) (c : Contents) : Type 0 where
+  pub in_range : AreInRange c.objects c.rows
+  pub within : bytes ≤ most
+  pub fresh_at : (commit : ℕ) (place : Place) → IsFreshAt (pages_of commit c) place
+
+-- rule 14 fails by a sum, or else rule 15 by the bytes, or else a row differs
+abbrev pub Tells : ℕ → ℕ → Contents → OpenFault → Type 0
+Tells bytes most c (why.BadImage bad) =
+    (bad.place ≡ 0)
+    × (((bad.rule ≡ 14) × (AreInRange c.objects c.rows → ⊥)) ⊎ ((bad.rule ≡ 15) × AreInRange c.objects c.rows × (most < bytes)))
+Tells bytes most c (why.BadView wrong) = AreInRange c.objects c.rows × (bytes ≤ most) × IsWrong c wrong
+Tells bytes most c why.DiskFault = ⊥
+Tells bytes most c why.NoMemory = Unit {0}
+
+-- ---- of the bytes of a device
+
+-- the live header is this one and no rule up to 12 fails, the image that stands there is refused for nothing, and this is what it
+-- recovers to
+abbrev pub Opens : List ℕ → Recovered → Type 0
+Opens c r = StandsUpTo 12 c (as_header r.header) × ((i : PlacedImage) → IsImageIn c i → IsFine i × IsRecovered map_at no_limit r.replay i)
+
+-- they are refused for this: by a rule up to 12; or none of these fails, and the image is, for its records or its views
+abbrev pub Refuses : List ℕ → OpenFault → Type 0
+Refuses c (why.BadImage bad) = rules.IsRefused c bad ⊎ (rules.PassesUpTo 12 c × ((i : PlacedImage) → IsImageIn c i → IsRefused i (BadImage bad.rule bad.place)))
+Refuses c (why.BadView wrong) = rules.PassesUpTo 12 c × ((i : PlacedImage) → IsImageIn c i → IsRefused i (BadView (wrong.view, wrong.group)))
+Refuses c why.DiskFault = Unit {0}
+Refuses c why.NoMemory = Unit {0}
