@@ -1,6 +1,6 @@
 -- A store that has the entries of an image's stored pages has the pages that they hold.
 use Rattle.std.proofs.Common.{◌≡◌, ◌≢◌, inl, inr, ℕ, ◌+◌, List, [], ◌∷◌, ◌++◌, map, length, Option, Some, refl, sym, ap, subst, ◌∙◌, arith}
-use Rattle.std.specs.Prelude.{min, ◌-◌, ◌^◌, Result, Ok, Err, IfOk}
+use Rattle.std.specs.Prelude.{min, ◌-◌, ◌^◌}
 use Rattle.std.specs.List.{Contains, concat, sum, range_with_len}
 use Rattle.std.proofs.lemmas.List.Elements.{recursion_from_All}
 use Rattle.std.specs.FinMap.{get}
@@ -29,11 +29,7 @@ use Rattle.log_disk.proofs.Finding.{all_are_found}
 use Rattle.log_disk.proofs.Living.{live_same}
 use Rattle.log_disk.proofs.Ordered.{parts_from, texts_from, order_once, texts_order, is_part, part_there}
 use Rattle.log_disk.proofs.Sound.{in_map, all_pages}
-use Rattle.image_finding.specs.declared.fault.BadImage.{BadImage}
-use Rattle.image_finding.specs.declared.fault.FindFault.{FindFault}
 use Rattle.image_finding.specs.declared.image.FoundImage.{FoundImage}
-use Rattle.image_finding.specs.Faults.{IfBad}
-use Rattle.image_finding.proofs.Outcomes.{none_told}
 use Rattle.image_entries.specs.declared.parts.Part.{Part}
 use Rattle.image_entries.specs.Entries.{held_of, found_at, found_entries}
 use Rattle.image_entries.specs.Parts.{parts_found}
@@ -207,13 +203,3 @@ pub counts_all : (c : List ℕ) (image : FoundImage) (m : Entries) (parts : List
 counts_all c image m parts from bytes is = λ room count here whole q a.
     let found = all_are_found c in
     is ∙ ap (λ n. min n (2 ^ 64 - 1)) (counts_those c image m parts from found.0 found.1 room count here whole q a)
-
--- ---- answers
-
-pub ok_both : {X E : Type 0} {P Q R : X → Type 0} (r : Result X E) → ((x : X) → P x → Q x → R x) → IfOk r P → IfOk r Q → IfOk r R
-ok_both (Ok x) f p q = f x p q
-ok_both (Err e) f p q = tt
-
-pub none_bad : {X : Type 0} (P : BadImage → Type 0) (r : Result X FindFault) → IfBad r (λ bad. ⊥) → IfBad r P
-none_bad P (Ok x) h = tt
-none_bad P (Err fault) h = none_told fault P h

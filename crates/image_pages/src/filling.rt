@@ -45,30 +45,6 @@ fn filled(
     Ok(store)
 }
 
-// The same, as what is found.
-fn found(
-    alloc: Global,
-    catalog: Catalog,
-    entries: EntryMap,
-    parts: &[Part],
-) -> Result<DataStore<TreeMaps>, FindFault>
-    requires stand { (p : Place) (s : StoredEntry) → map.get entries.entries p ≡ Some s → EntryStands (schema_of catalog) (p, s.value) }
-    requires keys { KeysStand (parts_found parts.now) }
-    requires sizes { SizesStand (parts_found parts.now) }
-    requires made { AllCreate [] (texts_found (in_texts (parts_found parts.now)).1) (schema_of catalog) }
-    ensures catalog { IfOk result (λ store. store.catalog ≡ catalog) }
-    ensures filled { IfOk result (λ store. IsFilledWith (texts_found (in_texts (parts_found parts.now)).1) entries.entries store.catalog (map_at store.tables) store.views) }
-    ensures pruned { IfOk result (λ store. (store.row_versions.pruned ≡ 0) × (store.delta_versions.pruned ≡ 0)) }
-    ensures past { IfOk result (λ store. (store.row_versions.versions ≡ []) × (store.delta_versions.versions ≡ []) × (store.pending.entries ≡ map.empty)) }
-    ensures no_rule { IfBad result (λ bad. ⊥) }
-    ensures no_disk { (count : ℕ) → FindFaults result count count }
-{
-    match filled(alloc, catalog, entries, parts) {
-        Ok(store) => Ok(store),
-        Err(NoMemory) => Err(FindFault::NoMemory),
-    }
-}
-
 // The rows of these entries beside these definitions, if each of them stands.
 fn with_rows(
     alloc: Global,
@@ -88,7 +64,10 @@ fn with_rows(
     ensures no_disk { (count : ℕ) → FindFaults result count count }
 {
     match check_rows(alloc, &catalog, &entries) {
-        Ok(()) => found(alloc, catalog, entries, parts),
+        Ok(()) => match filled(alloc, catalog, entries, parts) {
+            Ok(store) => Ok(store),
+            Err(NoMemory) => Err(FindFault::NoMemory),
+        },
         Err(fault) => {
             catalog.let_go();
             Err(fault)
