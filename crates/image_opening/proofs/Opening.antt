@@ -12,7 +12,7 @@ use Rattle.txn_machine.specs.Log.{Within, Above, definition_entries, view_entrie
 use Rattle.txn_log.specs.Room.{rows_bytes}
 use Rattle.txn_log.specs.Replay.{Pages, recovered}
 use Rattle.txn_log.specs.Stored.{parts_entries}
-use Rattle.txn_log.specs.Refused.{PlacedImage, data_left, texts_in, IsFine, BadImage, BadView, IsRefused, sums, entries, view}
+use Rattle.txn_log.specs.Refused.{most_number, PlacedImage, data_left, texts_in, IsFine, BadImage, IsRefused, sums, entries, view}
 use Rattle.data_store.specs.Contents.{Contents}
 use Rattle.data_room.proofs.Used.{used_is}
 use Rattle.log_disk.specs.Placed.{data_limit}
@@ -32,8 +32,9 @@ use Rattle.image_pages.specs.Pages.{no_limit, TreeStore, CountsTextsOf}
 use Rattle.image_opening.specs.Bytes.{texts_entries}
 use Rattle.image_opening.specs.Faults.{open_fault, counted_by}
 use Rattle.image_opening.specs.Images.{IsImageIn}
-use Rattle.image_opening.specs.Telling.{IsFineSo, Tells, Refuses}
+use Rattle.image_opening.specs.Telling.{HasSound, IsFineSo, IsWrongIn, Tells, Refuses}
 use Rattle.image_opening.specs.declared.fault.OpenFault.{OpenFault}
+use Rattle.image_opening.specs.declared.read.Recovered.{Recovered}
 use Rattle.image_opening.specs.declared.fault.OpenFault.TheVariants as why
 use Rattle.image_opening.proofs.Scanned.{are_scanned, pages_are}
 use Rattle.image_opening.proofs.Texts.{same_turned, both_texts, carried_none, further_texts}
@@ -43,10 +44,14 @@ use Rattle.image_opening.proofs.Texts.{same_turned, both_texts, carried_none, fu
 pub can_compare : (store : TreeStore) (p : Pages) → Has map_at no_limit store p → CanCompare store.catalog (map_at store.tables) store.views (contents_of p)
 can_compare store p h = record { readable = record { held = h.closed.held; stored = h.stored }; sound = h.sound }
 
+-- what is read has them
+pub has_sound : (size limit : ℕ) (r : Recovered) (p : Pages) → Has map_at no_limit r.replay.store p → r.replay.commits ≡ p.db.number → r.replay.next ≤ most_number + 1 → IsFineSo size limit (contents_of p) → HasSound r
+has_sound size limit r p has commits next f = record { pages = p; has = has; commits = commits; next = next; in_range = f.in_range; fresh_at = λ place. f.fresh_at p.db.number place }
+
 -- an image is refused for this
 abbrev pub RefusesIt : PlacedImage → OpenFault → Type 0
 RefusesIt i (why.BadImage bad) = IsRefused i (BadImage bad.rule bad.place)
-RefusesIt i (why.BadView wrong) = IsRefused i (BadView (wrong.view, wrong.group))
+RefusesIt i (why.BadView wrong) = IsWrongIn i wrong
 RefusesIt i why.DiskFault = Unit {0}
 RefusesIt i why.NoMemory = Unit {0}
 
@@ -121,7 +126,13 @@ module _ (c : List ℕ) (bytes : AreBytes c) (image : FoundImage) (has : HasImag
         by : ((bad.rule ≡ 14) × (AreInRange p.db.schema p.db.rows → ⊥)) ⊎ ((bad.rule ≡ 15) × AreInRange p.db.schema p.db.rows × (limit < size)) → IsRefused i (BadImage bad.rule bad.place)
         by (inl s) = told 14 s.0 (sums r.reading r.reverses s.1)
         by (inr s) = told 15 s.0 (entries r.reading r.reverses s.1 (beyond (let more = s.2 in omega (arith, more, size_is, limit_is_most))))
-    refuses (why.BadView wrong) t = view r.reading r.reverses t.0 (fits (let le = t.1 in omega (arith, le, size_is, limit_is_most))) (wrong.view, wrong.group) (t.2.first p.db.number)
+    refuses (why.BadView wrong) t = record {
+      refused = view r.reading r.reverses t.0 (fits (let le = t.1 in omega (arith, le, size_is, limit_is_most))) (wrong.view, wrong.group) (t.2.first p.db.number);
+      reading = r.reading;
+      reverses = r.reverses;
+      stored_is = t.2.stored_is;
+      fresh_is = t.2.fresh_is;
+    }
     refuses why.DiskFault t = absurd t
     refuses why.NoMemory t = tt
 

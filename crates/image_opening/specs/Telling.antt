@@ -1,16 +1,19 @@
 -- No clause of `run` rests on this module: it serves contracts between crates.
 --
 -- What is told of an image, and what is read of it.
-use Rattle.std.specs.Prelude.{◌≡◌, ◌⊎◌, ℕ, ◌≤◌, ◌<◌, List, []}
-use Rattle.std.specs.FinMap.{empty}
+use Rattle.std.specs.Prelude.{◌≡◌, ◌⊎◌, ℕ, ◌+◌, ◌≤◌, ◌<◌, List, []}
+use Rattle.std.specs.FinMap.{empty, get}
 use Rattle.table_laws.specs.Place.{Place}
 use Rattle.table_store.specs.Lists.{map_at}
 use Rattle.txn_machine.specs.Laws.{AreInRange}
-use Rattle.txn_log.specs.Refused.{PlacedImage, IsFreshAt, BadImage, BadView, IsRefused, IsFine}
+use Rattle.txn_log.specs.Replay.{Pages, Reading, recovered}
+use Rattle.txn_log.specs.Refused.{PlacedImage, ReversesAs, IsFreshAt, BadImage, BadView, IsRefused, IsFine, most_number}
 use Rattle.data_store.specs.Contents.{Contents}
 use Rattle.image_finding.specs.Headers.{as_header, StandsUpTo}
 use Rattle.image_finding.specs.Rules as rules
-use Rattle.image_views.specs.Compared.{pages_of, IsWrong}
+use Rattle.image_views.specs.Compared.{pages_of, IsFreshRow, IsWrong}
+use Rattle.image_views.specs.declared.wrong.WrongRow.{WrongRow}
+use Rattle.record_replay.specs.Standing.{Has}
 use Rattle.log_replay.specs.Told.{IsRecovered}
 use Rattle.image_pages.specs.Pages.{TreeStore, no_limit}
 use Rattle.image_opening.specs.declared.fault.OpenFault.{OpenFault}
@@ -43,7 +46,24 @@ Tells bytes most c (why.BadView wrong) = AreInRange c.objects c.rows × (bytes �
 Tells bytes most c why.DiskFault = ⊥
 Tells bytes most c why.NoMemory = Unit {0}
 
+-- what is read has some pages that are so, with their commit number, whatever the disk is
+pub record HasSound (r : Recovered) : Type 0 where
+  pub pages : Pages
+  pub has : Has map_at no_limit r.replay.store pages
+  pub commits : r.replay.commits ≡ pages.db.number
+  pub next : r.replay.next ≤ most_number + 1
+  pub in_range : AreInRange pages.db.schema pages.db.rows
+  pub fresh_at : (place : Place) → IsFreshAt pages place
+
 -- ---- of the bytes of a device
+
+-- the image is refused for this row, the first that differs: what is stored of its group, and what its view has
+pub record IsWrongIn (i : PlacedImage) (wrong : WrongRow) : Type 0 where
+  pub refused : IsRefused i (BadView (wrong.view, wrong.group))
+  pub reading : Reading
+  pub reverses : ReversesAs i reading
+  pub stored_is : wrong.stored ≡ get (recovered reading).view (wrong.view, wrong.group)
+  pub fresh_is : IsFreshRow (recovered reading).db.schema (recovered reading).db.rows (wrong.view, wrong.group) wrong.fresh
 
 -- the live header is this one and no rule up to 12 fails, the image that stands there is refused for nothing, and this is what it
 -- recovers to
@@ -53,6 +73,6 @@ Opens c r = StandsUpTo 12 c (as_header r.header) × ((i : PlacedImage) → IsIma
 -- they are refused for this: by a rule up to 12; or none of these fails, and the image is, for its records or its views
 abbrev pub Refuses : List ℕ → OpenFault → Type 0
 Refuses c (why.BadImage bad) = rules.IsRefused c bad ⊎ (rules.PassesUpTo 12 c × ((i : PlacedImage) → IsImageIn c i → IsRefused i (BadImage bad.rule bad.place)))
-Refuses c (why.BadView wrong) = rules.PassesUpTo 12 c × ((i : PlacedImage) → IsImageIn c i → IsRefused i (BadView (wrong.view, wrong.group)))
+Refuses c (why.BadView wrong) = rules.PassesUpTo 12 c × ((i : PlacedImage) → IsImageIn c i → IsWrongIn i wrong)
 Refuses c why.DiskFault = Unit {0}
 Refuses c why.NoMemory = Unit {0}

@@ -1,10 +1,10 @@
 //! An image, read.
-ghost use Rattle.std.specs.Prelude.{◌≡◌, ◌+◌, ◌-◌, ◌*◌, ◌^◌, ℕ, List, min, IfOk, IfErr};
+ghost use Rattle.std.specs.Prelude.{◌≡◌, ◌+◌, ◌-◌, ◌*◌, ◌^◌, ◌≤◌, ℕ, List, min, IfOk, IfErr};
 ghost use Rattle.iv_types.specs.Maps.{map_size, used};
 ghost use Rattle.disk_io.specs.Disk.{AreBytes};
 ghost use Rattle.table_store.specs.Lists.{map_at};
 ghost use Rattle.txn_log.specs.Replay.{Pages};
-ghost use Rattle.txn_log.specs.Refused.{PlacedImage};
+ghost use Rattle.txn_log.specs.Refused.{PlacedImage, most_number};
 ghost use Rattle.log_disk.specs.Placed.{data_limit};
 ghost use Rattle.image_finding.specs.Headers.{as_header, StandsUpTo};
 ghost use Rattle.image_finding.specs.Images.{HasImage};
@@ -15,7 +15,7 @@ ghost use Rattle.image_pages.specs.Pages.{no_limit, HasSomePages, HasPagesOf, Co
 ghost use Rattle.image_opening.specs.Bytes.{texts_entries};
 ghost use Rattle.image_opening.specs.Faults.{OpenFaults};
 ghost use Rattle.image_opening.specs.Images.{IsImageIn};
-ghost use Rattle.image_opening.specs.Telling.{HasNoPast, Opens, Refuses};
+ghost use Rattle.image_opening.specs.Telling.{HasNoPast, HasSound, Opens, Refuses};
 
 use crate::bytes::{rows_bytes, texts_bytes};
 use crate::fault::{OpenFault, open_fault};
@@ -64,9 +64,10 @@ fn compared(
     image: &FoundImage,
     text_bytes: u64,
 ) -> Result<Recovered, OpenFault>
-    requires has { (p : Pages) × Has map_at no_limit replay.store p }
+    requires has { (p : Pages) × Has map_at no_limit replay.store p × (replay.commits ≡ p.db.number) × (replay.next ≤ most_number + 1) }
     ensures opened { (c : List ℕ) → AreBytes c → StandsUpTo 12 c (as_header image.now.header) → HasImage c image.now → CountsTextsOf c text_bytes → ((i : PlacedImage) → IsImageIn c i → IsRecovered map_at no_limit replay i) → IfOk result (Opens c) }
     ensures refused { (c : List ℕ) → AreBytes c → StandsUpTo 12 c (as_header image.now.header) → HasImage c image.now → CountsTextsOf c text_bytes → ((i : PlacedImage) → IsImageIn c i → IsRecovered map_at no_limit replay i) → IfErr result (Refuses c) }
+    ensures sound { IfOk result HasSound }
     ensures replay { IfOk result (λ r. r.replay ≡ replay) }
     ensures no_disk { (count : ℕ) → OpenFaults result count count }
 {
@@ -85,6 +86,7 @@ fn recover(pages: StoredPages, image: &FoundImage) -> Result<Recovered, OpenFaul
     requires has { HasSomePages pages.store }
     ensures opened { (c : List ℕ) → AreBytes c → StandsUpTo 12 c (as_header image.now.header) → HasImage c image.now → HasPagesOf c pages.store × CountsTextsOf c pages.text_bytes → IfOk result (Opens c) }
     ensures refused { (c : List ℕ) → AreBytes c → StandsUpTo 12 c (as_header image.now.header) → HasImage c image.now → HasPagesOf c pages.store × CountsTextsOf c pages.text_bytes → IfErr result (Refuses c) }
+    ensures sound { IfOk result HasSound }
     ensures no_past { HasNoPast pages.store → IfOk result (λ r. HasNoPast r.replay.store) }
     ensures no_disk { (count : ℕ) → OpenFaults result count count }
 {
@@ -104,6 +106,7 @@ fn read_found<D: Disk>(
     requires size { D.size_of disk.old ≡ 278528 + 2 * image.now.header.area_bytes + 16384 * image.now.header.pages }
     ensures opened { D.is_told → HasImage (D.seen disk.old) image.now → IfOk result (Opens (D.seen disk.old)) }
     ensures refused { D.is_told → HasImage (D.seen disk.old) image.now → IfErr result (Refuses (D.seen disk.old)) }
+    ensures sound { IfOk result HasSound }
     ensures no_past { IfOk result (λ r. HasNoPast r.replay.store) }
     ensures only_read { IsOnlyRead D.is_told D.size_of D.seen D.may_leave D.moment D.left_since disk.old disk.new }
     ensures cause { OpenFaults result (D.faults disk.old) (D.faults disk.new) }
@@ -126,6 +129,8 @@ pub fn read_image<D: Disk>(alloc: Global, disk: &mut D) -> Result<Recovered, Ope
     ensures opened { D.is_told → IfOk result (Opens (D.seen disk.old)) }
     // It is refused for what is told.
     ensures refused { D.is_told → IfErr result (Refuses (D.seen disk.old)) }
+    // Whatever the disk is, the store has some pages whose views are as they are evaluated afresh.
+    ensures sound { IfOk result HasSound }
     // The store that has it has no versions of rows.
     ensures no_past { IfOk result (λ r. HasNoPast r.replay.store) }
     // The disk is only read.

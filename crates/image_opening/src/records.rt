@@ -1,9 +1,9 @@
 //! The records of the log, replayed.
-ghost use Rattle.std.specs.Prelude.{◌≡◌, ◌≤◌, ℕ, List, IfOk};
+ghost use Rattle.std.specs.Prelude.{◌≡◌, ◌+◌, ◌≤◌, ℕ, List, IfOk};
 ghost use Rattle.page_store.specs.Image.{area_at};
 ghost use Rattle.table_store.specs.Lists.{map_at};
 ghost use Rattle.txn_log.specs.Replay.{Pages};
-ghost use Rattle.txn_log.specs.Refused.{PlacedImage, BadImage, IsRefused};
+ghost use Rattle.txn_log.specs.Refused.{PlacedImage, BadImage, IsRefused, most_number};
 ghost use Rattle.disk_io.specs.Disk.{AreBytes};
 ghost use Rattle.image_finding.specs.Faults.{IfBad, FindFaults};
 ghost use Rattle.image_finding.specs.Images.{HasImage};
@@ -44,7 +44,7 @@ pub(crate) fn replayed(
     // They are refused for what is told.
     ensures refused { (c : List ℕ) → AreBytes c → HasImage c image.now → HasPagesOf c store → (i : PlacedImage) → IsImageIn c i → IfBad result (λ bad. IsRefused i (BadImage bad.rule bad.place)) }
     // It has some pages, whatever the disk is.
-    ensures has { IfOk result (λ replay. (p : Pages) × Has map_at no_limit replay.store p) }
+    ensures has { IfOk result (λ replay. (p : Pages) × Has map_at no_limit replay.store p × (replay.commits ≡ p.db.number) × (replay.next ≤ most_number + 1)) }
     // Nothing else of the store is changed.
     ensures rest { IfOk result (λ replay. replay.store ≡ record store { catalog = replay.store.catalog; tables = replay.store.tables; views = replay.store.views }) }
     // The disk is not asked.

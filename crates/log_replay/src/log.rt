@@ -1,7 +1,7 @@
 //! The records of an image.
-ghost use Rattle.std.specs.Prelude.{◌≡◌, ℕ, [], Ok, OnOk};
+ghost use Rattle.std.specs.Prelude.{◌≡◌, ◌+◌, ◌≤◌, ℕ, [], Ok, OnOk};
 ghost use Rattle.txn_log.specs.Replay.{Pages};
-ghost use Rattle.txn_log.specs.Refused.{PlacedImage, BadImage, IsRefused};
+ghost use Rattle.txn_log.specs.Refused.{PlacedImage, BadImage, IsRefused, most_number};
 ghost use Rattle.image_finding.specs.Faults.{IfBad, FindFaults};
 ghost use Rattle.record_replay.specs.Past.{carrying};
 ghost use Rattle.record_replay.specs.Standing.{Has, HasReplayed};
@@ -45,8 +45,8 @@ pub fn replay_records<M: SortedMaps>(
     requires begins { (p : Pages) × HasReplayed M.maps M.limit replay.old (carrying p [] []) }
     // The store has what is recovered.
     ensures recovered { OnOk result ((i : PlacedImage) → IsImageOf M.maps M.limit area redo records.now replay.old i → IsRecovered M.maps M.limit replay.new i) }
-    // It has some pages, whatever the records stand for.
-    ensures some { OnOk result ((p : Pages) × Has M.maps M.limit replay.new.store p) }
+    // It has some pages with their commit number, whatever the records stand for.
+    ensures some { OnOk result ((p : Pages) × Has M.maps M.limit replay.new.store p × (replay.new.commits ≡ p.db.number) × (replay.new.next ≤ most_number + 1)) }
     // The rule and the place that are told are those for which the image is refused.
     ensures refused { IfBad result (λ bad. (i : PlacedImage) → IsImageOf M.maps M.limit area redo records.now replay.old i → IsRefused i (BadImage bad.rule bad.place)) }
     // Nothing else of the store is changed.

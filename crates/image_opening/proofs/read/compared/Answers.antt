@@ -1,6 +1,6 @@
 use Rattle.txn_log.specs.Replay.{recovered}
 use Rattle.record_replay.specs.Standing.{contents_of}
-use Rattle.image_opening.proofs.Opening.{can_compare, is_fine, refuses, refuses_all, no_fault}
+use Rattle.image_opening.proofs.Opening.{can_compare, has_sound, is_fine, refuses, refuses_all, no_fault}
 use Rattle.image_opening.proofs.read.compared.Goals as goal
 
 pub checked-requires : goal.checked-requires
@@ -28,3 +28,9 @@ pub returns-in-Err-clause-no_disk : goal.returns-in-Err-clause-no_disk
 returns-in-Err-clause-no_disk c =
     let has = c.requires.has in
     no_fault c.data_bytes-bytes.result c.data_limit.result (contents_of has.0) c.in-Err.fault (c.in-Err.ensures.refused (contents_of has.0) (can_compare c.args.replay.store has.0 has.1))
+
+pub returns-in-Ok-clause-sound : goal.returns-in-Ok-clause-sound
+returns-in-Ok-clause-sound c =
+    let has = c.requires.has in
+    has_sound c.data_bytes-bytes.result c.data_limit.result (record { header = c.args.image.now.header; replay = c.args.replay }) has.0 has.1 has.2 has.3
+    (c.in-Ok.ensures.fine (contents_of has.0) (can_compare c.args.replay.store has.0 has.1))

@@ -1,6 +1,8 @@
-use Rattle.std.proofs.Common.{List, [], take, drop, refl, sym, subst}
+use Rattle.std.proofs.Common.{List, [], take, drop, refl, sym, subst, ◌∙◌, arith}
 use Rattle.log_records.specs.declared.record.Scanned.{Scanned}
 use Rattle.record_replay.specs.declared.answer.Replayed.TheVariants.{Passed, Broken}
+use Rattle.txn_log.specs.Replay.{reversed}
+use Rattle.record_replay.specs.Past.{left_by}
 use Rattle.log_replay.specs.Through.{CarryTo, GoTo}
 use Rattle.log_replay.proofs.Going.{going}
 use Rattle.log_replay.proofs.Recovering.{carry_to, go_to, behind_is, told_weaker, bad_weaker, once_ok, of_answer, refused_first, refused_further, refused_back, is_recovered}
@@ -31,8 +33,12 @@ pub returns-clause-some : goal.returns-clause-some
 returns-clause-some g c =
     once_ok c.outcome-3.result (λ passed.
     let past = of_answer _ c.follow_each.result Passed c.in-Ok-outcome.ensures.passed c.follow_each.ensures.some refl in
-    let back = of_answer _ c.reverse.result Passed passed c.reverse.ensures.told past.0 past.1 in
-    (_, back.1)) c.outcome-3.ensures.passed
+    let back = of_answer _ c.reverse.result Passed passed c.reverse.ensures.told past.0 past.1 in (
+      reversed (left_by past.0),
+      back.1,
+      c.reverse.ensures.commits ∙ past.1.commits,
+      (let same = c.reverse.ensures.next in let small = past.1.small in omega (arith, same, small)),
+    )) c.outcome-3.ensures.passed
 
 pub returns-clause-refused : goal.returns-clause-refused
 returns-clause-refused g c =
