@@ -49,10 +49,10 @@ pub(crate) fn rows_bytes<M: SortedMaps>(maps: &M) -> u64
 }
 
 // What a record adds to the texts of definitions.
-fn text_bytes(record: &Record) -> u64
-    ensures { result ≡ min (text_entries record.now) (2 ^ 64 - 1) }
+fn text_bytes(entry: &Record) -> u64
+    ensures { result ≡ min (text_entries entry.now) (2 ^ 64 - 1) }
 {
-    match record {
+    match entry {
         Record::Schema { text, .. } => definition_entries(text.as_slice()),
         _ => 0,
     }
