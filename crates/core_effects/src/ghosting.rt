@@ -1,5 +1,5 @@
 //! The row of a session's first owed delta is made.
-ghost use Rattle.std.specs.Prelude.{◌≡◌, ◌<◌, ◌^◌, ℕ, List, length, is_some, None, OnOk, OnErr};
+ghost use Rattle.std.specs.Prelude.{◌≡◌, ◌≤◌, ◌^◌, ℕ, List, length, is_some, None, OnOk, OnErr};
 ghost use Rattle.std.specs.FinMap.{get};
 ghost use Rattle.iv_meaning.specs.Escrow.{IsSession};
 ghost use Rattle.ghost_rows.specs.Kept.{width};
@@ -38,7 +38,7 @@ pub fn has_row<M: SortedMaps>(core: &CoreState<M>, session: u32) -> bool
 ///
 /// Where there is no memory for it. Nothing is changed then but room.
 pub fn make_row<M: SortedMaps>(core: &mut CoreState<M>, session: u32) -> Result<(), NoMemory>
-    requires next { core.old.next < 2 ^ 63 }
+    requires next { core.old.next ≤ 2 ^ 63 }
     requires absent { (s : Store) × (l : Log) × (texts : Texts) × Holds M.maps M.spare M.limit core.old s l texts × (o : OwesFirst s session) × (get s.view (place_of o.first) ≡ None)
         × CanStore (M.maps core.old.store.tables) (M.limit core.old.store.tables) (place_of o.first) (width o.first) }
     ensures made { OnOk result ((s : Store) (l : Log) (texts : Texts) (o : OwesFirst s session) (a : Act) → Holds M.maps M.spare M.limit core.old s l texts → get s.view (place_of o.first) ≡ None

@@ -1,5 +1,5 @@
 //! A session pays the first delta that it owes.
-ghost use Rattle.std.specs.Prelude.{◌≡◌, ◌≢◌, ◌<◌, ◌≤◌, ◌^◌, ◌∷◌, [], ℕ, List, reverse, None, IfOk, IfErr, OnOk, OnErr};
+ghost use Rattle.std.specs.Prelude.{◌≡◌, ◌≢◌, ◌≤◌, ◌^◌, ◌∷◌, [], ℕ, List, reverse, None, IfOk, IfErr, OnOk, OnErr};
 ghost use Rattle.std.specs.FinMap.{get};
 ghost use Rattle.table_laws.specs.Place.{Place};
 ghost use Rattle.iv_types.specs.declared.lock.GroupDelta.{GroupDelta as Delta};
@@ -65,7 +65,7 @@ fn add_first<M: SortedMaps>(core: &mut CoreState<M>, session: u32) -> Result<Pre
 /// changed then.
 pub fn pay_first<M: SortedMaps>(core: &mut CoreState<M>, session: u32) -> Result<(), PayRefusal>
     requires session { IsSession session }
-    requires next { core.old.next < 2 ^ 63 }
+    requires next { core.old.next ≤ 2 ^ 63 }
     requires owes { (s : Store) × (l : Log) × (texts : Texts) × Holds M.maps M.spare M.limit core.old s l texts × (o : OwesFirst s session)
         × CanStore (M.maps core.old.store.tables) (M.limit core.old.store.tables) (place_of o.first) (width o.first) }
     ensures paid { OnOk result ((s : Store) (l : Log) (texts : Texts) (a : Act) → Holds M.maps M.spare M.limit core.old s l texts → OwesFirst s session

@@ -1,5 +1,5 @@
 //! A session's latest kept step is taken back.
-ghost use Rattle.std.specs.Prelude.{◌≡◌, ◌<◌, ◌^◌, ◌∷◌, ◌↔◌, ℕ, List, reverse, IsTrue};
+ghost use Rattle.std.specs.Prelude.{◌≡◌, ◌≤◌, ◌^◌, ◌∷◌, ◌↔◌, ℕ, List, reverse, IsTrue};
 ghost use Rattle.iv_types.specs.declared.lock.GroupDelta.{GroupDelta as Delta};
 ghost use Rattle.iv_types.specs.declared.lock.KeptStep.{KeptStep as Step};
 ghost use Rattle.iv_types.specs.declared.lock.KeptStep.TheVariants as step;
@@ -40,7 +40,7 @@ fn let_go(kept: Option<Kept>) {
 // Takes a session's latest kept step back, a pay, whose delta is owed again and is coming back.
 fn undo_pay<M: SortedMaps>(core: &mut CoreState<M>, session: u32)
     requires session { IsSession session }
-    requires next { core.old.next < 2 ^ 63 }
+    requires next { core.old.next ≤ 2 ^ 63 }
     requires keeps { (s : Store) × (l : Log) × (texts : Texts) × Holds M.maps M.spare M.limit core.old s l texts × (o : KeepsPay s session)
         × CanStore (M.maps core.old.store.tables) (M.limit core.old.store.tables) (place_of o.latest) (width o.latest) }
     ensures holds { (s : Store) (l : Log) (texts : Texts) (a : Act) → Holds M.maps M.spare M.limit core.old s l texts → KeepsPay s session
@@ -60,7 +60,7 @@ fn undo_pay<M: SortedMaps>(core: &mut CoreState<M>, session: u32)
 // Takes a session's latest kept step back, a change, with its entries in all indexes.
 fn undo_put<M: SortedMaps>(core: &mut CoreState<M>, session: u32)
     requires session { IsSession session }
-    requires next { core.old.next < 2 ^ 63 }
+    requires next { core.old.next ≤ 2 ^ 63 }
     requires keeps { (s : Store) × (l : Log) × (texts : Texts) × Holds M.maps M.spare M.limit core.old s l texts × (o : KeepsPut s session)
         × FitsBack (M.maps core.old.store.tables) (M.limit core.old.store.tables) (schema_of s) o.change }
     ensures holds { (s : Store) (l : Log) (texts : Texts) (a : Act) → Holds M.maps M.spare M.limit core.old s l texts → KeepsPut s session
@@ -98,7 +98,7 @@ fn is_pay(txn: &Open) -> bool
 /// all indexes. Takes no memory.
 pub fn undo<M: SortedMaps>(core: &mut CoreState<M>, session: u32)
     requires session { IsSession session }
-    requires next { core.old.next < 2 ^ 63 }
+    requires next { core.old.next ≤ 2 ^ 63 }
     requires keeps { (s : Store) × (l : Log) × (texts : Texts) × Holds M.maps M.spare M.limit core.old s l texts × (o : KeepsOne s session)
         × CanGoBack (M.maps core.old.store.tables) (M.limit core.old.store.tables) s session o }
     ensures holds { (s : Store) (l : Log) (texts : Texts) (a : Act) → Holds M.maps M.spare M.limit core.old s l texts → KeepsOne s session

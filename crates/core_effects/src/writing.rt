@@ -1,5 +1,5 @@
 //! A change of a row is made.
-ghost use Rattle.std.specs.Prelude.{◌≡◌, ◌<◌, ◌^◌, ℕ, List};
+ghost use Rattle.std.specs.Prelude.{◌≡◌, ◌≤◌, ◌^◌, ℕ, List};
 ghost use Rattle.iv_meaning.specs.Escrow.{IsSession};
 ghost use Rattle.txn_machine.specs.Acts.{Act};
 ghost use Rattle.txn_machine.specs.Ghosts.{the_views};
@@ -38,7 +38,7 @@ pub struct Writing {
 /// Makes a change of a session, and keeps it with what it owes. Takes no memory.
 pub fn write<M: SortedMaps>(core: &mut CoreState<M>, session: u32, writing: Writing)
     requires session { IsSession session }
-    requires next { core.old.next < 2 ^ 63 }
+    requires next { core.old.next ≤ 2 ^ 63 }
     requires can { (s : Store) × (l : Log) × (texts : Texts) × Holds M.maps M.spare M.limit core.old s l texts × CanWrite M.maps M.spare M.limit s core.old session writing }
     ensures holds { (s : Store) (l : Log) (texts : Texts) (a : Act) → Holds M.maps M.spare M.limit core.old s l texts → CanWrite M.maps M.spare M.limit s core.old session writing
         → Holds M.maps M.spare M.limit core.new (does the_views s session (Writes (writing.ready.kept.change.table, writing.ready.kept.change.key) writing.ready.kept.change.after))

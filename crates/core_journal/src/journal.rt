@@ -1,5 +1,5 @@
 //! Journals.
-ghost use Rattle.std.specs.Prelude.{◌≡◌, ◌+◌, ◌∷◌, ◌<◌, ◌^◌, ℕ, List, [], Option, length, OnOk, OnErr};
+ghost use Rattle.std.specs.Prelude.{◌≡◌, ◌+◌, ◌∷◌, ◌<◌, ◌≤◌, ◌^◌, ℕ, List, [], Option, length, OnOk, OnErr};
 ghost use Rattle.iv_types.specs.Faults.{Rose};
 ghost use Rattle.txn_machine.specs.Log.{Within, block_bytes};
 ghost use Rattle.log_records.specs.Area.{Entry};
@@ -28,7 +28,7 @@ pub trait Journal {
     /// Takes a record under its number, for which the area has room. It waits until it is flushed.
     fn append(&mut self, number: u64, lent: LentRecord<'_>)
         requires short { IsShort (stands_for lent) }
-        requires number { number < 2 ^ 63 }
+        requires number { number ≤ 2 ^ 63 }
         requires room { (rs : Records) × has self.old rs × Within (limit self.old) (rs.used + length (spelling number (stands_for lent))) }
         ensures has { (rs : Records) → has self.old rs → has self.new (record rs { waiting = record { number = number; entry = stands_for lent.entry } ∷ rs.waiting; used = rs.used + length (spelling number (stands_for lent.entry)) }) }
         ensures limit { limit self.new ≡ limit self.old }

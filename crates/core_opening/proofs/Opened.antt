@@ -64,7 +64,7 @@ module _ {M : Type 0} (maps : M → ℕ → Map) (spare : M → ℕ → ℕ) (li
     least = subst (λ l. Within l (block_bytes + 1)) (sym of_log_is) can.least;
     bounded = subst IsSome (sym of_data_is) refl;
     within = can.within;
-    early = subst (λ n. n ≤ 2 ^ 62) (sym can.next_is) can.early;
+    early = subst (λ n. n ≤ 2 ^ 62 + 1) (sym can.next_is) can.early;
   }
 
   -- the mark is the database's number, which it did not pass

@@ -50,4 +50,4 @@ module _ {M : Type 0} (maps : M → ℕ → Map) (limit : M → Option ℕ) wher
     pub least : Within log (block_bytes + 1)
     -- the numbers of commits and of records do not end
     pub few : number < 2 ^ 63
-    pub early : next ≤ 2 ^ 62
+    pub early : next ≤ 2 ^ 62 + 1

@@ -1,5 +1,5 @@
 -- A record that is given in bytes.
-use Rattle.std.specs.Prelude.{◌≡◌, ℕ, ◌+◌, ◌<◌, ◌^◌, ◌∷◌, length, Option}
+use Rattle.std.specs.Prelude.{◌≡◌, ℕ, ◌+◌, ◌≤◌, ◌^◌, ◌∷◌, length, Option}
 use mathlib.Core.Path.{sym, ap, subst, ◌∙◌}
 use Rattle.iv_meaning.specs.Schema.{Schema}
 use Rattle.txn_machine.specs.Log.{Within}
@@ -20,8 +20,8 @@ module _ (objects : Schema) (r : Record) (number given : ℕ) (lent : bytes.Reco
     pub short : IsShort lent
     short = subst IsShort (sym is) can.short
 
-    pub its_number : given < 2 ^ 63
-    its_number = subst (λ n. n < 2 ^ 63) (sym numbered) can.numbered
+    pub its_number : given ≤ 2 ^ 63
+    its_number = subst (λ n. n ≤ 2 ^ 63) (sym numbered) can.numbered
 
     pub room : Within most (rs.used + length (spelling given lent))
     room = subst (λ n. Within most (rs.used + n)) (sym long) can.room

@@ -121,7 +121,7 @@ module _ {M J : Type 0} (maps : M → ℕ → Map) (spare : M → ℕ → ℕ) (
   pub can_commit : (rs : Records) → IsBehind maps spare limit has area core journal s.log rs → CanAppend (area journal) (schema_of s.store) core.next its_record rs
   can_commit rs behind = record {
     short = tt;
-    numbered = subst (λ n. n < 2 ^ 63) (sym began.holds.next) (small_next maps spare limit core s i began);
+    numbered = subst (λ n. n ≤ 2 ^ 63) (sym began.holds.next) (small_next maps spare limit core s i began);
     room = room_left (record_bytes (schema_of s.store) its_record) (omega arith) rs behind;
   }
 

@@ -1,5 +1,5 @@
 -- An act that gives one record, after it was done.
-use Rattle.std.specs.Prelude.{◌≡◌, ◌<◌, ◌^◌, ℕ, List, ◌∷◌, Option}
+use Rattle.std.specs.Prelude.{◌≡◌, ◌≤◌, ◌^◌, ℕ, List, ◌∷◌, Option}
 use mathlib.Core.Path.{sym, subst, ◌∙◌}
 use Rattle.iv_types.specs.Maps.{Map}
 use Rattle.iv_types.specs.declared.refusal.EngineRefusal.TheVariants as refusal
@@ -54,7 +54,7 @@ module _ {M J : Type 0} (maps : M → ℕ → Map) (spare : M → ℕ → ℕ) (
       let within = told_within maps spare limit s i a said then told (area journal) (behind.same_limit ∙ sym (limit_stays maps spare limit s i a said then told core began)) rs behind.used in
       record {
         short = short;
-        numbered = subst (λ n. n < 2 ^ 63) (sym began.holds.next) (next_small maps spare limit s i a said then told);
+        numbered = subst (λ n. n ≤ 2 ^ 63) (sym began.holds.next) (next_small maps spare limit s i a said then told);
         room = subst (λ (xs : Records). Within (area journal) xs.used) gives within;
       }
 

@@ -1,5 +1,5 @@
 -- What the records of a journal take, as the log counts it, and that there is room for them.
-use Rattle.std.specs.Prelude.{◌≡◌, ℕ, ◌+◌, ◌<◌, ◌^◌, List, [], ◌∷◌, Option, Some, None}
+use Rattle.std.specs.Prelude.{◌≡◌, ℕ, ◌+◌, ◌<◌, ◌≤◌, ◌^◌, List, [], ◌∷◌, Option, Some, None}
 use mathlib.Core.Path.{refl, sym, ap, subst, ◌∙◌}
 use Rattle.std.proofs.Common.{arith}
 use Rattle.iv_types.specs.Maps.{Map}
@@ -55,12 +55,12 @@ pub used_within : (most : Option ℕ) (used reserved_bytes : ℕ) (s : Store) (l
 used_within None used reserved_bytes s l h = tt
 used_within (Some most) used reserved_bytes s l h = let are = h.used_are in let within = h.within in omega (arith, are, within)
 
--- a record's number is one of 63 bits
-pub small_next : {M : Type 0} (maps : M → ℕ → Map) (spare : M → ℕ → ℕ) (limit : M → Option ℕ) (core : CoreState M) (s : State) (i : ℕ) → Began maps spare limit core s i → s.log.next < 2 ^ 63
+-- a record's number is 2 ^ 63 at most
+pub small_next : {M : Type 0} (maps : M → ℕ → Map) (spare : M → ℕ → ℕ) (limit : M → Option ℕ) (core : CoreState M) (s : State) (i : ℕ) → Began maps spare limit core s i → s.log.next ≤ 2 ^ 63
 small_next maps spare limit core s i h = let next = h.counts.next in let early = h.opening.early in let few : s.steps < most_steps = h.counts.running h.runs in omega (arith, next, early, few)
 
 module _ {M : Type 0} (maps : M → ℕ → Map) (spare : M → ℕ → ℕ) (limit : M → Option ℕ) (s : State) (i : ℕ) (a : Act) (said : Answer) (core : CoreState M) (told : Told maps spare limit s i a said core) where
-  pub next_small : s.log.next < 2 ^ 63
+  pub next_small : s.log.next ≤ 2 ^ 63
   next_small = let next = told.counts.next in let early = told.opening.early in let few : s.steps < most_steps = told.counts.running told.runs in omega (arith, next, early, few)
 
   -- what was told of an act has kept its records within the limit

@@ -1,7 +1,7 @@
 -- No clause of `run` rests on this module: it serves contracts between crates.
 --
 -- When a record can be given to a journal, and the record of a kept step.
-use Rattle.std.specs.Prelude.{◌≡◌, ℕ, ◌+◌, ◌<◌, ◌^◌, List, ◌∷◌, Option}
+use Rattle.std.specs.Prelude.{◌≡◌, ℕ, ◌+◌, ◌≤◌, ◌^◌, List, ◌∷◌, Option}
 use Rattle.iv_meaning.specs.Schema.{Schema}
 use Rattle.txn_machine.specs.Keeping.{KeptStep, Put, Pay}
 use Rattle.txn_machine.specs.Log.{Log, Within}
@@ -14,7 +14,7 @@ use Rattle.core_journal.specs.Records.{Records}
 -- its bytes hold it, its number is one, and an area of this size has room for it
 pub record CanAppend (most : Option ℕ) (objects : Schema) (number : ℕ) (r : Record) (rs : Records) : Type 0 where
   pub short : IsShort (in_bytes objects r)
-  pub numbered : number < 2 ^ 63
+  pub numbered : number ≤ 2 ^ 63
   pub room : Within most (rs.used + record_bytes objects r)
 
 -- of a change its Write, of a pay its Delta

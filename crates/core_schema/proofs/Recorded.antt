@@ -1,5 +1,5 @@
 -- The record of a definition: that there is room for it, and what is given.
-use Rattle.std.specs.Prelude.{◌≡◌, ◌<◌, ◌≤◌, ◌^◌, ℕ, ◌+◌, true, false, List, [], ◌∷◌, Option, Some, None}
+use Rattle.std.specs.Prelude.{◌≡◌, ◌≤◌, ◌^◌, ℕ, ◌+◌, true, false, List, [], ◌∷◌, Option, Some, None}
 use mathlib.Core.Path.{refl, sym, ap, subst, ◌∙◌}
 use mathlib.Core.Logic.{inl}
 use Rattle.std.proofs.Common.{arith}
@@ -87,7 +87,7 @@ module _ {M J : Type 0} (maps : M → ℕ → Map) (spare : M → ℕ → ℕ) (
     pub can_record : (rs : Records) → IsBehind maps spare limit has area core journal s.log rs → CanAppend (area journal) (schema_of s.store) core.next its_record rs
     can_record rs behind = record {
       short = text_few maps spare limit core s i statement d m.may m.data_small;
-      numbered = subst (λ n. n < 2 ^ 63) (sym m.may.began.holds.next) (small_next maps spare limit core s i m.may.began);
+      numbered = subst (λ n. n ≤ 2 ^ 63) (sym m.may.began.holds.next) (small_next maps spare limit core s i m.may.began);
       room = room_left (record_bytes (schema_of s.store) its_record) (omega arith) rs behind;
     }
 

@@ -97,7 +97,7 @@ steps_on log most s i a said after h step same = record {
   least = h.least;
   bounded = h.bounded;
   within = subst (λ (o : Opening). OpensWithin o (record { db = h.reached.db; view = h.reached.view })) (sym same) h.within;
-  early = subst (λ (o : Opening). o.next ≤ 2 ^ 62) (sym same) h.early;
+  early = subst (λ (o : Opening). o.next ≤ 2 ^ 62 + 1) (sym same) h.early;
 }
 
 -- ---- what the data use

@@ -50,7 +50,7 @@ pub record IsOpening (log most : Option ℕ) (s : State) : Type 0 where
   pub bounded : IsSome most
   pub within : OpensWithin s.opening (record { db = reached.db; view = reached.view })
   -- the numbers of its records do not end
-  pub early : s.opening.next ≤ 2 ^ 62
+  pub early : s.opening.next ≤ 2 ^ 62 + 1
 
 -- what open transactions keep of the data, and what is used and reserved of the log
 pub record AreKept (of_data : DataRoom) (of_log : LogRoom) (store : Store) (log : Log) : Type 0 where

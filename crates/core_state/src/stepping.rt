@@ -69,7 +69,7 @@ impl<M: SortedMaps> CoreState<M> {
     pub fn fail_step(&mut self, session: u32, waiting: u64)
         requires session { session ≤ MOST_SESSIONS }
         requires steps { self.old.steps < 2 ^ 62 }
-        requires next { self.old.next < 2 ^ 63 }
+        requires next { self.old.next ≤ 2 ^ 63 }
         requires one { waiting ≤ 1 }
         requires few { (seat_at self.old.seats session).steps < 2 ^ 62 }
         ensures { (s : State) (a : Act) → May s session a → waiting ≡ waiting_after a → Failed M.maps M.spare M.limit s session a self.old → Moved M.maps M.spare M.limit s session a (answer.Refused refusal.DiskFault) [] self.new }

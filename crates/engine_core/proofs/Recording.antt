@@ -52,7 +52,7 @@ module _ {M : Type 0} (maps : M → ℕ → Map) (spare : M → ℕ → ℕ) (li
   pub few_saves : (saves : ℕ) → saves ≤ s.steps → saves < 2 ^ 62
   few_saves saves le = let lt = few in omega (arith, le, lt)
 
-  pub few_records : core.next ≡ s.log.next → s.opening.next ≤ 2 ^ 62 → core.next < 2 ^ 63
+  pub few_records : core.next ≡ s.log.next → s.opening.next ≤ 2 ^ 62 + 1 → core.next ≤ 2 ^ 63
   few_records same early = let le : s.log.next ≤ s.steps + s.opening.next = counts.next in let lt = few in omega (arith, same, le, early, lt)
 
 -- ---- checkpoints are counted
