@@ -48,7 +48,7 @@ pub trait Journal {
     /// Begins a checkpoint, which is to take over all that its records say. It carries none yet, and the next record is to have this
     /// number.
     fn begin_checkpoint(&mut self, next: u64)
-        requires few { (rs : Records) × has self.old rs × (rs.saves < 2 ^ 62) × Within (limit self.old) (block_bytes + 1) }
+        requires few { (rs : Records) × has self.old rs × (rs.saves ≤ 2 ^ 62) × Within (limit self.old) (block_bytes + 1) }
         ensures carries { (rs : Records) → has self.old rs → carries self.new rs next [] (block_bytes + 1) }
         ensures limit { limit self.new ≡ limit self.old }
         ensures faults { faults self.new ≡ faults self.old };

@@ -1,7 +1,7 @@
 -- No clause of `run` rests on this module: it serves contracts between crates.
 --
 -- What an act gives to the journal.
-use Rattle.std.specs.Prelude.{◌≡◌, ◌⊎◌, ℕ, ◌<◌, ◌^◌, List, Option}
+use Rattle.std.specs.Prelude.{◌≡◌, ◌⊎◌, ℕ, ◌≤◌, ◌^◌, List, Option}
 use Rattle.iv_types.specs.Maps.{Map}
 use Rattle.iv_types.specs.declared.refusal.EngineRefusal.TheVariants.{DiskFault}
 use Rattle.iv_meaning.specs.Escrow.{IsSession}
@@ -51,8 +51,8 @@ module _ {M J : Type 0} (maps : M → ℕ → Map) (spare : M → ℕ → ℕ) (
     pub may : MayAct state.store session a
     pub records : Records
     pub behind : IsBehind core journal state.log records
-    -- a step saves one checkpoint at most
-    pub few : records.saves < 2 ^ 62
+    -- a step saves one checkpoint at most, beside that of the opening
+    pub few : records.saves ≤ 2 ^ 62
 
   -- what is told of an act, of whose effects the journal has no records yet
   pub record IsUngiven (core : CoreState M) (journal : J) (session : ℕ) (a : Act) (said : Answer) : Type 0 where

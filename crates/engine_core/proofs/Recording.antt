@@ -49,7 +49,7 @@ module _ {M : Type 0} (maps : M → ℕ → Map) (spare : M → ℕ → ℕ) (li
       let lt = few in
       omega (arith, same, le, lt)
 
-  pub few_saves : (saves : ℕ) → saves ≤ s.steps → saves < 2 ^ 62
+  pub few_saves : (saves : ℕ) → saves ≤ s.steps + 1 → saves ≤ 2 ^ 62
   few_saves saves le = let lt = few in omega (arith, le, lt)
 
   pub few_records : core.next ≡ s.log.next → s.opening.next ≤ 2 ^ 62 + 1 → core.next ≤ 2 ^ 63
@@ -108,8 +108,8 @@ gives_some Has Saves a said rs h = (rs, h, refl)
 steps_more : (s : State) (i : ℕ) (a : Act) (said : Answer) (after : State) → s.stop ≡ None → Step s i a said after → after.steps ≡ s.steps + 1
 steps_more s i a said after runs step = elim step.does [ inl d ↦ ap (λ (x : State). x.steps) d.left | inr t ↦ absurd (let bad : Some t.stop ≡ None = sym t.stopped ∙ runs in cc) ]
 
-few_after : (s : State) (i : ℕ) (a : Act) (said : Answer) (es : List Effect) (rs : Records) (after : State) → s.stop ≡ None → Step s i a said after → rs.saves ≤ s.steps
-    → (records_after s i a said es rs).saves ≤ after.steps
+few_after : (s : State) (i : ℕ) (a : Act) (said : Answer) (es : List Effect) (rs : Records) (after : State) → s.stop ≡ None → Step s i a said after → rs.saves ≤ s.steps + 1
+    → (records_after s i a said es rs).saves ≤ after.steps + 1
 few_after s i a said es rs after runs step few = let one = saves_after s i a said es rs in let more = steps_more s i a said after runs step in omega (arith, one, more, few)
 
 -- a fault stops the core
@@ -121,7 +121,7 @@ fault_stops s i a after runs step none =
     ]
 
 -- one that is stopped stays so, and counts nothing
-stays_stopped : (s : State) (i : ℕ) (a : Act) (said : Answer) (after : State) (stop : Stop) → s.stop ≡ Some stop → Step s i a said after → (after.stop ≡ Some stop) × (after.steps ≡ s.steps)
+pub stays_stopped : (s : State) (i : ℕ) (a : Act) (said : Answer) (after : State) (stop : Stop) → s.stop ≡ Some stop → Step s i a said after → (after.stop ≡ Some stop) × (after.steps ≡ s.steps)
 stays_stopped s i a said after stop stopped step =
     elim step.does [
       | inl d ↦ absurd (let bad : Some stop ≡ None = sym stopped ∙ d.runs in cc)

@@ -1,66 +1,87 @@
 -- What is told of a step, and how many steps an open transaction keeps.
-use Rattle.std.specs.Prelude.{◌≡◌, ℕ, ◌≤◌, length, Option, None, Some, refl}
+use Rattle.std.specs.Prelude.{◌≡◌, ℕ, ◌+◌, ◌==◌, ◌≤◌, Bool, true, false, length, Option, None, Some, refl, if◌then◌else◌}
 use Rattle.std.specs.Option.{option_map}
 use mathlib.Core.Path.{sym, ap, ◌∙◌}
+use mathlib.Core.Logic.{inl, inr}
 use Rattle.std.proofs.Common.{arith}
 use Rattle.std.proofs.lemmas.List.{length-reverse}
 use Rattle.iv_types.specs.Maps.{Map}
 use Rattle.iv_meaning.specs.Schema.{Schema}
+use Rattle.txn_machine.specs.Acts.{Act}
+use Rattle.txn_machine.specs.Answers.{Answer}
 use Rattle.txn_machine.specs.Keeping.{Open}
 use Rattle.txn_machine.specs.Log.{Logged, Opening}
-use Rattle.txn_machine.specs.State.{State, Stop}
+use Rattle.txn_machine.specs.State.{State, Stop, is_fault, most_steps}
+use Rattle.txn_machine.specs.Steps.{Step}
 use Rattle.txn_book.specs.Acts.{act_of, answer_of}
 use Rattle.txn_book.specs.Holding.{IsSame}
-use Rattle.txn_book.specs.Moves.{IsAskable, IsAsked, Moves, kept_count}
+use Rattle.txn_book.specs.Moves.{IsAskable, IsAsked, Moves, CountsFault, kept_count}
 use Rattle.txn_book.specs.Txns.{txn_of}
 use Rattle.txn_book.specs.declared.open_table.Open.{Open as BookOpen}
-use Rattle.txn_book.specs.declared.step.Step.{Step}
-use Rattle.txn_book.specs.declared.step.Answer.{Answer}
-use Rattle.ordered_index.specs.Tree.{Tree, map_of, spare_of, limit_of}
-use Rattle.core_journal.specs.NoJournal as no_journal
+use Rattle.txn_book.specs.declared.step.Step as asked
+use Rattle.txn_book.specs.declared.step.Answer as told
 use Rattle.core_journal.specs.Records.{Records, records_after}
-use Rattle.core_journal.specs.declared.none.NoJournal.{NoJournal}
 use Rattle.core_recording.specs.Giving.{IsSaved, IsBehind}
 use Rattle.core_state.specs.Stands.{Stands}
 use Rattle.core_effects.proofs.Counted.{many_same}
 use Rattle.engine_core.specs.Acting.{Recorded}
-use Rattle.engine_core.specs.Standing.{IsIn, IsInMemory}
+use Rattle.engine_core.specs.Standing.{IsIn}
 use Rattle.engine_core.specs.declared.engine.Core.{Core}
-use Rattle.engine_core.proofs.Recording.{gives_some, opening_stays}
+use Rattle.engine_core.proofs.Recording.{gives_some, opening_stays, stays_stopped}
 
--- a core without a disk moves as its state does
-pub moves_as : {M J : Type 0} (maps : M → ℕ → Map) (spare : M → ℕ → ℕ) (limit : M → Option ℕ) (has : J → Records → Type 0) (area : J → Option ℕ) (core : Core M J) (s : State) (step : Step) (said : Answer) (rs : Records) → rs.saves ≤ s.steps → s.opening.faults ≡ 0
-    → Recorded maps spare limit has area s step.session (act_of step.act) (answer_of said) rs core.state core.journal → Moves (IsIn maps spare limit has area core) (λ db. ⊥) s step said
-moves_as maps spare limit has area core s step said rs few well r = record {
-  after = r.moved.after;
-  does = r.moved.does;
-  stands = by r.moved.after.stop refl;
-  durable = λ runs fine db no. absurd no;
-}
+-- a step after which a core is not stopped was not told of a fault, nor was the core stopped before it
+runs_still : (s : State) (i : ℕ) (a : Act) (said : Answer) (after : State) → Step s i a said after → after.stop ≡ None → (s.stop ≡ None) × (is_fault said ≡ false)
+runs_still s i a said after step none = by s.stop refl
   where
-    well_then : r.moved.after.opening.faults ≡ 0
-    well_then = ap (λ (o : Opening). o.faults) (opening_stays s step.session (act_of step.act) (answer_of said) r.moved.after r.moved.does) ∙ well
+    not_told : (told : Bool) → is_fault said ≡ told → s.stop ≡ None → is_fault said ≡ false
+    not_told false is runs = is
+    not_told true is runs = absurd (
+        elim step.does [
+          | inl d ↦ let bad : Some (record { step = s.steps + 1; act = a }) ≡ None =
+              sym (ap (λ (x : State). x.stop) d.left ∙ ap (λ b. if b then Some (record { step = s.steps + 1; act = a }) else if s.steps + 1 == most_steps then Some (record { step = s.steps + 1; act = a }) else s.stop) is) ∙ none in cc
+          | inr t ↦ let bad : Some t.stop ≡ None = sym t.stopped ∙ runs in cc
+        ])
 
-    by : (stop : Option Stop) → r.moved.after.stop ≡ stop → IsIn maps spare limit has area core r.moved.after
-    by None runs = let xs = gives_some (IsBehind maps spare limit has area core.state core.journal r.moved.after.log) (IsSaved s) (act_of step.act) (answer_of said) (records_after s step.session (act_of step.act) (answer_of said) r.effects rs) (r.behind runs) in record {
-      stands = r.moved.stands;
-      records = xs.0;
-      behind = λ _. xs.1;
-      few = let same = xs.2 in let less = r.few few in omega (arith, same, less);
-      well = well_then;
-    }
-    by (Some stop) stopped = record {
-      stands = r.moved.stands;
-      records = records_after s step.session (act_of step.act) (answer_of said) r.effects rs;
-      behind = λ runs. absurd (let bad : Some stop ≡ None = sym stopped ∙ runs in cc);
-      few = r.few few;
-      well = well_then;
-    }
+    by : (stop : Option Stop) → s.stop ≡ stop → (s.stop ≡ None) × (is_fault said ≡ false)
+    by None is = (is, not_told (is_fault said) refl is)
+    by (Some x) is = absurd (let bad : Some x ≡ None = sym (stays_stopped s i a said after x is step).0 ∙ none in cc)
 
--- a step that may be asked for may be done
-pub may_be_done : (core : Core Tree NoJournal) (step : Step) → IsAskable (IsInMemory core) step
-    → (s : State) × (rs : Records) × Stands map_of spare_of limit_of core.state s × (s.stop ≡ None → IsBehind map_of spare_of limit_of no_journal.has_any no_journal.limit_of core.state core.journal s.log rs) × IsAsked s step × (rs.saves ≤ s.steps)
-may_be_done core step q = (q.state, q.stands.records, q.stands.stands, q.stands.behind, q.asked, q.stands.few)
+module _ {M J : Type 0} (maps : M → ℕ → Map) (spare : M → ℕ → ℕ) (limit : M → Option ℕ) (has : J → Records → Type 0) (area : J → Option ℕ) (faults : J → ℕ) where
+  -- a core moves as its state does
+  pub moves_as : (old : J) (core : Core M J) (s : State) (step : asked.Step) (said : told.Answer) (rs : Records) → rs.saves ≤ s.steps + 1 → (s.stop ≡ None → faults old ≡ s.opening.faults) → CountsFault said (faults old) (faults core.journal)
+      → Recorded maps spare limit has area s step.session (act_of step.act) (answer_of said) rs core.state core.journal → Moves (IsIn maps spare limit has area faults core) (λ db. ⊥) s step said
+  moves_as old core s step said rs few well counts r = record {
+    after = r.moved.after;
+    does = r.moved.does;
+    stands = by r.moved.after.stop refl;
+    durable = λ runs fine db no. absurd no;
+  }
+    where
+      well_then : r.moved.after.stop ≡ None → faults core.journal ≡ r.moved.after.opening.faults
+      well_then none =
+          let ran = runs_still s step.session (act_of step.act) (answer_of said) r.moved.after r.moved.does none in
+          counts.stays ran.1 ∙ (well ran.0 ∙ sym (ap (λ (o : Opening). o.faults) (opening_stays s step.session (act_of step.act) (answer_of said) r.moved.after r.moved.does)))
+
+      by : (stop : Option Stop) → r.moved.after.stop ≡ stop → IsIn maps spare limit has area faults core r.moved.after
+      by None runs = let xs = gives_some (IsBehind maps spare limit has area core.state core.journal r.moved.after.log) (IsSaved s) (act_of step.act) (answer_of said) (records_after s step.session (act_of step.act) (answer_of said) r.effects rs) (r.behind runs) in record {
+        stands = r.moved.stands;
+        records = xs.0;
+        behind = λ _. xs.1;
+        few = let same = xs.2 in let less = r.few few in omega (arith, same, less);
+        well = well_then;
+      }
+      by (Some stop) stopped = record {
+        stands = r.moved.stands;
+        records = records_after s step.session (act_of step.act) (answer_of said) r.effects rs;
+        behind = λ runs. absurd (let bad : Some stop ≡ None = sym stopped ∙ runs in cc);
+        few = r.few few;
+        well = well_then;
+      }
+
+  -- a step that may be asked for may be done
+  pub may_be_done : (core : Core M J) (step : asked.Step) → IsAskable (IsIn maps spare limit has area faults core) step
+      → (s : State) × (rs : Records) × Stands maps spare limit core.state s × (s.stop ≡ None → IsBehind maps spare limit has area core.state core.journal s.log rs) × IsAsked s step × (rs.saves ≤ s.steps + 1)
+  may_be_done core step q = (q.state, q.stands.records, q.stands.stands, q.stands.behind, q.asked, q.stands.few)
 
 -- as many are kept in the book
 pub kept_as : (objects : Schema) (o : Option BookOpen) (m : Option Open) (l : Logged) → IsSame objects o m l → option_map (λ (t : BookOpen). length t.kept.items) o ≡ option_map kept_count m

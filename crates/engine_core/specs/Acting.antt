@@ -1,7 +1,7 @@
 -- No clause of `run` rests on this module: it serves contracts between crates.
 --
 -- What an act leaves for which there was no memory, and what a step leaves with its records.
-use Rattle.std.specs.Prelude.{◌≡◌, ◌⊎◌, ℕ, ◌≤◌, List, [], Option, None, IsSome}
+use Rattle.std.specs.Prelude.{◌≡◌, ◌⊎◌, ℕ, ◌+◌, ◌≤◌, List, [], Option, None, IsSome}
 use Rattle.iv_types.specs.Maps.{Map}
 use Rattle.txn_machine.specs.Acts.{Act}
 use Rattle.txn_machine.specs.Answers.{Answer}
@@ -28,5 +28,5 @@ module _ {M J : Type 0} (maps : M → ℕ → Map) (spare : M → ℕ → ℕ) (
     pub says : Says s session a said effects ⊎ (IsSome s.stop × (effects ≡ []))
     pub moved : Moved maps spare limit s session a said effects core
     pub behind : moved.after.stop ≡ None → GivesTo (IsBehind maps spare limit has area core journal moved.after.log) (IsSaved s) a said (records_after s session a said effects rs)
-    -- a step saves one checkpoint at most
-    pub few : rs.saves ≤ s.steps → (records_after s session a said effects rs).saves ≤ moved.after.steps
+    -- a step saves one checkpoint at most, beside that of the opening
+    pub few : rs.saves ≤ s.steps + 1 → (records_after s session a said effects rs).saves ≤ moved.after.steps + 1

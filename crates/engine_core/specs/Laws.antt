@@ -10,9 +10,9 @@ use Rattle.core_journal.specs.Records.{Records}
 use Rattle.engine_core.specs.Standing.{IsIn}
 use Rattle.engine_core.specs.declared.engine.Core.{Core}
 
-pub record StandingLaws {M J : Type 0} (maps : M → ℕ → Map) (spare : M → ℕ → ℕ) (limit : M → Option ℕ) (has : J → Records → Type 0) (area : J → Option ℕ) : Type 0 where
+pub record StandingLaws {M J : Type 0} (maps : M → ℕ → Map) (spare : M → ℕ → ℕ) (limit : M → Option ℕ) (has : J → Records → Type 0) (area : J → Option ℕ) (faults : J → ℕ) : Type 0 where
   -- a core stands only where steps lead
-  pub reached : (core : Core M J) (s : State) → IsIn maps spare limit has area core s → IsReached s
+  pub reached : (core : Core M J) (s : State) → IsIn maps spare limit has area faults core s → IsReached s
   -- its rows, with the kept changes of open transactions taken back, are what was opened and then committed
   pub committed : CommittedLaw
   -- each of its view rows is the share of what is committed, evaluated afresh, and what open transactions paid; where no row is

@@ -1,9 +1,8 @@
 -- No clause of `run` rests on this module: it serves contracts between crates.
 --
 -- In which states of the machine a core is.
-use Rattle.std.specs.Prelude.{◌≡◌, ℕ, ◌<◌, ◌≤◌, ◌^◌, [], Option, None}
+use Rattle.std.specs.Prelude.{◌≡◌, ℕ, ◌+◌, ◌≤◌, [], Option, None}
 use Rattle.std.specs.FinMap.{empty}
-use Rattle.std.proofs.Common.{arith}
 use Rattle.iv_types.specs.Maps.{Map}
 use Rattle.txn_machine.specs.State.{State}
 use Rattle.ordered_index.specs.Tree.{Tree, map_of, spare_of, limit_of}
@@ -18,21 +17,17 @@ use Rattle.engine_core.specs.declared.engine.Core.{Core}
 abbrev pub nothing_saved : ℕ → Saved
 nothing_saved number = record { maps = λ index. empty; definitions = []; commits = number; next = 1; carried = [] }
 
-module _ {M J : Type 0} (maps : M → ℕ → Map) (spare : M → ℕ → ℕ) (limit : M → Option ℕ) (has : J → Records → Type 0) (area : J → Option ℕ) where
+module _ {M J : Type 0} (maps : M → ℕ → Map) (spare : M → ℕ → ℕ) (limit : M → Option ℕ) (has : J → Records → Type 0) (area : J → Option ℕ) (faults : J → ℕ) where
   -- that of what it holds, of whose log its journal has the records, unless it is stopped
   pub record IsIn (core : Core M J) (s : State) : Type 0 where
     pub stands : Stands maps spare limit core.state s
     pub records : Records
     pub behind : s.stop ≡ None → IsBehind maps spare limit has area core.state core.journal s.log records
-    -- a step saves one checkpoint at most
-    pub few : records.saves ≤ s.steps
-    -- no fault had been counted as it was opened
-    pub well : s.opening.faults ≡ 0
+    -- a step saves one checkpoint at most, beside that of the opening
+    pub few : records.saves ≤ s.steps + 1
+    -- and its disk has failed no more than when it was opened
+    pub well : s.stop ≡ None → faults core.journal ≡ s.opening.faults
 
 -- the same of a core without a disk, whose maps are trees of pages
 abbrev pub IsInMemory : Core Tree NoJournal → State → Type 0
-IsInMemory core s = IsIn map_of spare_of limit_of no_journal.has_any no_journal.limit_of core s
-
--- a count of no faults is a u64
-pub none_below : 0 < 2 ^ 64
-none_below = omega arith
+IsInMemory core s = IsIn map_of spare_of limit_of no_journal.has_any no_journal.limit_of (λ journal. 0) core s

@@ -1,5 +1,5 @@
 //! What a step does: its act.
-ghost use Rattle.std.specs.Prelude.{◌≡◌, ◌≤◌, None, IfOk, OnErr};
+ghost use Rattle.std.specs.Prelude.{◌≡◌, ◌+◌, ◌≤◌, None, IfOk, OnErr};
 ghost use Rattle.txn_machine.specs.State.{State, is_fault};
 ghost use Rattle.txn_book.specs.Acts.{act_of, answer_of};
 ghost use Rattle.txn_book.specs.Moves.{CountsFault, IsAsked};
@@ -97,7 +97,7 @@ fn run<M: SortedMaps, J: Checkpoints<M>>(
     journal: &mut J,
     step: &Step,
 ) -> Answer
-    requires { (s : State) × (rs : Records) × Stands M.maps M.spare M.limit core.old s × IsBehind M.maps M.spare M.limit J.has J.limit core.old journal.old s.log rs × (s.stop ≡ None) × IsAsked s step.now × (rs.saves ≤ s.steps) }
+    requires { (s : State) × (rs : Records) × Stands M.maps M.spare M.limit core.old s × IsBehind M.maps M.spare M.limit J.has J.limit core.old journal.old s.log rs × (s.stop ≡ None) × IsAsked s step.now × (rs.saves ≤ s.steps + 1) }
     ensures recorded { (s : State) (rs : Records) → Stands M.maps M.spare M.limit core.old s → IsBehind M.maps M.spare M.limit J.has J.limit core.old journal.old s.log rs → s.stop ≡ None → IsAsked s step.now
         → Recorded M.maps M.spare M.limit J.has J.limit s step.now.session (act_of step.now.act) (answer_of result) rs core.new journal.new }
     ensures faults { CountsFault result (J.faults journal.old) (J.faults journal.new) }
@@ -118,7 +118,7 @@ pub fn do_one<M: SortedMaps, J: Checkpoints<M>>(
     journal: &mut J,
     step: &Step,
 ) -> Answer
-    requires { (s : State) × (rs : Records) × Stands M.maps M.spare M.limit core.old s × (s.stop ≡ None → IsBehind M.maps M.spare M.limit J.has J.limit core.old journal.old s.log rs) × IsAsked s step.now × (rs.saves ≤ s.steps) }
+    requires { (s : State) × (rs : Records) × Stands M.maps M.spare M.limit core.old s × (s.stop ≡ None → IsBehind M.maps M.spare M.limit J.has J.limit core.old journal.old s.log rs) × IsAsked s step.now × (rs.saves ≤ s.steps + 1) }
     ensures recorded { (s : State) (rs : Records) → Stands M.maps M.spare M.limit core.old s → (s.stop ≡ None → IsBehind M.maps M.spare M.limit J.has J.limit core.old journal.old s.log rs) → IsAsked s step.now
         → Recorded M.maps M.spare M.limit J.has J.limit s step.now.session (act_of step.now.act) (answer_of result) rs core.new journal.new }
     ensures faults { CountsFault result (J.faults journal.old) (J.faults journal.new) }

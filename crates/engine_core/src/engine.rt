@@ -1,20 +1,19 @@
 //! The core as an engine that does steps.
-ghost use Rattle.std.specs.Prelude.{◌≡◌, ◌+◌, ◌<◌, ◌^◌, [], Some, IfOk};
-ghost use mathlib.Core.Path.{sym, ap};
+ghost use Rattle.std.specs.Prelude.{◌≡◌, ◌+◌, ◌<◌, ◌≤◌, ◌^◌, [], Some, IfOk};
 ghost use Rattle.std.specs.FinMap.{empty};
-ghost use Rattle.core_journal.specs.Records.{begun};
-ghost use Rattle.core_state.specs.Stands.{limited};
+ghost use Rattle.core_journal.specs.Records.{Records, begun};
+ghost use Rattle.core_recording.specs.Giving.{IsBehind};
+ghost use Rattle.core_state.specs.Stands.{Stands, limited};
 ghost use Rattle.data_store.specs.Held.{AreEmpty};
 ghost use Rattle.txn_machine.specs.Log.{Within, block_bytes};
-ghost use Rattle.txn_machine.specs.State.{opened_state};
+ghost use Rattle.txn_machine.specs.State.{State, opened_state};
 ghost use Rattle.txn_machine.specs.Store.{opened};
-ghost use Rattle.engine_core.specs.Standing.{IsIn, IsInMemory, none_below, nothing_saved};
+ghost use Rattle.engine_core.specs.Standing.{IsIn, nothing_saved};
 
 use crate::acting::do_one;
-use core_journal::{Journal, NoJournal};
+use core_journal::{Checkpoints, Journal};
 use core_state::CoreState;
 use iv_types::{NoMemory, SEATS, SortedMaps};
-use ordered_index::PageMaps;
 use std::alloc::Global;
 use txn_book::{Answer, LastRefusal, Step, Stepper};
 
@@ -48,12 +47,28 @@ impl<M: SortedMaps, J: Journal + Drop> Core<M, J> {
         requires least { Within log (block_bytes + 1) }
         requires data { M.limit maps ≡ Some most }
         requires number { number < 2 ^ 63 }
-        ensures { IfOk result (λ core. IsIn M.maps M.spare M.limit J.has J.limit core (opened_state (limited log (Some most)) (opened (record { number = number; schema = []; rows = empty }) empty))) }
+        requires well { J.faults journal ≡ 0 }
+        ensures { IfOk result (λ core. IsIn M.maps M.spare M.limit J.has J.limit J.faults core (opened_state (limited log (Some most)) (opened (record { number = number; schema = []; rows = empty }) empty))) }
     {
         Ok(Core {
             state: CoreState::new(alloc, maps, log, most, number)?,
             journal,
         })
+    }
+
+    /// A core that holds this, with a journal that has the records of the log as it is.
+    pub fn on(state: CoreState<M>, journal: J) -> Self
+        ensures { (s : State) (rs : Records) → Stands M.maps M.spare M.limit state s → IsBehind M.maps M.spare M.limit J.has J.limit state journal s.log rs → rs.saves ≤ s.steps + 1 → J.faults journal ≡ s.opening.faults
+            → IsIn M.maps M.spare M.limit J.has J.limit J.faults result s }
+    {
+        Core { state, journal }
+    }
+
+    /// Gives the journal back.
+    pub fn into_journal(self) -> J
+        ensures { result ≡ self.journal }
+    {
+        self.journal
     }
 
     /// What the core holds, to be looked at.
@@ -64,11 +79,11 @@ impl<M: SortedMaps, J: Journal + Drop> Core<M, J> {
     }
 }
 
-// A core without a disk, so that no fault is told, and nothing of what a crash leaves.
-impl Stepper for Core<PageMaps, NoJournal> {
-    ghost stands = { IsInMemory };
+// What a crash leaves is not told.
+impl<M: SortedMaps, J: Checkpoints<M>> Stepper for Core<M, J> {
+    ghost stands = { IsIn M.maps M.spare M.limit J.has J.limit J.faults };
 
-    ghost faults = { λ _. 0 };
+    ghost faults = { λ core. J.faults core.journal };
 
     ghost may_recover = { λ _ _. ⊥ };
 
@@ -78,7 +93,7 @@ impl Stepper for Core<PageMaps, NoJournal> {
 
     ghost is_reached = { λ _ _ stands. stands.stands.reached };
 
-    ghost runs_well = { λ _ _ stands _. sym stands.well };
+    ghost runs_well = { λ _ _ stands. stands.well };
 
     ghost keeps_all = { λ _ _ _ _ _ no. absurd no };
 
@@ -88,9 +103,8 @@ impl Stepper for Core<PageMaps, NoJournal> {
 
     ghost longer = { λ _ _ _ _ _ no. no };
 
-    ghost counts_in = { λ _. none_below };
+    ghost counts_in = { λ core. J.counts_in core.journal };
 
-    #[tactic(auto, using(crate::proofs::Steps::may_be_done))]
     fn step(&mut self, step: &Step) -> Answer {
         do_one(&mut self.state, &mut self.journal, step)
     }

@@ -135,7 +135,7 @@ module _ {D : Type 0} (is_told : Type 0) (size_of : D → ℕ) (seen : D → Lis
       }))
 
   -- a checkpoint begins, whatever records there are
-  pub begun_over : (old : LogJournal D) (records : Records) (next : ℕ) (log : LogState) → IsKept is_told size_of seen may_leave old → records.image_limit ≡ maps_limit old → old.saved ≤ 2 ^ 62 + records.saves → old.saved < 2 ^ 63
+  pub begun_over : (old : LogJournal D) (records : Records) (next : ℕ) (log : LogState) → IsKept is_told size_of seen may_leave old → records.image_limit ≡ maps_limit old → old.saved ≤ 2 ^ 62 + records.saves → old.saved ≤ 2 ^ 63
       → 6 ≤ old.log.size → log ≡ log_restarted (1 - old.area) next old.log → Carries is_told size_of seen may_leave (with_log old log) records next [] 6
   begun_over old records next log kept maps saves few least is =
       subst (λ (l : LogState). Carries is_told size_of seen may_leave (with_log old l) records next [] 6) (sym is) (record {
@@ -154,7 +154,7 @@ module _ {D : Type 0} (is_told : Type 0) (size_of : D → ℕ) (seen : D → Lis
       })
 
   -- behind those that it has
-  pub restarts : (old : LogJournal D) (records : Records) (next : ℕ) (log : LogState) → Has is_told size_of seen may_leave old records → old.saved < 2 ^ 63 → 6 ≤ old.log.size
+  pub restarts : (old : LogJournal D) (records : Records) (next : ℕ) (log : LogState) → Has is_told size_of seen may_leave old records → old.saved ≤ 2 ^ 63 → 6 ≤ old.log.size
       → log ≡ log_restarted (1 - old.area) next old.log → Carries is_told size_of seen may_leave (with_log old log) records next [] 6
   restarts old records next log has few least is = begun_over old records next log has.kept has.maps has.saves few least is
 

@@ -1,7 +1,7 @@
 -- No clause of `run` rests on this module: it serves contracts between crates.
 --
 -- How a journal on a disk stands between two calls: the parts of its disk, the header that is live there, and the records that it has.
-use Rattle.std.specs.Prelude.{◌≡◌, ℕ, ◌+◌, ◌-◌, ◌*◌, ◌^◌, ◌<◌, ◌≤◌, List, [], ◌∷◌, length, reverse, Option, Some}
+use Rattle.std.specs.Prelude.{◌≡◌, ℕ, ◌+◌, ◌-◌, ◌*◌, ◌^◌, ◌≤◌, List, [], ◌∷◌, length, reverse, Option, Some}
 use Rattle.std.specs.List.{AllByRecursion}
 use Rattle.disk_io.specs.Disk.{Only}
 use Rattle.page_store.specs.Image.{live}
@@ -87,5 +87,5 @@ module _ {D : Type 0} (is_told : Type 0) (size_of : D → ℕ) (seen : D → Lis
     pub used_is : used ≡ used_by journal.log
     pub room : used ≤ journal.log.size
     pub saves : journal.saved ≤ 2 ^ 62 + records.saves
-    pub few : journal.saved < 2 ^ 63
+    pub few : journal.saved ≤ 2 ^ 63
     pub maps : records.image_limit ≡ maps_limit journal

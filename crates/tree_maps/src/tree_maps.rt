@@ -1,8 +1,9 @@
 //! Sorted maps in memory, each a balanced tree.
-ghost use Rattle.std.specs.Prelude.{◌≡◌, ℕ, None, IfOk};
+ghost use Rattle.std.specs.Prelude.{◌≡◌, ◌<◌, ℕ, None, IfOk};
 ghost use Rattle.std.specs.FinMap as map;
-ghost use Rattle.iv_types.specs.Maps.{entry_size};
+ghost use Rattle.iv_types.specs.Maps.{entry_size, last_index};
 ghost use Rattle.table_store.specs.Lists.{map_at, spare_at};
+ghost use Rattle.tree_maps.specs.Holding.{AreHeld};
 
 use crate::entry_tree::EntryTree;
 use iv_types::{Bytes, NoMemory, SortedMaps};
@@ -32,7 +33,8 @@ pub struct TreeMaps {
 impl Model for TreeMaps {
     ghost use Rattle.std.specs.Prelude.{List};
     ghost use Rattle.std.specs.Coded.{coded_list};
-    ghost use Rattle.table_store.specs.Lists.{Listed, coded_listed, AreCounted};
+    ghost use Rattle.table_store.specs.Lists.{Listed, coded_listed};
+    ghost use Rattle.tree_maps.specs.Holding.{AreMaps};
 
     ghost Value = { List Listed };
 
@@ -40,7 +42,7 @@ impl Model for TreeMaps {
 
     ghost view = { λ m. m.trees.items };
 
-    ghost invariant = { λ m. AreCounted m.trees.items m.used };
+    ghost invariant = { λ m. AreMaps m.trees.items m.used };
 }
 
 impl TreeMaps {
@@ -61,6 +63,14 @@ impl TreeMaps {
             trees,
             used: 0,
         })
+    }
+
+    /// What always holds of the entries: an index can hold each, and past the last index there are none. It does nothing.
+    pub fn maps_law(&self)
+        ensures held { AreHeld self.now }
+        ensures beyond { (index : ℕ) → last_index < index → map_at self.now index ≡ map.empty }
+    {
+        let _used = self.used;
     }
 }
 

@@ -13,5 +13,5 @@ returns g c =
       records = begun (Some c.args.most) (nothing_saved c.args.number) (block_bytes + 1);
       behind = λ _. record { has_them = c.requires.unrecorded; used = refl; same_limit = c.requires.log ∙ h.opening.log_is; same_image = h.opening.data_is };
       few = omega arith;
-      well = refl;
+      well = λ _. c.requires.well;
     }

@@ -6,6 +6,7 @@ use Rattle.iv_types.proofs.MapSizes.{size_remove}
 use Rattle.table_store.specs.Lists.{Listed, map_at, unheld}
 use Rattle.table_store.proofs.Counting.{counted_list, counted_least}
 use Rattle.table_store.proofs.Maps.{held_within}
+use Rattle.tree_maps.proofs.Holding.{HoldsIn, held_list, held_left}
 use Rattle.tree_maps.proofs.tree_maps.TreeMapsSortedMaps.remove.Goals as goal
 
 pub index_mut-requires : goal.index_mut-requires
@@ -56,7 +57,7 @@ overflow_sub-self c =
     let inside : index < length trees = omega (arith, within, ap length c.self.view_is) in
     let old : c.index_mut.result.now ≡ slice_index_or trees index unheld = c.index_mut.ensures.value ∙ get_or_default _ index _ unheld inside in
     let some : map.get (map_at trees index) key ≡ Some was = ap (λ (l : Listed). map.get l.map key) (sym old) ∙ c.remove-was.ensures.was in
-    omega (arith, size_remove (map_at trees index) key was some, counted_least trees c.self.inside.used index c.self.invariant inside, c.entry_size.ensures, ap length c.as_slice.ensures, ap length c.was.view_is)
+    omega (arith, size_remove (map_at trees index) key was some, counted_least trees c.self.inside.used index c.self.invariant.counted inside, c.entry_size.ensures, ap length c.as_slice.ensures, ap length c.was.view_is)
 
 pub invariant_of-self : goal.invariant_of-self
 invariant_of-self c =
@@ -71,5 +72,8 @@ invariant_of-self c =
     let size : map_size c.remove-was.new.self.map + (length key + length was + 8) ≡ map_size (map_at trees index) =
     ap (λ (m : Map). map_size m + (length key + length was + 8)) (c.remove-was.ensures.entry ∙ ap (λ (l : Listed). map.remove l.map key) old)
     ∙ size_remove (map_at trees index) key was some in
-    counted_list trees index c.remove-was.new.self c.self.inside.used (c.self.inside.used - c.entry_size.result) c.self.invariant inside c.remove-was.ensures.most
-    (omega (arith, size, c.entry_size.ensures, ap length c.as_slice.ensures, ap length c.was.view_is, counted_least trees c.self.inside.used index c.self.invariant inside))
+    record {
+      counted = counted_list trees index c.remove-was.new.self c.self.inside.used (c.self.inside.used - c.entry_size.result) c.self.invariant.counted inside c.remove-was.ensures.most
+          (omega (arith, size, c.entry_size.ensures, ap length c.as_slice.ensures, ap length c.was.view_is, counted_least trees c.self.inside.used index c.self.invariant.counted inside));
+      held = held_list trees index c.remove-was.new.self c.self.invariant.held inside (subst (HoldsIn index) (sym (c.remove-was.ensures.entry ∙ ap (λ (l : Listed). map.remove l.map key) old)) (held_left index (map_at trees index) key (c.self.invariant.held index)));
+    }
