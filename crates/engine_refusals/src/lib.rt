@@ -8,3 +8,4 @@ mod texts;
 mod values;
 
 pub use telling::{is_deadlock, is_stop, told_of, told_plainly};
+pub use values::values_in;

@@ -8,7 +8,7 @@ use Rattle.iv_meaning.specs.Serial.{opened_with}
 use Rattle.iv_meaning.specs.Script.{IsOutput, AnswersFirst, IsOutputPart}
 use Rattle.line_wire.specs.Wire.{most_bytes}
 use Rattle.script_run.specs.declared.status.Status.{Status}
-use Rattle.script_run.specs.declared.status.Status.TheVariants.{Done, Usage, ReadFault, WriteFault, DiskFault, NoMemory, TooMuch}
+use Rattle.script_run.specs.declared.status.Status.TheVariants.{Done, Usage, ReadFault, WriteFault, DiskFault, BadImage, NoMemory, TooMuch}
 
 -- Each whole line that was taken is answered. What else was taken begins a line, and the rest is left.
 pub record AnswersTaken (db : Database) (input : List ℕ) (left : Option (List ℕ)) (out : List ℕ) : Type 0 where
@@ -23,13 +23,14 @@ pub record AnswersTaken (db : Database) (input : List ℕ) (left : Option (List 
 
 -- What was written for an input of which this is left, from this database on: with Done the whole output; with a fault of the source or too much
 -- input, that of the lines that were taken, and with want of memory of some first lines; with a fault of the sink, the front
--- of such an output. A run of lines alone ends with no fault of a disk.
+-- of such an output. A run of lines alone ends with no fault of a disk or of an image.
 abbrev pub Answered : Database → Status → List ℕ → Option (List ℕ) → List ℕ → Type 0
 Answered db Done input left out = IsOutput (opened_with db) input out
 Answered db Usage input left out = Unit {0}
 Answered db ReadFault input left out = AnswersTaken db input left out
 Answered db WriteFault input left out = IsOutputPart (opened_with db) input out
 Answered db DiskFault input left out = ⊥
+Answered db BadImage input left out = ⊥
 Answered db NoMemory input left out = AnswersFirst (opened_with db) input out
 Answered db TooMuch input left out = AnswersTaken db input left out
 
@@ -56,6 +57,7 @@ Taken Usage input left = left ≡ Some input
 Taken ReadFault input left = Unit {0}
 Taken WriteFault input left = Unit {0}
 Taken DiskFault input left = Unit {0}
+Taken BadImage input left = left ≡ Some input
 Taken NoMemory input left = Unit {0}
 Taken TooMuch input left = TookMost input left
 
@@ -66,6 +68,7 @@ SourceFaults Usage before now = now ≡ before
 SourceFaults ReadFault before now = Rose before now
 SourceFaults WriteFault before now = (now ≡ before) ⊎ Rose before now
 SourceFaults DiskFault before now = now ≡ before
+SourceFaults BadImage before now = now ≡ before
 SourceFaults NoMemory before now = now ≡ before
 SourceFaults TooMuch before now = now ≡ before
 
@@ -76,5 +79,6 @@ SinkFaults Usage before now = (now ≡ before) ⊎ Rose before now
 SinkFaults ReadFault before now = now ≡ before
 SinkFaults WriteFault before now = Rose before now
 SinkFaults DiskFault before now = now ≡ before
+SinkFaults BadImage before now = now ≡ before
 SinkFaults NoMemory before now = now ≡ before
 SinkFaults TooMuch before now = now ≡ before

@@ -3,7 +3,7 @@
 -- The exit statuses.
 use Rattle.std.specs.Prelude.{ℕ}
 use Rattle.script_run.specs.declared.status.Status.{Status}
-use Rattle.script_run.specs.declared.status.Status.TheVariants.{Done, Usage, ReadFault, WriteFault, DiskFault, NoMemory, TooMuch}
+use Rattle.script_run.specs.declared.status.Status.TheVariants.{Done, Usage, ReadFault, WriteFault, DiskFault, BadImage, NoMemory, TooMuch}
 
 abbrev pub code_of : Status → ℕ
 code_of Done = 0
@@ -11,5 +11,6 @@ code_of Usage = 1
 code_of ReadFault = 2
 code_of WriteFault = 3
 code_of DiskFault = 4
+code_of BadImage = 5
 code_of NoMemory = 6
 code_of TooMuch = 8

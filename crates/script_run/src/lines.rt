@@ -98,6 +98,7 @@ pub fn run_lines<E: Stepper, S: Source, K: Sink>(
     requires opened { WasOpened (E.stands engine.old) }
     ensures command { result ≢ Status.Usage }
     ensures disks { result ≢ Status.DiskFault }
+    ensures images { result ≢ Status.BadImage }
     ensures output { (o : WasOpened (E.stands engine.old)) (input before : List ℕ) → S.left source.old ≡ Some input → K.written sink.old ≡ Some before → Output o.db result input before (S.left source.new) (K.written sink.new) }
     ensures rests { result ≡ Status.Done → StandsIn (E.stands engine.new) Rests }
     ensures taken { (input : List ℕ) → S.left source.old ≡ Some input → Taken result input (S.left source.new) }

@@ -15,6 +15,8 @@ pub enum Status {
     WriteFault,
     /// A disk could not be opened or made, or it failed.
     DiskFault,
+    /// A disk bears no database: the rule that fails, or the row of a view that is wrong, was printed.
+    BadImage,
     /// There was no memory outside a statement.
     NoMemory,
     /// All the bytes that may be taken from a source were taken.
@@ -32,6 +34,7 @@ impl Status {
             Status::ReadFault => 2,
             Status::WriteFault => 3,
             Status::DiskFault => 4,
+            Status::BadImage => 5,
             Status::NoMemory => 6,
             Status::TooMuch => 8,
         }
