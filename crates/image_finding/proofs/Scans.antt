@@ -1,11 +1,12 @@
 -- The log area in use: rules 5, 6 and 7.
-use Rattle.std.proofs.Common.{◌≡◌, ◌≢◌, inl, inr, ℕ, ◌+◌, ◌<◌, List, ◌++◌, length, get_or, Option, Some, None, Result, Ok, Err, refl, sym, ◌∙◌, ap, arith, length-append}
+use Rattle.std.proofs.Common.{◌≡◌, ◌≢◌, inl, inr, ℕ, ◌+◌, ◌<◌, ◌≤◌, List, [], ◌∷◌, ◌++◌, length, get_or, Option, Some, None, Result, Ok, Err, refl, sym, ◌∙◌, ap, arith, length-append}
 use Rattle.std.proofs.lemmas.List.{get_or_past}
 use Rattle.std.proofs.lemmas.Bool.{cases_lt}
 use Rattle.disk_io.specs.Disk.{AreBytes}
 use Rattle.page_store.specs.Image.{area_at}
 use Rattle.log_records.specs.declared.record.Scanned.{Scanned}
-use Rattle.log_records.specs.Area.{group, block, blocks}
+use Rattle.log_records.specs.Spelling.{spelling}
+use Rattle.log_records.specs.Area.{Entry, group, block, blocks, at_places, laid}
 use Rattle.log_records.specs.Scan.{Fault, scanned}
 use Rattle.txn_log.specs.Damaged.{Header, Device, first_block_ends, blocks_lie, records_read}
 use Rattle.log_disk.specs.Bears.{end_of_first}
@@ -13,6 +14,7 @@ use Rattle.log_disk.specs.Found.{scan_fault, IsFound}
 use Rattle.log_disk.proofs.Areas.{block_long}
 use Rattle.log_disk.proofs.Placing.{six_or_seven, gates}
 use Rattle.log_disk.proofs.Breaking.{breaks}
+use Rattle.log_disk.proofs.Scanning.{scanned_are}
 use Rattle.image_finding.specs.declared.fault.BadImage.{BadImage}
 use Rattle.image_finding.specs.Rules.{IsRefused}
 use Rattle.image_finding.specs.Headers.{StandsUpTo, area_in}
@@ -40,6 +42,32 @@ fault_inside area rule place bytes h = elim (six_or_seven area (record { rule = 
       let some = at.some in
       omega (arith, one, two, three, place_is, some))
 ]
+
+-- ---- there are no more records than bytes
+
+few_placed : (place : ℕ) (es : List Entry) → length (at_places place es) ≤ length (group es)
+few_placed place [] = omega arith
+few_placed place (e ∷ es) =
+    let both = length-append (spelling e.number e.entry) (group es) in
+    let rest = few_placed (place + length (spelling e.number e.entry)) es in
+    omega (arith, both, rest)
+
+few_laid : (place : ℕ) (groups : List (List Entry)) → length (laid place groups) ≤ length (blocks groups)
+few_laid place [] = omega arith
+few_laid place (es ∷ groups) =
+    let records = length-append (at_places (place + 5) es) (laid (place + (5 + length (group es))) groups) in
+    let bytes = length-append (block (group es)) (blocks groups) in
+    let long = block_long (group es) in
+    let here = few_placed (place + 5) es in
+    let rest = few_laid (place + (5 + length (group es))) groups in
+    omega (arith, records, bytes, long, here, rest)
+
+pub few_scanned : (area : List ℕ) (read : List Scanned) → AreBytes area → scanned area ≡ Ok read → length read ≤ length area
+few_scanned area read bytes is =
+    let are = scanned_are area read bytes is in
+    let both = length-append (blocks are.groups) are.tail in
+    let few = few_laid 0 are.groups in
+    omega (arith, ap length are.split, ap length are.read, both, few)
 
 -- ---- rule 5
 

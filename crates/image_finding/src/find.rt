@@ -1,5 +1,5 @@
 //! The image of a device.
-ghost use Rattle.std.specs.Prelude.{◌≡◌, ◌+◌, ◌*◌, ◌≤◌, IfOk};
+ghost use Rattle.std.specs.Prelude.{◌≡◌, ◌≤◌, length, IfOk};
 ghost use Rattle.txn_log.specs.Damaged.{FitsDevice};
 ghost use Rattle.log_records.specs.Scan.{scanned};
 ghost use Rattle.image_finding.specs.Reads.{IsOnlyRead};
@@ -26,9 +26,11 @@ fn with_pages<D: Disk>(
     records: RecordList,
 ) -> Result<FoundImage, FindFault>
     requires fits { FitsDevice (as_header header) (D.size_of disk.old) }
+    requires area { header.area ≤ 1 }
+    requires few { length records ≤ header.area_bytes }
     ensures found { D.is_told → StandsUpTo 7 (D.seen disk.old) (as_header header) → scanned (area_in (as_header header) (D.seen disk.old)) ≡ Ok records → IfOk result (λ image. HasImage (D.seen disk.old) image) }
     ensures refused { D.is_told → StandsUpTo 7 (D.seen disk.old) (as_header header) → IfBad result (λ bad. IsRefused (D.seen disk.old) bad) }
-    ensures size { IfOk result (λ image. D.size_of disk.old ≡ 278528 + 2 * image.header.area_bytes + 16384 * image.header.pages) }
+    ensures fits { IfOk result (λ image. FitsDevice (as_header image.header) (D.size_of disk.old)) }
     ensures only_read { IsOnlyRead D.is_told D.size_of D.seen D.may_leave D.moment D.left_since disk.old disk.new }
     ensures cause { FindFaults result (D.faults disk.old) (D.faults disk.new) }
 {
@@ -55,7 +57,7 @@ fn find_rest<D: Disk>(
     requires area { header.area ≤ 1 }
     ensures found { D.is_told → StandsUpTo 4 (D.seen disk.old) (as_header header) → IfOk result (λ image. HasImage (D.seen disk.old) image) }
     ensures refused { D.is_told → StandsUpTo 4 (D.seen disk.old) (as_header header) → IfBad result (λ bad. IsRefused (D.seen disk.old) bad) }
-    ensures size { IfOk result (λ image. D.size_of disk.old ≡ 278528 + 2 * image.header.area_bytes + 16384 * image.header.pages) }
+    ensures fits { IfOk result (λ image. FitsDevice (as_header image.header) (D.size_of disk.old)) }
     ensures only_read { IsOnlyRead D.is_told D.size_of D.seen D.may_leave D.moment D.left_since disk.old disk.new }
     ensures cause { FindFaults result (D.faults disk.old) (D.faults disk.new) }
 {
@@ -77,7 +79,8 @@ pub fn find_image<D: Disk>(alloc: Global, disk: &mut D) -> Result<FoundImage, Fi
     ensures found { D.is_told → IfOk result (λ image. HasImage (D.seen disk.old) image) }
     // What is answered is the least rule that fails.
     ensures refused { D.is_told → IfBad result (λ bad. IsRefused (D.seen disk.old) bad) }
-    ensures size { IfOk result (λ image. D.size_of disk.old ≡ 278528 + 2 * image.header.area_bytes + 16384 * image.header.pages) }
+    // Its sizes are those of the device, and its numbers at most 2^62.
+    ensures fits { IfOk result (λ image. FitsDevice (as_header image.header) (D.size_of disk.old)) }
     ensures only_read { IsOnlyRead D.is_told D.size_of D.seen D.may_leave D.moment D.left_since disk.old disk.new }
     ensures cause { FindFaults result (D.faults disk.old) (D.faults disk.new) }
 {

@@ -19,4 +19,6 @@ pub struct FoundImage {
     ghost low_map: { IsLow map },
     ghost few_pages: { header.pages ≤ 131072 },
     ghost small_areas: { header.area_bytes ≤ 268435456 },
+    ghost named_area: { header.area ≤ 1 },
+    ghost few_records: { length records ≤ header.area_bytes },
 }

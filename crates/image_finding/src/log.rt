@@ -59,6 +59,7 @@ fn ends_at(area: &[u8], place: u64) -> bool
 fn scan_at(alloc: Global, place: u64, area: &[u8]) -> Result<RecordList, FindFault>
     requires { place + length area.now < 2 ^ 64 }
     ensures records { IfOk result (λ read. scanned area.now ≡ Ok read) }
+    ensures few { IfOk result (λ read. length read ≤ length area.now) }
     ensures fault { IfBad result (λ bad. scan_fault place (scanned area.now) ≡ Some (bad.rule, bad.place)) }
     // The disk is not asked.
     ensures no_disk { (count : ℕ) → FindFaults result count count }
@@ -87,6 +88,7 @@ fn records_of(
     ensures stands { (c : List ℕ) → area.now ≡ area_in (as_header header.now) c → StandsUpTo 4 c (as_header header.now) → OnOk result (StandsUpTo 7 c (as_header header.now)) }
     ensures refused { (c : List ℕ) → area.now ≡ area_in (as_header header.now) c → StandsUpTo 4 c (as_header header.now) → IfBad result (λ bad. IsRefused c bad) }
     ensures records { IfOk result (λ read. scanned area.now ≡ Ok read) }
+    ensures few { IfOk result (λ read. length read ≤ header.now.area_bytes) }
     // The disk is not asked.
     ensures no_disk { (count : ℕ) → FindFaults result count count }
 {
@@ -110,6 +112,7 @@ pub(crate) fn read_records<D: Disk>(
     ensures stands { D.is_told → StandsUpTo 4 (D.seen disk.old) (as_header header.now) → OnOk result (StandsUpTo 7 (D.seen disk.old) (as_header header.now)) }
     ensures refused { D.is_told → StandsUpTo 4 (D.seen disk.old) (as_header header.now) → IfBad result (λ bad. IsRefused (D.seen disk.old) bad) }
     ensures records { D.is_told → IfOk result (λ read. scanned (area_in (as_header header.now) (D.seen disk.old)) ≡ Ok read) }
+    ensures few { IfOk result (λ read. length read ≤ header.now.area_bytes) }
     ensures only_read { IsOnlyRead D.is_told D.size_of D.seen D.may_leave D.moment D.left_since disk.old disk.new }
     ensures cause { FindFaults result (D.faults disk.old) (D.faults disk.new) }
 {

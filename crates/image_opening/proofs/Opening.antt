@@ -26,10 +26,10 @@ use Rattle.image_finding.specs.Images.{HasImage}
 use Rattle.image_finding.specs.Rules as rules
 use Rattle.image_views.specs.Compared.{CanCompare}
 use Rattle.record_replay.specs.Standing.{Has, contents_of}
+use Rattle.record_replay.specs.Texts.{texts_entries}
 use Rattle.record_replay.specs.declared.replay.Replay.{Replay}
 use Rattle.log_replay.specs.Told.{IsRecovered}
 use Rattle.image_pages.specs.Pages.{no_limit, TreeStore, CountsTextsOf}
-use Rattle.image_opening.specs.Bytes.{texts_entries}
 use Rattle.image_opening.specs.Faults.{open_fault, counted_by}
 use Rattle.image_opening.specs.Images.{IsImageIn}
 use Rattle.image_opening.specs.Telling.{HasSound, IsFineSo, IsWrongIn, Tells, Refuses}
@@ -44,9 +44,16 @@ use Rattle.image_opening.proofs.Texts.{same_turned, both_texts, carried_none, fu
 pub can_compare : (store : TreeStore) (p : Pages) → Has map_at no_limit store p → CanCompare store.catalog (map_at store.tables) store.views (contents_of p)
 can_compare store p h = record { readable = record { held = h.closed.held; stored = h.stored }; sound = h.sound }
 
+-- where a sum stands still, the limit is passed
+pub is_within : (image : FoundImage) (maps : ℕ → Map) (text_bytes size limit : ℕ) → min (map_size (maps 0)) (2 ^ 64 - 1) ≤ text_bytes + texts_entries image.records
+    → size ≡ min (used maps - map_size (maps 0) + text_bytes + texts_entries image.records) (2 ^ 64 - 1) → limit ≡ data_limit image.header.pages → size ≤ limit → used maps ≤ data_limit image.header.pages
+is_within image maps text_bytes size limit texts size_is limit_is le = let pages = image.few_pages in omega (arith, texts, size_is, limit_is, le, pages)
+
 -- what is read has them
-pub has_sound : (size limit : ℕ) (r : Recovered) (p : Pages) → Has map_at no_limit r.replay.store p → r.replay.commits ≡ p.db.number → r.replay.next ≤ most_number + 1 → IsFineSo size limit (contents_of p) → HasSound r
-has_sound size limit r p has commits next f = record { pages = p; has = has; commits = commits; next = next; in_range = f.in_range; fresh_at = λ place. f.fresh_at p.db.number place }
+pub has_sound : (size limit : ℕ) (r : Recovered) (p : Pages) → Has map_at no_limit r.replay.store p → r.replay.commits ≡ p.db.number → r.replay.next ≤ most_number + 1 → IsFineSo size limit (contents_of p)
+    → r.replay.commits < 2 ^ 63 → used (map_at r.replay.store.tables) ≤ data_limit r.header.pages → HasSound r
+has_sound size limit r p has commits next f few within =
+    record { pages = p; has = has; commits = commits; few = few; next = next; in_range = f.in_range; fresh_at = λ place. f.fresh_at p.db.number place; within = within }
 
 -- an image is refused for this
 abbrev pub RefusesIt : PlacedImage → OpenFault → Type 0

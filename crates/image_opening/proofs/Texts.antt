@@ -17,7 +17,8 @@ use Rattle.log_disk.specs.Spelled.{in_bytes}
 use Rattle.log_disk.specs.Placed.{StandsFor, AreCarriedAt, AreFurtherAt, known}
 use Rattle.log_disk.proofs.Spelling.{said_leads}
 use Rattle.log_replay.proofs.Through.{said_known}
-use Rattle.image_opening.specs.Bytes.{text_entries, texts_entries}
+use Rattle.record_replay.specs.Texts.{text_entries, texts_entries}
+use Rattle.record_replay.proofs.Texts.{sizes, both_sizes}
 
 pub both_texts : (xs ys : List Scanned) → texts_entries (xs ++ ys) ≡ texts_entries xs + texts_entries ys
 both_texts [] ys = omega arith
@@ -32,17 +33,6 @@ same_turned (x ∷ xs) =
     omega (arith, turned, both, rest)
 
 -- ---- a record
-
-abbrev sizes : List (List ℕ) → ℕ
-sizes texts = sum (map definition_entries texts)
-
-both_sizes : (xs ys : List (List ℕ)) → sizes (xs ++ ys) ≡ sizes xs + sizes ys
-both_sizes [] ys = omega arith
-both_sizes (x ∷ xs) ys =
-    let all = sum_first (definition_entries x) (map definition_entries (xs ++ ys)) in
-    let one = sum_first (definition_entries x) (map definition_entries xs) in
-    let rest = both_sizes xs ys in
-    omega (arith, all, one, rest)
 
 one_size : (objects : Schema) (of : Record) → text_entries (in_bytes objects of) ≡ sizes (text_in of)
 one_size objects (Definition number session text) = let one = sum_first (definition_entries text) [] in omega (arith, one)

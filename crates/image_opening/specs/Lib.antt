@@ -1,4 +1,3 @@
 pub mod Faults
 pub mod Images
-pub mod Bytes
 pub mod Telling

@@ -1,13 +1,15 @@
 -- No clause of `run` rests on this module: it serves contracts between crates.
 --
 -- What is told of an image, and what is read of it.
-use Rattle.std.specs.Prelude.{◌≡◌, ◌⊎◌, ℕ, ◌+◌, ◌≤◌, ◌<◌, List, []}
+use Rattle.std.specs.Prelude.{◌≡◌, ◌⊎◌, ℕ, ◌+◌, ◌^◌, ◌≤◌, ◌<◌, List, []}
 use Rattle.std.specs.FinMap.{empty, get}
+use Rattle.iv_types.specs.Maps.{used}
 use Rattle.table_laws.specs.Place.{Place}
 use Rattle.table_store.specs.Lists.{map_at}
 use Rattle.txn_machine.specs.Laws.{AreInRange}
 use Rattle.txn_log.specs.Replay.{Pages, Reading, recovered}
 use Rattle.txn_log.specs.Refused.{PlacedImage, ReversesAs, IsFreshAt, BadImage, BadView, IsRefused, IsFine, most_number}
+use Rattle.log_disk.specs.Placed.{data_limit}
 use Rattle.data_store.specs.Contents.{Contents}
 use Rattle.image_finding.specs.Headers.{as_header, StandsUpTo}
 use Rattle.image_finding.specs.Rules as rules
@@ -46,14 +48,17 @@ Tells bytes most c (why.BadView wrong) = AreInRange c.objects c.rows × (bytes �
 Tells bytes most c why.DiskFault = ⊥
 Tells bytes most c why.NoMemory = Unit {0}
 
--- what is read has some pages that are so, with their commit number, whatever the disk is
+-- what is read has some pages that are so, with their commit number, and what its entries count is within the limit of so many pages,
+-- whatever the disk is
 pub record HasSound (r : Recovered) : Type 0 where
   pub pages : Pages
   pub has : Has map_at no_limit r.replay.store pages
   pub commits : r.replay.commits ≡ pages.db.number
+  pub few : r.replay.commits < 2 ^ 63
   pub next : r.replay.next ≤ most_number + 1
   pub in_range : AreInRange pages.db.schema pages.db.rows
   pub fresh_at : (place : Place) → IsFreshAt pages place
+  pub within : used (map_at r.replay.store.tables) ≤ data_limit r.header.pages
 
 -- ---- of the bytes of a device
 

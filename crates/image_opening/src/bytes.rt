@@ -1,7 +1,7 @@
 //! How many bytes of data an image leaves. Sums that do not fit stand still at the end of a `u64`.
 ghost use Rattle.std.specs.Prelude.{◌≡◌, ◌+◌, ◌-◌, ◌^◌, length, min};
 ghost use Rattle.iv_types.specs.Maps.{map_size, used};
-ghost use Rattle.image_opening.specs.Bytes.{text_entries, texts_entries};
+ghost use Rattle.record_replay.specs.Texts.{text_entries, texts_entries};
 
 use data_store::definition_entries;
 use iv_types::SortedMaps;

@@ -1,8 +1,9 @@
 //! An image, read.
-ghost use Rattle.std.specs.Prelude.{◌≡◌, ◌+◌, ◌-◌, ◌*◌, ◌^◌, ◌≤◌, ℕ, List, min, IfOk, IfErr};
+ghost use Rattle.std.specs.Prelude.{◌≡◌, ◌+◌, ◌-◌, ◌^◌, ◌≤◌, ◌<◌, ℕ, List, min, IfOk, IfErr};
 ghost use Rattle.iv_types.specs.Maps.{map_size, used};
 ghost use Rattle.disk_io.specs.Disk.{AreBytes};
 ghost use Rattle.table_store.specs.Lists.{map_at};
+ghost use Rattle.txn_log.specs.Damaged.{FitsDevice};
 ghost use Rattle.txn_log.specs.Replay.{Pages};
 ghost use Rattle.txn_log.specs.Refused.{PlacedImage, most_number};
 ghost use Rattle.log_disk.specs.Placed.{data_limit};
@@ -10,9 +11,9 @@ ghost use Rattle.image_finding.specs.Headers.{as_header, StandsUpTo};
 ghost use Rattle.image_finding.specs.Images.{HasImage};
 ghost use Rattle.image_finding.specs.Reads.{IsOnlyRead};
 ghost use Rattle.record_replay.specs.Standing.{Has};
+ghost use Rattle.record_replay.specs.Texts.{texts_entries};
 ghost use Rattle.log_replay.specs.Told.{IsRecovered};
 ghost use Rattle.image_pages.specs.Pages.{no_limit, HasSomePages, HasPagesOf, CountsTextsOf};
-ghost use Rattle.image_opening.specs.Bytes.{texts_entries};
 ghost use Rattle.image_opening.specs.Faults.{OpenFaults};
 ghost use Rattle.image_opening.specs.Images.{IsImageIn};
 ghost use Rattle.image_opening.specs.Telling.{HasNoPast, HasSound, Opens, Refuses};
@@ -65,10 +66,13 @@ fn compared(
     text_bytes: u64,
 ) -> Result<Recovered, OpenFault>
     requires has { (p : Pages) × Has map_at no_limit replay.store p × (replay.commits ≡ p.db.number) × (replay.next ≤ most_number + 1) }
+    requires few { replay.commits < 2 ^ 63 }
+    requires texts { min (map_size (map_at replay.store.tables 0)) (2 ^ 64 - 1) ≤ text_bytes + texts_entries image.now.records }
     ensures opened { (c : List ℕ) → AreBytes c → StandsUpTo 12 c (as_header image.now.header) → HasImage c image.now → CountsTextsOf c text_bytes → ((i : PlacedImage) → IsImageIn c i → IsRecovered map_at no_limit replay i) → IfOk result (Opens c) }
     ensures refused { (c : List ℕ) → AreBytes c → StandsUpTo 12 c (as_header image.now.header) → HasImage c image.now → CountsTextsOf c text_bytes → ((i : PlacedImage) → IsImageIn c i → IsRecovered map_at no_limit replay i) → IfErr result (Refuses c) }
     ensures sound { IfOk result HasSound }
     ensures replay { IfOk result (λ r. r.replay ≡ replay) }
+    ensures header { IfOk result (λ r. r.header ≡ image.now.header) }
     ensures no_disk { (count : ℕ) → OpenFaults result count count }
 {
     let bytes = data_bytes(&replay, image, text_bytes);
@@ -84,10 +88,13 @@ fn compared(
 // What the stored pages and the records of an image recover to.
 fn recover(pages: StoredPages, image: &FoundImage) -> Result<Recovered, OpenFault>
     requires has { HasSomePages pages.store }
+    requires counts { min (map_size (map_at pages.store.tables 0)) (2 ^ 64 - 1) ≤ pages.text_bytes }
+    requires commits { image.now.header.commits ≤ 2 ^ 62 }
     ensures opened { (c : List ℕ) → AreBytes c → StandsUpTo 12 c (as_header image.now.header) → HasImage c image.now → HasPagesOf c pages.store × CountsTextsOf c pages.text_bytes → IfOk result (Opens c) }
     ensures refused { (c : List ℕ) → AreBytes c → StandsUpTo 12 c (as_header image.now.header) → HasImage c image.now → HasPagesOf c pages.store × CountsTextsOf c pages.text_bytes → IfErr result (Refuses c) }
     ensures sound { IfOk result HasSound }
     ensures no_past { HasNoPast pages.store → IfOk result (λ r. HasNoPast r.replay.store) }
+    ensures header { IfOk result (λ r. r.header ≡ image.now.header) }
     ensures no_disk { (count : ℕ) → OpenFaults result count count }
 {
     let StoredPages { store, text_bytes } = pages;
@@ -103,11 +110,12 @@ fn read_found<D: Disk>(
     disk: &mut D,
     image: &FoundImage,
 ) -> Result<Recovered, OpenFault>
-    requires size { D.size_of disk.old ≡ 278528 + 2 * image.now.header.area_bytes + 16384 * image.now.header.pages }
+    requires fits { FitsDevice (as_header image.now.header) (D.size_of disk.old) }
     ensures opened { D.is_told → HasImage (D.seen disk.old) image.now → IfOk result (Opens (D.seen disk.old)) }
     ensures refused { D.is_told → HasImage (D.seen disk.old) image.now → IfErr result (Refuses (D.seen disk.old)) }
     ensures sound { IfOk result HasSound }
     ensures no_past { IfOk result (λ r. HasNoPast r.replay.store) }
+    ensures header { IfOk result (λ r. r.header ≡ image.now.header) }
     ensures only_read { IsOnlyRead D.is_told D.size_of D.seen D.may_leave D.moment D.left_since disk.old disk.new }
     ensures cause { OpenFaults result (D.faults disk.old) (D.faults disk.new) }
 {
@@ -129,8 +137,12 @@ pub fn read_image<D: Disk>(alloc: Global, disk: &mut D) -> Result<Recovered, Ope
     ensures opened { D.is_told → IfOk result (Opens (D.seen disk.old)) }
     // It is refused for what is told.
     ensures refused { D.is_told → IfErr result (Refuses (D.seen disk.old)) }
-    // Whatever the disk is, the store has some pages whose views are as they are evaluated afresh.
+    // Whatever the disk is, the store has some pages whose views are as they are evaluated afresh, and what it counts is within its limits;
     ensures sound { IfOk result HasSound }
+    // the header's sizes are those of the disk, its numbers are at most 2^62,
+    ensures fits { IfOk result (λ r. FitsDevice (as_header r.header) (D.size_of disk.new)) }
+    // and it names one of the two log areas.
+    ensures area { IfOk result (λ r. r.header.area ≤ 1) }
     // The store that has it has no versions of rows.
     ensures no_past { IfOk result (λ r. HasNoPast r.replay.store) }
     // The disk is only read.

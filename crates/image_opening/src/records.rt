@@ -1,5 +1,6 @@
 //! The records of the log, replayed.
-ghost use Rattle.std.specs.Prelude.{◌≡◌, ◌+◌, ◌≤◌, ℕ, List, IfOk};
+ghost use Rattle.std.specs.Prelude.{◌≡◌, ◌+◌, ◌≤◌, ℕ, List, length, IfOk};
+ghost use Rattle.iv_types.specs.Maps.{map_size};
 ghost use Rattle.page_store.specs.Image.{area_at};
 ghost use Rattle.table_store.specs.Lists.{map_at};
 ghost use Rattle.txn_log.specs.Replay.{Pages};
@@ -8,6 +9,7 @@ ghost use Rattle.disk_io.specs.Disk.{AreBytes};
 ghost use Rattle.image_finding.specs.Faults.{IfBad, FindFaults};
 ghost use Rattle.image_finding.specs.Images.{HasImage};
 ghost use Rattle.record_replay.specs.Standing.{Has};
+ghost use Rattle.record_replay.specs.Texts.{texts_entries};
 ghost use Rattle.log_replay.specs.Told.{IsRecovered};
 ghost use Rattle.image_pages.specs.Pages.{no_limit, HasSomePages, HasPagesOf};
 ghost use Rattle.image_opening.specs.Images.{IsImageIn};
@@ -45,6 +47,10 @@ pub(crate) fn replayed(
     ensures refused { (c : List ℕ) → AreBytes c → HasImage c image.now → HasPagesOf c store → (i : PlacedImage) → IsImageIn c i → IfBad result (λ bad. IsRefused i (BadImage bad.rule bad.place)) }
     // It has some pages, whatever the disk is.
     ensures has { IfOk result (λ replay. (p : Pages) × Has map_at no_limit replay.store p × (replay.commits ≡ p.db.number) × (replay.next ≤ most_number + 1)) }
+    // Index 0 counts at most what the texts of definitions among the records do beside what it counted,
+    ensures texts { IfOk result (λ replay. map_size (map_at replay.store.tables 0) ≤ map_size (map_at store.tables 0) + texts_entries image.now.records) }
+    // and the commit number is at most the header's and one more for each record.
+    ensures commits { IfOk result (λ replay. replay.commits ≤ image.now.header.commits + length image.now.records) }
     // Nothing else of the store is changed.
     ensures rest { IfOk result (λ replay. replay.store ≡ record store { catalog = replay.store.catalog; tables = replay.store.tables; views = replay.store.views }) }
     // The disk is not asked.

@@ -1,6 +1,7 @@
 //! A store that is filled with what was read.
-ghost use Rattle.std.specs.Prelude.{◌≡◌, ℕ, List, [], Some, IfOk, OnOk};
+ghost use Rattle.std.specs.Prelude.{◌≡◌, ◌≤◌, ℕ, List, [], Some, IfOk, OnOk};
 ghost use Rattle.std.specs.FinMap as map;
+ghost use Rattle.iv_types.specs.Maps.{map_size};
 ghost use Rattle.table_laws.specs.Place.{Place};
 ghost use Rattle.table_store.specs.Lists.{map_at};
 ghost use Rattle.iv_meaning.specs.Objects.{schema_of};
@@ -12,7 +13,7 @@ ghost use Rattle.image_finding.specs.Headers.{as_header, StandsUpTo};
 ghost use Rattle.image_finding.specs.Rules.{IsRefused};
 ghost use Rattle.image_entries.specs.declared.stored.StoredEntry.{StoredEntry};
 ghost use Rattle.image_entries.specs.Parts.{parts_found, KeysStand, SizesStand};
-ghost use Rattle.image_pages.specs.Pages.{IsFilledWith, IsReadFrom, HasSomePages, HasPagesOf};
+ghost use Rattle.image_pages.specs.Pages.{found_bytes, IsFilledWith, IsReadFrom, HasSomePages, HasPagesOf};
 
 use data_store::DataStore;
 use image_catalog::{put_texts, read_catalog};
@@ -56,6 +57,7 @@ fn with_rows(
     requires sizes { SizesStand (parts_found parts.now) }
     requires made { AllCreate [] (texts_found (in_texts (parts_found parts.now)).1) (schema_of catalog) }
     ensures has { IfOk result (λ store. HasSomePages store) }
+    ensures counts { IfOk result (λ store. map_size (map_at store.tables 0) ≤ found_bytes (parts_found parts.now)) }
     ensures pages { (c : List ℕ) (image : FoundImage) → IsReadFrom c image entries.entries parts.now → StandsUpTo 11 c (as_header image.header) → IfOk result (λ store. HasPagesOf c store) }
     ensures passes { (c : List ℕ) (image : FoundImage) → IsReadFrom c image entries.entries parts.now → StandsUpTo 11 c (as_header image.header) → OnOk result (StandsUpTo 12 c (as_header image.header)) }
     ensures refused { (c : List ℕ) (image : FoundImage) → IsReadFrom c image entries.entries parts.now → StandsUpTo 11 c (as_header image.header) → IfBad result (λ bad. IsRefused c bad) }
@@ -85,6 +87,7 @@ pub(crate) fn store_of(
     requires keys { KeysStand (parts_found parts.now) }
     requires sizes { SizesStand (parts_found parts.now) }
     ensures has { IfOk result (λ store. HasSomePages store) }
+    ensures counts { IfOk result (λ store. map_size (map_at store.tables 0) ≤ found_bytes (parts_found parts.now)) }
     ensures pages { (c : List ℕ) (image : FoundImage) → IsReadFrom c image entries.entries parts.now → IfOk result (λ store. HasPagesOf c store) }
     ensures passes { (c : List ℕ) (image : FoundImage) → IsReadFrom c image entries.entries parts.now → OnOk result (StandsUpTo 12 c (as_header image.header)) }
     ensures refused { (c : List ℕ) (image : FoundImage) → IsReadFrom c image entries.entries parts.now → IfBad result (λ bad. IsRefused c bad) }

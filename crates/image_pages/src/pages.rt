@@ -1,6 +1,8 @@
 //! The stored pages.
-ghost use Rattle.std.specs.Prelude.{◌≡◌, ◌+◌, ◌*◌, ℕ, List, [], IfOk, OnOk};
+ghost use Rattle.std.specs.Prelude.{◌≡◌, ◌+◌, ◌-◌, ◌*◌, ◌^◌, ◌≤◌, ℕ, List, [], min, IfOk, OnOk};
 ghost use Rattle.std.specs.FinMap as map;
+ghost use Rattle.iv_types.specs.Maps.{map_size};
+ghost use Rattle.table_store.specs.Lists.{map_at};
 ghost use Rattle.image_finding.specs.Faults.{IfBad, FindFaults};
 ghost use Rattle.image_finding.specs.Headers.{as_header, StandsUpTo};
 ghost use Rattle.image_finding.specs.Images.{HasImage};
@@ -31,6 +33,7 @@ pub struct StoredPages {
 // Entries that were gathered, as a store.
 fn stored(alloc: Global, entries: EntryMap) -> Result<StoredPages, FindFault>
     ensures has { IfOk result (λ pages. HasSomePages pages.store) }
+    ensures counts { IfOk result (λ pages. min (map_size (map_at pages.store.tables 0)) (2 ^ 64 - 1) ≤ pages.text_bytes) }
     ensures pages { (c : List ℕ) (image : FoundImage) → HasImage c image → Gathers entries.entries (found_entries image c) → StandsUpTo 10 c (as_header image.header) → IfOk result (λ pages. HasPagesOf c pages.store × CountsTextsOf c pages.text_bytes) }
     ensures passes { (c : List ℕ) (image : FoundImage) → HasImage c image → Gathers entries.entries (found_entries image c) → StandsUpTo 10 c (as_header image.header) → OnOk result (StandsUpTo 12 c (as_header image.header)) }
     ensures refused { (c : List ℕ) (image : FoundImage) → HasImage c image → Gathers entries.entries (found_entries image c) → StandsUpTo 10 c (as_header image.header) → IfBad result (λ bad. IsRefused c bad) }
@@ -66,6 +69,8 @@ pub fn read_pages<D: Disk>(
     requires disk { D.size_of disk.old ≡ 278528 + 2 * image.now.header.area_bytes + 16384 * image.now.header.pages }
     // The store has some pages, whatever the disk is,
     ensures has { IfOk result (λ pages. HasSomePages pages.store) }
+    // whose texts count at most as many bytes as are told,
+    ensures counts { IfOk result (λ pages. min (map_size (map_at pages.store.tables 0)) (2 ^ 64 - 1) ≤ pages.text_bytes) }
     // and just those that stand on a disk that is told.
     ensures pages { D.is_told → HasImage (D.seen disk.old) image.now → IfOk result (λ pages. HasPagesOf (D.seen disk.old) pages.store × CountsTextsOf (D.seen disk.old) pages.text_bytes) }
     // No rule up to 12 fails.

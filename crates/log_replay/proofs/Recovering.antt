@@ -20,6 +20,7 @@ use Rattle.record_replay.specs.declared.replay.Replay.{Replay}
 use Rattle.record_replay.specs.Past.{carrying, left_by}
 use Rattle.record_replay.specs.Standing.{HasReplayed}
 use Rattle.record_replay.specs.Telling.{TellsReversed}
+use Rattle.record_replay.specs.Texts.{texts_entries}
 use Rattle.log_replay.specs.Through.{CarryTo, GoTo}
 use Rattle.log_replay.specs.Told.{count_before, AreScanned, TellsEachCarried, TellsEach, IsRecovered}
 use Rattle.log_replay.proofs.Through.{carried_to, further_to}
@@ -59,6 +60,12 @@ drop_past zero [] l = refl
 drop_past (suc n) [] l = refl
 drop_past zero (s ∷ ss) l = absurd (omega (arith, l))
 drop_past (suc n) (s ∷ ss) l = drop_past n ss (omega (arith, l))
+
+-- what the texts among them count
+pub fewer_texts : (n : ℕ) (ss : List Scanned) → texts_entries (drop n ss) ≤ texts_entries ss
+fewer_texts zero ss = omega arith
+fewer_texts (suc n) [] = omega arith
+fewer_texts (suc n) (s ∷ ss) = let rest = fewer_texts n ss in omega (arith, rest)
 
 module _ (at redo : ℕ) (records : List Scanned) (i : PlacedImage) (scanned : AreScanned at redo records i) where
   so_many : count_before redo records ≡ length scanned.first

@@ -1,10 +1,12 @@
 //! The records of an image.
-ghost use Rattle.std.specs.Prelude.{◌≡◌, ◌+◌, ◌≤◌, ℕ, [], Ok, OnOk};
+ghost use Rattle.std.specs.Prelude.{◌≡◌, ◌+◌, ◌≤◌, ℕ, [], length, Ok, OnOk};
+ghost use Rattle.iv_types.specs.Maps.{map_size};
 ghost use Rattle.txn_log.specs.Replay.{Pages};
 ghost use Rattle.txn_log.specs.Refused.{PlacedImage, BadImage, IsRefused, most_number};
 ghost use Rattle.image_finding.specs.Faults.{IfBad, FindFaults};
 ghost use Rattle.record_replay.specs.Past.{carrying};
 ghost use Rattle.record_replay.specs.Standing.{Has, HasReplayed};
+ghost use Rattle.record_replay.specs.Texts.{texts_entries};
 ghost use Rattle.record_replay.specs.declared.answer.Replayed.TheVariants.{Passed, Broken};
 ghost use Rattle.log_replay.specs.Told.{IsImageOf, IsRecovered};
 
@@ -47,6 +49,10 @@ pub fn replay_records<M: SortedMaps>(
     ensures recovered { OnOk result ((i : PlacedImage) → IsImageOf M.maps M.limit area redo records.now replay.old i → IsRecovered M.maps M.limit replay.new i) }
     // It has some pages with their commit number, whatever the records stand for.
     ensures some { OnOk result ((p : Pages) × Has M.maps M.limit replay.new.store p × (replay.new.commits ≡ p.db.number) × (replay.new.next ≤ most_number + 1)) }
+    // Index 0 counts at most what the texts of definitions among the records do beside what it counted,
+    ensures texts { OnOk result (map_size (M.maps replay.new.store.tables 0) ≤ map_size (M.maps replay.old.store.tables 0) + texts_entries records.now) }
+    // and the commit number rises by one a record at most.
+    ensures commits { replay.new.commits ≤ replay.old.commits + length records.now }
     // The rule and the place that are told are those for which the image is refused.
     ensures refused { IfBad result (λ bad. (i : PlacedImage) → IsImageOf M.maps M.limit area redo records.now replay.old i → IsRefused i (BadImage bad.rule bad.place)) }
     // Nothing else of the store is changed.

@@ -1,4 +1,5 @@
 pub mod Past
+pub mod Texts
 pub mod Standing
 pub mod Reversing
 pub mod Telling

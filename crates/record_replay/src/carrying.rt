@@ -26,6 +26,8 @@ impl<M: SortedMaps> Replay<M> {
         requires number { (self.old.next ≤ own.number) × (own.number ≤ most_number) }
         ensures told { OnOk result ((p : Pages) (first : List Placed) (ds : List Deed) → HasReplayed M.maps M.limit self.old (carrying p first ds)
             → (r : Placed) → IsRecordOf r own → HasReplayed M.maps M.limit self.new (carrying p (r ∷ first) (deed_of own ∷ ds))) }
+        ensures texts { OnOk result (M.maps self.new.store.tables 0 ≡ M.maps self.old.store.tables 0) }
+        ensures commits { self.new.commits ≡ self.old.commits }
         ensures rest { self.new.store ≡ record self.old.store { catalog = self.new.store.catalog; tables = self.new.store.tables; views = self.new.store.views } }
     {
         set_carried(&mut self.store, &own.change)?;
@@ -45,6 +47,8 @@ impl<M: SortedMaps> Replay<M> {
         ensures told { IfOk result (λ answer. (p : Pages) (first : List Placed) (ds : List Deed) → HasReplayed M.maps M.limit self.old (carrying p first ds)
             → (r : Placed) → Comes p.db.schema head entry.now r → TellsCarried M.maps M.limit self.new p first ds r answer) }
         ensures reads { IfOk result (λ answer. answer ≡ Passed → IsReadable (schema_of self.old.store.catalog) entry.now) }
+        ensures texts { OnOk result (M.maps self.new.store.tables 0 ≡ M.maps self.old.store.tables 0) }
+        ensures commits { self.new.commits ≡ self.old.commits }
         ensures rest { self.new.store ≡ record self.old.store { catalog = self.new.store.catalog; tables = self.new.store.tables; views = self.new.store.views } }
     {
         if !self.may_come(head.number) {

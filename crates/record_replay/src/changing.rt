@@ -21,6 +21,7 @@ fn set<M: SortedMaps>(store: &mut DataStore<M>, change: &Change) -> Result<Tried
     requires has { (s : Stored) × Has M.maps M.limit store.old (pages_in s) }
     requires known { IsKnown (schema_of store.old.catalog) (Wrote (row_change change.now)) }
     ensures told { IfOk result (λ tried. (s : Stored) → Has M.maps M.limit store.old (pages_in s) → Does M.maps M.limit store.new s (Wrote (row_change change.now)) tried) }
+    ensures texts { OnOk result (M.maps store.new.tables 0 ≡ M.maps store.old.tables 0) }
     ensures rest { store.new ≡ record store.old { tables = store.new.tables; views = store.new.views } }
 {
     if set_row(store, change)? {
@@ -35,6 +36,7 @@ fn set_back<M: SortedMaps>(store: &mut DataStore<M>, change: &Change) -> Result<
     requires has { (s : Stored) × Has M.maps M.limit store.old (pages_in s) }
     requires known { IsKnown (schema_of store.old.catalog) (Wrote (row_change change.now)) }
     ensures told { IfOk result (λ tried. (s : Stored) → Has M.maps M.limit store.old (pages_in s) → TakesBack M.maps M.limit store.new s (Wrote (row_change change.now)) tried) }
+    ensures texts { OnOk result (M.maps store.new.tables 0 ≡ M.maps store.old.tables 0) }
     ensures rest { store.new ≡ record store.old { tables = store.new.tables; views = store.new.views } }
 {
     if set_row_back(store, change)? {
@@ -49,6 +51,7 @@ fn add<M: SortedMaps>(store: &mut DataStore<M>, delta: &GroupDelta) -> Result<Tr
     requires has { (s : Stored) × Has M.maps M.limit store.old (pages_in s) }
     requires known { IsKnown (schema_of store.old.catalog) (Added delta.now) }
     ensures told { IfOk result (λ tried. (s : Stored) → Has M.maps M.limit store.old (pages_in s) → Does M.maps M.limit store.new s (Added delta.now) tried) }
+    ensures texts { OnOk result (M.maps store.new.tables 0 ≡ M.maps store.old.tables 0) }
     ensures rest { store.new ≡ record store.old { tables = store.new.tables; views = store.new.views } }
 {
     match add_delta(store, delta, false)? {
@@ -63,6 +66,7 @@ fn add_back<M: SortedMaps>(store: &mut DataStore<M>, delta: &GroupDelta) -> Resu
     requires has { (s : Stored) × Has M.maps M.limit store.old (pages_in s) }
     requires known { IsKnown (schema_of store.old.catalog) (Added delta.now) }
     ensures told { IfOk result (λ tried. (s : Stored) → Has M.maps M.limit store.old (pages_in s) → TakesBack M.maps M.limit store.new s (Added delta.now) tried) }
+    ensures texts { OnOk result (M.maps store.new.tables 0 ≡ M.maps store.old.tables 0) }
     ensures rest { store.new ≡ record store.old { tables = store.new.tables; views = store.new.views } }
 {
     match add_delta(store, delta, true)? {
@@ -84,6 +88,7 @@ pub(crate) fn do_change<M: SortedMaps>(
     requires has { (s : Stored) × Has M.maps M.limit store.old (pages_in s) }
     requires known { IsKnown (schema_of store.old.catalog) (what_of change.now) }
     ensures told { IfOk result (λ tried. (s : Stored) → Has M.maps M.limit store.old (pages_in s) → Does M.maps M.limit store.new s (what_of change.now) tried) }
+    ensures texts { OnOk result (M.maps store.new.tables 0 ≡ M.maps store.old.tables 0) }
     ensures rest { store.new ≡ record store.old { tables = store.new.tables; views = store.new.views } }
 {
     match change {
@@ -104,6 +109,7 @@ pub(crate) fn take_back<M: SortedMaps>(
     requires has { (s : Stored) × Has M.maps M.limit store.old (pages_in s) }
     requires known { IsKnown (schema_of store.old.catalog) (what_of change.now) }
     ensures told { IfOk result (λ tried. (s : Stored) → Has M.maps M.limit store.old (pages_in s) → TakesBack M.maps M.limit store.new s (what_of change.now) tried) }
+    ensures texts { OnOk result (M.maps store.new.tables 0 ≡ M.maps store.old.tables 0) }
     ensures rest { store.new ≡ record store.old { tables = store.new.tables; views = store.new.views } }
 {
     match change {
@@ -124,6 +130,7 @@ pub(crate) fn set_carried<M: SortedMaps>(
     requires has { (p : Pages) × Has M.maps M.limit store.old p }
     requires known { IsKnown (schema_of store.old.catalog) (what_of change.now) }
     ensures told { OnOk result ((p : Pages) → Has M.maps M.limit store.old p → Has M.maps M.limit store.new (with_rows_of (what_of change.now) p)) }
+    ensures texts { OnOk result (M.maps store.new.tables 0 ≡ M.maps store.old.tables 0) }
     ensures rest { store.new ≡ record store.old { tables = store.new.tables; views = store.new.views } }
 {
     match change {

@@ -1,5 +1,7 @@
 //! Definitions.
-ghost use Rattle.std.specs.Prelude.{◌≡◌, ◌≤◌, ℕ, false, IfOk};
+ghost use Rattle.std.specs.Prelude.{◌≡◌, ◌+◌, ◌≤◌, ℕ, false, IfOk, OnOk};
+ghost use Rattle.iv_types.specs.Maps.{map_size};
+ghost use Rattle.txn_machine.specs.Log.{definition_entries};
 ghost use Rattle.txn_log.specs.Replay.{Pages};
 ghost use Rattle.txn_log.specs.Refused.{Placed, most_number};
 ghost use Rattle.log_records.specs.declared.record.Record.TheVariants.{Schema};
@@ -19,6 +21,7 @@ use iv_types::{NoMemory, SortedMaps};
 fn define_text<M: SortedMaps>(store: &mut DataStore<M>, text: &[u8]) -> Result<bool, NoMemory>
     requires has { (p : Pages) × Has M.maps M.limit store.old p }
     ensures told { IfOk result (λ defines. (p : Pages) → Has M.maps M.limit store.old p → Defines M.maps M.limit store.new p text.now defines) }
+    ensures texts { OnOk result (map_size (M.maps store.new.tables 0) ≤ map_size (M.maps store.old.tables 0) + definition_entries text.now) }
     ensures untouched { IfOk result (λ defines. defines ≡ false → store.new ≡ store.old) }
     ensures rest { store.new ≡ record store.old { catalog = store.new.catalog; tables = store.new.tables } }
 {
@@ -45,6 +48,8 @@ impl<M: SortedMaps> Replay<M> {
         requires replayed { (x : Past) × HasReplayed M.maps M.limit self.old x }
         requires number { (self.old.next ≤ head.number) × (head.number ≤ most_number) }
         ensures told { IfOk result (λ answer. (session : ℕ) (x : Past) → HasReplayed M.maps M.limit self.old x → (r : Placed) → Comes (left_by x).db.schema head (Schema commit session text.now) r → Tells M.maps M.limit self.new x r answer) }
+        ensures texts { OnOk result (map_size (M.maps self.new.store.tables 0) ≤ map_size (M.maps self.old.store.tables 0) + definition_entries text.now) }
+        ensures commits { self.new.commits ≤ self.old.commits + 1 }
         ensures rest { self.new.store ≡ record self.old.store { catalog = self.new.store.catalog; tables = self.new.store.tables; views = self.new.store.views } }
     {
         if !self.is_next(commit) {

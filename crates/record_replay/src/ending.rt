@@ -1,5 +1,5 @@
 //! Commits and Aborts.
-ghost use Rattle.std.specs.Prelude.{◌≡◌, ◌≤◌, ℕ, IfOk};
+ghost use Rattle.std.specs.Prelude.{◌≡◌, ◌+◌, ◌≤◌, ℕ, IfOk, OnOk};
 ghost use Rattle.txn_log.specs.Refused.{Placed, most_number};
 ghost use Rattle.log_records.specs.declared.record.Record.TheVariants.{Commit, Abort};
 ghost use Rattle.record_replay.specs.Past.{Past, left_by, Comes};
@@ -25,6 +25,8 @@ impl<M: SortedMaps> Replay<M> {
         requires replayed { (x : Past) × HasReplayed M.maps M.limit self.old x }
         requires number { (self.old.next ≤ head.number) × (head.number ≤ most_number) }
         ensures told { IfOk result (λ answer. (session : ℕ) (x : Past) → HasReplayed M.maps M.limit self.old x → (r : Placed) → Comes (left_by x).db.schema head (Commit transaction commit session) r → Tells M.maps M.limit self.new x r answer) }
+        ensures texts { OnOk result (M.maps self.new.store.tables 0 ≡ M.maps self.old.store.tables 0) }
+        ensures commits { self.new.commits ≤ self.old.commits + 1 }
         ensures rest { self.new.store ≡ record self.old.store { catalog = self.new.store.catalog; tables = self.new.store.tables; views = self.new.store.views } }
     {
         if self.live.has_ended(transaction) || !self.is_next(commit) {
@@ -45,6 +47,8 @@ impl<M: SortedMaps> Replay<M> {
         requires replayed { (x : Past) × HasReplayed M.maps M.limit self.old x }
         requires number { (self.old.next ≤ head.number) × (head.number ≤ most_number) }
         ensures told { IfOk result (λ answer. (x : Past) → HasReplayed M.maps M.limit self.old x → (r : Placed) → Comes (left_by x).db.schema head (Abort transaction) r → Tells M.maps M.limit self.new x r answer) }
+        ensures texts { OnOk result (M.maps self.new.store.tables 0 ≡ M.maps self.old.store.tables 0) }
+        ensures commits { self.new.commits ≡ self.old.commits }
         ensures rest { self.new.store ≡ record self.old.store { catalog = self.new.store.catalog; tables = self.new.store.tables; views = self.new.store.views } }
     {
         if self.live.has_ended(transaction) {

@@ -1,5 +1,5 @@
 //! Ghosts and Cleans.
-ghost use Rattle.std.specs.Prelude.{◌≡◌, ◌≤◌, IfOk};
+ghost use Rattle.std.specs.Prelude.{◌≡◌, ◌≤◌, IfOk, OnOk};
 ghost use Rattle.txn_log.specs.Refused.{Placed, most_number};
 ghost use Rattle.log_records.specs.declared.record.Record.TheVariants.{Ghost, Clean};
 ghost use Rattle.record_replay.specs.Past.{Past, left_by, Comes};
@@ -27,6 +27,8 @@ impl<M: SortedMaps> Replay<M> {
         requires replayed { (x : Past) × HasReplayed M.maps M.limit self.old x }
         requires number { (self.old.next ≤ head.number) × (head.number ≤ most_number) }
         ensures told { IfOk result (λ answer. (x : Past) → HasReplayed M.maps M.limit self.old x → (r : Placed) → Comes (left_by x).db.schema head (Ghost view group.now) r → Tells M.maps M.limit self.new x r answer) }
+        ensures texts { OnOk result (M.maps self.new.store.tables 0 ≡ M.maps self.old.store.tables 0) }
+        ensures commits { self.new.commits ≡ self.old.commits }
         ensures rest { self.new.store ≡ record self.old.store { catalog = self.new.store.catalog; tables = self.new.store.tables; views = self.new.store.views } }
     {
         let sums = match read_group(self.store.alloc, &self.store.catalog, view, group)? {
@@ -54,6 +56,8 @@ impl<M: SortedMaps> Replay<M> {
         requires replayed { (x : Past) × HasReplayed M.maps M.limit self.old x }
         requires number { (self.old.next ≤ head.number) × (head.number ≤ most_number) }
         ensures told { IfOk result (λ answer. (x : Past) → HasReplayed M.maps M.limit self.old x → (r : Placed) → Comes (left_by x).db.schema head (Clean view group.now) r → Tells M.maps M.limit self.new x r answer) }
+        ensures texts { OnOk result (M.maps self.new.store.tables 0 ≡ M.maps self.old.store.tables 0) }
+        ensures commits { self.new.commits ≡ self.old.commits }
         ensures rest { self.new.store ≡ record self.old.store { catalog = self.new.store.catalog; tables = self.new.store.tables; views = self.new.store.views } }
     {
         if read_group(self.store.alloc, &self.store.catalog, view, group)?.is_none() {

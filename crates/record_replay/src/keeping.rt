@@ -1,5 +1,5 @@
 //! Writes and Deltas.
-ghost use Rattle.std.specs.Prelude.{◌≡◌, ◌<◌, ◌≤◌, false, IfOk};
+ghost use Rattle.std.specs.Prelude.{◌≡◌, ◌<◌, ◌≤◌, false, IfOk, OnOk};
 ghost use Rattle.iv_meaning.specs.Objects.{schema_of};
 ghost use Rattle.txn_log.specs.Fitting.{IsKnown};
 ghost use Rattle.txn_log.specs.Refused.{Placed, most_number};
@@ -26,6 +26,8 @@ impl<M: SortedMaps> Replay<M> {
         requires number { (self.old.next ≤ own.number) × (own.number ≤ most_number) }
         requires lives { has_ended self.old.live own.transaction ≡ false }
         ensures told { IfOk result (λ answer. (x : Past) → HasReplayed M.maps M.limit self.old x → (r : Placed) → IsRecordOf r own → Tells M.maps M.limit self.new x r answer) }
+        ensures texts { OnOk result (M.maps self.new.store.tables 0 ≡ M.maps self.old.store.tables 0) }
+        ensures commits { self.new.commits ≡ self.old.commits }
         ensures rest { self.new.store ≡ record self.old.store { catalog = self.new.store.catalog; tables = self.new.store.tables; views = self.new.store.views } }
     {
         let place = own.place;
@@ -52,6 +54,8 @@ impl<M: SortedMaps> Replay<M> {
         requires known { IsKnown (schema_of self.old.store.catalog) (what_of own.change) }
         requires number { (self.old.next ≤ own.number) × (own.number ≤ most_number) }
         ensures told { IfOk result (λ answer. (x : Past) → HasReplayed M.maps M.limit self.old x → (r : Placed) → IsRecordOf r own → Tells M.maps M.limit self.new x r answer) }
+        ensures texts { OnOk result (M.maps self.new.store.tables 0 ≡ M.maps self.old.store.tables 0) }
+        ensures commits { self.new.commits ≡ self.old.commits }
         ensures rest { self.new.store ≡ record self.old.store { catalog = self.new.store.catalog; tables = self.new.store.tables; views = self.new.store.views } }
     {
         if self.live.has_ended(own.transaction) {
@@ -73,6 +77,8 @@ impl<M: SortedMaps> Replay<M> {
         requires kind { kind_of entry.now < 3 }
         ensures told { IfOk result (λ answer. (x : Past) → HasReplayed M.maps M.limit self.old x → (r : Placed) → Comes (left_by x).db.schema head entry.now r → Tells M.maps M.limit self.new x r answer) }
         ensures reads { IfOk result (λ answer. answer ≡ Passed → IsReadable (schema_of self.old.store.catalog) entry.now) }
+        ensures texts { OnOk result (M.maps self.new.store.tables 0 ≡ M.maps self.old.store.tables 0) }
+        ensures commits { self.new.commits ≡ self.old.commits }
         ensures rest { self.new.store ≡ record self.old.store { catalog = self.new.store.catalog; tables = self.new.store.tables; views = self.new.store.views } }
     {
         match read_live(self.store.alloc, &self.store.catalog, head, entry)? {

@@ -1,5 +1,5 @@
 //! What is left at the end, taken back.
-ghost use Rattle.std.specs.Prelude.{◌≡◌, ◌++◌, List, IfOk};
+ghost use Rattle.std.specs.Prelude.{◌≡◌, ◌++◌, List, IfOk, OnOk};
 ghost use Rattle.iv_meaning.specs.Objects.{schema_of};
 ghost use Rattle.txn_log.specs.Replay.{Stored};
 ghost use Rattle.txn_log.specs.Fitting.{IsKnown};
@@ -26,6 +26,7 @@ fn reverse_one<M: SortedMaps>(
     requires has { (s : Stored) × Has M.maps M.limit store.old (pages_in s) }
     requires known { IsKnown (schema_of store.old.catalog) (what_of own.change) }
     ensures told { IfOk result (λ answer. (s : Stored) → Has M.maps M.limit store.old (pages_in s) → TellsBack M.maps M.limit store.new own s answer) }
+    ensures texts { OnOk result (M.maps store.new.tables 0 ≡ M.maps store.old.tables 0) }
     ensures rest { store.new ≡ record store.old { tables = store.new.tables; views = store.new.views } }
 {
     let answer = reverse(store, &own)?;
@@ -40,6 +41,7 @@ fn reverse_each<M: SortedMaps>(
 ) -> Result<Replayed, NoMemory>
     requires { (rs : List Placed) × (s : Stored) × CanReverse M.maps M.limit store.old left.old rs s }
     ensures told { IfOk result (λ answer. (rs : List Placed) (s : Stored) → CanReverse M.maps M.limit store.old left.old rs s → TellsReversed M.maps M.limit store.new rs s answer) }
+    ensures texts { OnOk result (M.maps store.new.tables 0 ≡ M.maps store.old.tables 0) }
     ensures rest { store.new ≡ record store.old { tables = store.new.tables; views = store.new.views } }
 {
     while let Some(own) = left.pop() {
@@ -61,6 +63,7 @@ impl<M: SortedMaps> Replay<M> {
     pub fn reverse(&mut self) -> Result<Replayed, NoMemory>
         requires { (x : Past) × HasReplayed M.maps M.limit self.old x }
         ensures told { IfOk result (λ answer. (x : Past) → HasReplayed M.maps M.limit self.old x → TellsReversed M.maps M.limit self.new.store (x.after ++ x.first) (left_by x) answer) }
+        ensures texts { OnOk result (M.maps self.new.store.tables 0 ≡ M.maps self.old.store.tables 0) }
         ensures rest { self.new.store ≡ record self.old.store { catalog = self.new.store.catalog; tables = self.new.store.tables; views = self.new.store.views } }
         ensures commits { self.new.commits ≡ self.old.commits }
         ensures next { self.new.next ≡ self.old.next }

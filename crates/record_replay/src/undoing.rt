@@ -1,5 +1,5 @@
 //! Undos.
-ghost use Rattle.std.specs.Prelude.{◌≡◌, ◌≤◌, None, IfOk};
+ghost use Rattle.std.specs.Prelude.{◌≡◌, ◌≤◌, None, IfOk, OnOk};
 ghost use Rattle.iv_meaning.specs.Objects.{schema_of};
 ghost use Rattle.txn_log.specs.Replay.{Stored};
 ghost use Rattle.txn_log.specs.Fitting.{IsKnown};
@@ -30,6 +30,7 @@ pub(crate) fn reverse<M: SortedMaps>(
     requires has { (s : Stored) × Has M.maps M.limit store.old (pages_in s) }
     requires known { IsKnown (schema_of store.old.catalog) (what_of own.now.change) }
     ensures told { IfOk result (λ answer. (s : Stored) → Has M.maps M.limit store.old (pages_in s) → TellsBack M.maps M.limit store.new own.now s answer) }
+    ensures texts { OnOk result (M.maps store.new.tables 0 ≡ M.maps store.old.tables 0) }
     ensures rest { store.new ≡ record store.old { tables = store.new.tables; views = store.new.views } }
 {
     match take_back(store, &own.change)? {
@@ -65,6 +66,8 @@ impl<M: SortedMaps> Replay<M> {
         requires replayed { (x : Past) × HasReplayed M.maps M.limit self.old x }
         requires number { (self.old.next ≤ head.number) × (head.number ≤ most_number) }
         ensures told { IfOk result (λ answer. (x : Past) → HasReplayed M.maps M.limit self.old x → (r : Placed) → Comes (left_by x).db.schema head (Undo transaction number) r → Tells M.maps M.limit self.new x r answer) }
+        ensures texts { OnOk result (M.maps self.new.store.tables 0 ≡ M.maps self.old.store.tables 0) }
+        ensures commits { self.new.commits ≡ self.old.commits }
         ensures rest { self.new.store ≡ record self.old.store { catalog = self.new.store.catalog; tables = self.new.store.tables; views = self.new.store.views } }
     {
         let Some(latest) = self.live.latest(transaction) else {

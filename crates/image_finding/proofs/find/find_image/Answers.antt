@@ -1,5 +1,6 @@
-use Rattle.std.proofs.Common.{◌≡◌, ℕ, ◌+◌, ◌*◌, List, sym, subst}
+use Rattle.std.proofs.Common.{ℕ, List, sym, subst}
 use Rattle.std.specs.Prelude.{IfOk}
+use Rattle.txn_log.specs.Damaged.{FitsDevice}
 use Rattle.image_finding.specs.Headers.{as_header, StandsUpTo}
 use Rattle.image_finding.specs.Images.{HasImage}
 use Rattle.image_finding.specs.Faults.{IfBad}
@@ -21,9 +22,8 @@ returns-in-Ok-clause-refused g c told =
     subst (λ (b : List ℕ). IfBad c.find_rest.result (λ bad. IsRefused b bad)) e
     (c.find_rest.ensures.refused told (subst (λ (b : List ℕ). StandsUpTo 4 b h) (sym e) (c.in-Ok.ensures.stands told)))
 
-pub returns-in-Ok-clause-size : goal.returns-in-Ok-clause-size
-returns-in-Ok-clause-size g c =
-    subst (λ n. IfOk c.find_rest.result (λ image. n ≡ 278528 + 2 * image.header.area_bytes + 16384 * image.header.pages)) c.find_header.ensures.only_read.same_size c.find_rest.ensures.size
+pub returns-in-Ok-clause-fits : goal.returns-in-Ok-clause-fits
+returns-in-Ok-clause-fits g c = subst (λ n. IfOk c.find_rest.result (λ image. FitsDevice (as_header image.header) n)) c.find_header.ensures.only_read.same_size c.find_rest.ensures.fits
 
 pub returns-in-Err-clause-refused : goal.returns-in-Err-clause-refused
 returns-in-Err-clause-refused g c told = c.in-Err.ensures.refused told

@@ -1,5 +1,6 @@
-use Rattle.std.proofs.Common.{◌≡◌, ℕ, ◌+◌, ◌*◌, List, sym, ◌∙◌, ap, subst}
+use Rattle.std.proofs.Common.{ℕ, List, sym, ◌∙◌, ap, subst}
 use Rattle.std.specs.Prelude.{IfOk}
+use Rattle.txn_log.specs.Damaged.{FitsDevice}
 use Rattle.log_records.specs.Scan.{scanned}
 use Rattle.image_finding.specs.Headers.{as_header, area_in, StandsUpTo}
 use Rattle.image_finding.specs.Images.{HasImage}
@@ -22,9 +23,8 @@ returns-in-Ok-clause-refused g c told stands =
     subst (λ (b : List ℕ). IfBad c.with_pages.result (λ bad. IsRefused b bad)) e
     (c.with_pages.ensures.refused told (subst (λ (b : List ℕ). StandsUpTo 7 b h) (sym e) (c.in-Ok.ensures.stands told stands)))
 
-pub returns-in-Ok-clause-size : goal.returns-in-Ok-clause-size
-returns-in-Ok-clause-size g c =
-    subst (λ n. IfOk c.with_pages.result (λ image. n ≡ 278528 + 2 * image.header.area_bytes + 16384 * image.header.pages)) c.read_records.ensures.only_read.same_size c.with_pages.ensures.size
+pub returns-in-Ok-clause-fits : goal.returns-in-Ok-clause-fits
+returns-in-Ok-clause-fits g c = subst (λ n. IfOk c.with_pages.result (λ image. FitsDevice (as_header image.header) n)) c.read_records.ensures.only_read.same_size c.with_pages.ensures.fits
 
 pub returns-in-Err-clause-refused : goal.returns-in-Err-clause-refused
 returns-in-Err-clause-refused g c told stands = c.in-Err.ensures.refused told stands

@@ -1,6 +1,6 @@
 -- What is counted, and what the texts of the records that are left count, is what all count.
 use Rattle.std.proofs.Common.{◌≡◌, ◌+◌, ◌-◌, ◌^◌, ◌≤◌, drop, min}
-use Rattle.image_opening.specs.Bytes.{texts_entries}
+use Rattle.record_replay.specs.Texts.{texts_entries}
 use Rattle.image_opening.proofs.bytes.texts_bytes.Given as goal
 
 abbrev pub invariant-loop-scanned : goal.invariant-loop-scanned

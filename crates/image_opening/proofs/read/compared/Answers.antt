@@ -1,6 +1,7 @@
+use Rattle.table_store.specs.Lists.{map_at}
 use Rattle.txn_log.specs.Replay.{recovered}
 use Rattle.record_replay.specs.Standing.{contents_of}
-use Rattle.image_opening.proofs.Opening.{can_compare, has_sound, is_fine, refuses, refuses_all, no_fault}
+use Rattle.image_opening.proofs.Opening.{can_compare, is_within, has_sound, is_fine, refuses, refuses_all, no_fault}
 use Rattle.image_opening.proofs.read.compared.Goals as goal
 
 pub checked-requires : goal.checked-requires
@@ -32,5 +33,6 @@ returns-in-Err-clause-no_disk c =
 pub returns-in-Ok-clause-sound : goal.returns-in-Ok-clause-sound
 returns-in-Ok-clause-sound c =
     let has = c.requires.has in
-    has_sound c.data_bytes-bytes.result c.data_limit.result (record { header = c.args.image.now.header; replay = c.args.replay }) has.0 has.1 has.2 has.3
-    (c.in-Ok.ensures.fine (contents_of has.0) (can_compare c.args.replay.store has.0 has.1))
+    let fine = c.in-Ok.ensures.fine (contents_of has.0) (can_compare c.args.replay.store has.0 has.1) in
+    has_sound c.data_bytes-bytes.result c.data_limit.result (record { header = c.args.image.now.header; replay = c.args.replay }) has.0 has.1 has.2 has.3 fine c.requires.few
+    (is_within c.args.image.now (map_at c.args.replay.store.tables) c.args.text_bytes c.data_bytes-bytes.result c.data_limit.result c.requires.texts c.data_bytes-bytes.ensures c.data_limit.ensures fine.within)

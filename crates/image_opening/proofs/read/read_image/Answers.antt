@@ -1,5 +1,9 @@
-use Rattle.std.proofs.Common.{List, ℕ, sym, subst}
+use Rattle.std.proofs.Common.{ℕ, List, sym, subst, ◌∙◌}
 use Rattle.std.specs.Prelude.{IfOk, IfErr}
+use Rattle.std.proofs.lemmas.Result.{IfOk-weaker}
+use Rattle.txn_log.specs.Damaged.{FitsDevice}
+use Rattle.image_finding.specs.Headers.{as_header}
+use Rattle.image_finding.specs.declared.header.LiveHeader.{LiveHeader}
 use Rattle.image_finding.specs.Images.{HasImage}
 use Rattle.image_finding.proofs.OnlyReads.{read_on}
 use Rattle.image_opening.specs.Telling.{Opens, Refuses}
@@ -19,3 +23,9 @@ returns-in-Ok-clause-refused g c told =
 
 pub returns-in-Ok-clause-only_read : goal.returns-in-Ok-clause-only_read
 returns-in-Ok-clause-only_read g c = read_on c.find_image.ensures.only_read c.read_found.ensures.only_read
+
+pub returns-in-Ok-clause-fits : goal.returns-in-Ok-clause-fits
+returns-in-Ok-clause-fits g c =
+    let size = c.read_found.ensures.only_read.same_size ∙ c.find_image.ensures.only_read.same_size in
+    IfOk-weaker c.read_found.result _ _ (λ r same.
+    subst (λ (h : LiveHeader). FitsDevice (as_header h) (g.D.Disk.size_of c.read_found.new.disk)) (sym same) (subst (FitsDevice (as_header c.in-Ok.image.header)) (sym size) c.in-Ok.ensures.fits)) c.read_found.ensures.header

@@ -1,4 +1,4 @@
-use Rattle.std.proofs.Common.{rules, ◌≡◌, ◌+◌, List, drop, subst}
+use Rattle.std.proofs.Common.{rules, ◌≡◌, ◌+◌, List, drop, ◌∙◌, subst}
 use Rattle.log_records.specs.declared.record.Scanned.{Scanned}
 use Rattle.record_replay.specs.Telling.{TellsCarried}
 use Rattle.record_replay.specs.declared.answer.Replayed.{Replayed}
@@ -43,5 +43,7 @@ loop-scanned-preserved g c =
           (c.in_ok-answer.ensures.told p on.rs on.ds on.replayed on.rest.0 (carried_comes at p.db.schema s on.rest.0 c.head_of.result c.head_of.ensures.place c.head_of.ensures.number on.rest.1)));
       some = carry_some maps limit old now c.head_of.result s.entry some.0 some.1 some.2 some.3 (c.in_ok-answer.ensures.reads passed)
           (λ r comes. subst (λ (answer : Replayed). TellsCarried maps limit now some.0 some.1 some.2 r answer) passed (c.in_ok-answer.ensures.told some.0 some.1 some.2 some.3 r comes));
+      texts = c.in_ok-answer.ensures.texts ∙ c.loop-scanned.invariant.texts;
+      commits = c.carry.ensures.commits ∙ c.loop-scanned.invariant.commits;
       rest = rest_on c.args.replay.now.store old.store now.store c.loop-scanned.invariant.rest c.carry.ensures.rest;
     }

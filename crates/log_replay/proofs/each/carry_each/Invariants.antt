@@ -13,5 +13,7 @@ invariant-loop-scanned g l = record {
   on : (p : Pages) → HasReplayed g.M.SortedMaps.maps g.M.SortedMaps.limit l.fn.replay (carrying p [] [])
       → (all : List Placed) → CarryTo l.area p.db.schema [] l.records all → CarriesOn g.M.SortedMaps.maps g.M.SortedMaps.limit l.replay l.area p (drop l.scanned-index l.records) all;
   some : (p : Pages) × (first : List Placed) × (ds : List Deed) × HasReplayed g.M.SortedMaps.maps g.M.SortedMaps.limit l.replay (carrying p first ds);
+  texts : g.M.SortedMaps.maps l.replay.store.tables 0 ≡ g.M.SortedMaps.maps l.fn.replay.store.tables 0;
+  commits : l.replay.commits ≡ l.fn.replay.commits;
   rest : l.replay.store ≡ record l.fn.replay.store { catalog = l.replay.store.catalog; tables = l.replay.store.tables; views = l.replay.store.views };
 }

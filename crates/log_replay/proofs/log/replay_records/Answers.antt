@@ -1,11 +1,13 @@
-use Rattle.std.proofs.Common.{List, [], take, drop, refl, sym, subst, ◌∙◌, arith}
+use Rattle.std.proofs.Common.{List, [], take, drop, refl, sym, ap, subst, ◌∙◌, arith}
+use Rattle.iv_types.specs.Maps.{map_size}
 use Rattle.log_records.specs.declared.record.Scanned.{Scanned}
 use Rattle.record_replay.specs.declared.answer.Replayed.TheVariants.{Passed, Broken}
 use Rattle.txn_log.specs.Replay.{reversed}
 use Rattle.record_replay.specs.Past.{left_by}
+use Rattle.record_replay.specs.Texts.{texts_entries}
 use Rattle.log_replay.specs.Through.{CarryTo, GoTo}
 use Rattle.log_replay.proofs.Going.{going}
-use Rattle.log_replay.proofs.Recovering.{carry_to, go_to, behind_is, told_weaker, bad_weaker, once_ok, of_answer, refused_first, refused_further, refused_back, is_recovered}
+use Rattle.log_replay.proofs.Recovering.{carry_to, go_to, behind_is, fewer_texts, told_weaker, bad_weaker, once_ok, of_answer, refused_first, refused_further, refused_back, is_recovered}
 use Rattle.log_replay.proofs.log.replay_records.Goals as goal
 
 pub follow_each-requires-clause-begins : goal.follow_each-requires-clause-begins
@@ -39,6 +41,18 @@ returns-clause-some g c =
       c.reverse.ensures.commits ∙ past.1.commits,
       (let same = c.reverse.ensures.next in let small = past.1.small in omega (arith, same, small)),
     )) c.outcome-3.ensures.passed
+
+pub returns-clause-texts : goal.returns-clause-texts
+returns-clause-texts g c =
+    let records = c.args.records.now in
+    let n = c.count_before-count.result in
+    once_ok c.outcome-3.result (λ passed.
+    let first = of_answer _ c.carry_each.result Passed c.in-Ok.ensures.passed c.carry_each.ensures.texts in
+    let second = of_answer _ c.follow_each.result Passed c.in-Ok-outcome.ensures.passed c.follow_each.ensures.texts in
+    let third = of_answer _ c.reverse.result Passed passed c.reverse.ensures.texts in
+    let behind = ap texts_entries (behind_is n records) in
+    let fewer = fewer_texts n records in
+    omega (arith, ap map_size first, second, ap map_size third, behind, fewer)) c.outcome-3.ensures.passed
 
 pub returns-clause-refused : goal.returns-clause-refused
 returns-clause-refused g c =

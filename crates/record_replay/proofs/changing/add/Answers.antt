@@ -26,3 +26,10 @@ pub returns-in-OutOfRange-clause-told : goal.returns-in-OutOfRange-clause-told
 returns-in-OutOfRange-clause-told g c = λ s h.
     out_there g.M.SortedMaps.maps g.M.SortedMaps.limit c.args.store.now c.add_delta.new.store s c.args.delta.now
     (subst (λ answer. Tells s.view c.args.delta.now answer) c.in-OutOfRange.is (c.in_ok-add_delta.ensures.told (contents_of (pages_in s)) h.closed))
+
+pub returns-in-Added-clause-texts : goal.returns-in-Added-clause-texts
+returns-in-Added-clause-texts g c =
+    let maps = g.M.SortedMaps.maps in
+    let store = c.args.store.now in
+    let q = c.requires.has in
+    (c.in_ok-add_delta.ensures.added c.in-Added.is (told_in maps store (pages_in q.0)) (told_closed maps g.M.SortedMaps.limit store (pages_in q.0) q.1)).held.texts

@@ -17,3 +17,10 @@ returns-then-branch-clause-told g c = λ s h.
 
 pub returns-else-branch-clause-told : goal.returns-else-branch-clause-told
 returns-else-branch-clause-told g c = λ s h stands. c.in_ok-set_row_back.ensures.other c.if-branch.false (contents_of (pages_in s)) h.closed.held stands
+
+pub returns-then-branch-clause-texts : goal.returns-then-branch-clause-texts
+returns-then-branch-clause-texts g c =
+    let maps = g.M.SortedMaps.maps in
+    let store = c.args.store.now in
+    let q = c.requires.has in
+    (c.in_ok-set_row_back.ensures.stands c.if-branch.true (told_in maps store (pages_in q.0)) (told_closed maps g.M.SortedMaps.limit store (pages_in q.0) q.1).held).1.texts

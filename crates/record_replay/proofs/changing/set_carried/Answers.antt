@@ -25,3 +25,10 @@ returns-in-Wrote-clause-told g c =
     let known = subst (λ (x : LiveChange). IsKnown (schema_of old.catalog) (what_of x)) c.in-Wrote.is c.requires.known in
     subst (λ (x : LiveChange). OnOk c.put_row.result ((p : Pages) → Has maps limit old p → Has maps limit new (with_rows_of (what_of x) p))) (sym c.in-Wrote.is)
     (once_ok c.put_row.result (λ put p h. carries maps limit old new c.put_row.ensures.limit p (row_change c.in-Wrote.change) h known c.put_row.ensures.rest (put (told_in maps old p) (told_closed maps limit old p h).held)) c.put_row.ensures.put)
+
+pub returns-in-Wrote-clause-texts : goal.returns-in-Wrote-clause-texts
+returns-in-Wrote-clause-texts g c =
+    let maps = g.M.SortedMaps.maps in
+    let store = c.args.store.now in
+    let q = c.requires.has in
+    once_ok c.put_row.result (λ put. (put (told_in maps store q.0) (told_closed maps g.M.SortedMaps.limit store q.0 q.1).held).texts) c.put_row.ensures.put

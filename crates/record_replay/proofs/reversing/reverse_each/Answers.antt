@@ -1,4 +1,4 @@
-use Rattle.std.proofs.Common.{rules, ◌≡◌, ℕ, None, subst}
+use Rattle.std.proofs.Common.{rules, ◌≡◌, ℕ, None, ◌∙◌, subst}
 use Rattle.live_records.specs.Live.{what_of, record_at}
 use Rattle.record_replay.specs.Past.{pages_in}
 use Rattle.record_replay.specs.Telling.{TellsBack}
@@ -48,6 +48,7 @@ loop-own-preserved g c =
           goes_on maps limit c.loop-own.store after c.loop-own.left c.pop.new.self rs s on
           (one_back maps limit c.loop-own.store after c.loop-own.left c.pop.new.self rs on.state on.can own c.in-Some.ensures.latest c.in-Some.ensures.was c.in-Some.ensures.taken
           (subst (λ (answer : Replayed). TellsBack maps limit after own on.state answer) passed (c.in_ok-answer.ensures.told on.state on.can.has)));
+      texts = c.in_ok-answer.ensures.texts ∙ c.loop-own.invariant.texts;
       rest = rest_on c.args.store.now c.loop-own.store after c.loop-own.invariant.rest c.reverse_one.ensures.rest;
     }
 

@@ -11,6 +11,7 @@ abbrev pub invariant-loop-own : goal.invariant-loop-own
 invariant-loop-own g l = record {
   goes_on : (rs : List Placed) (s : Stored) → CanReverse g.M.SortedMaps.maps g.M.SortedMaps.limit l.fn.store l.fn.left rs s
       → GoesOn g.M.SortedMaps.maps g.M.SortedMaps.limit l.store l.left rs s;
+  texts : g.M.SortedMaps.maps l.store.tables 0 ≡ g.M.SortedMaps.maps l.fn.store.tables 0;
   rest : l.store ≡ record l.fn.store { tables = l.store.tables; views = l.store.views };
 }
 

@@ -41,3 +41,11 @@ returns-clause-told g c = λ x h r comes.
     (subst (λ (objects : Schema). IsGroupOf objects (c.args.view, c.args.group.now) c.in-Some.sums) (objects_are maps limit self.store (pages_in (left_by x)) h.store) group)
     ((c.in_ok-make_row.ensures.absent here closed).0 c.if-not-branch.false) (c.in_ok-make_row.ensures.made c.if-not-branch.false here closed)
     (ap (λ (d : DataStore g.row.M.Denot). d.catalog) c.make_row.ensures.rest) c.make_row.ensures.limit refl refl refl
+
+pub returns-clause-texts : goal.returns-clause-texts
+returns-clause-texts g c =
+    let maps = g.M.SortedMaps.maps in
+    let store = c.args.self.now.store in
+    let q = c.requires.replayed in
+    let there = pages_in (left_by q.0) in
+    (c.in_ok-make_row.ensures.made c.if-not-branch.false (told_in maps store there) (told_closed maps g.M.SortedMaps.limit store there q.1.store)).held.texts

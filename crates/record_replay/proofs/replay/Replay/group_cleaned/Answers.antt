@@ -36,3 +36,11 @@ returns-clause-told g c = λ x h r comes.
     (subst (λ (objects : Schema). IsGroup objects (c.args.view, c.args.group.now)) (objects_are maps limit self.store (pages_in (left_by x)) h.store) group)
     ((c.remove_row.ensures.zeros here closed).0 c.if-not-remove_row.false) (c.remove_row.ensures.removed c.if-not-remove_row.false here closed)
     (ap (λ (d : DataStore g.row.M.Denot). d.catalog) c.remove_row.ensures.rest) c.remove_row.ensures.limit refl refl refl
+
+pub returns-clause-texts : goal.returns-clause-texts
+returns-clause-texts g c =
+    let maps = g.M.SortedMaps.maps in
+    let store = c.args.self.now.store in
+    let q = c.requires.replayed in
+    let there = pages_in (left_by q.0) in
+    (c.remove_row.ensures.removed c.if-not-remove_row.false (told_in maps store there) (told_closed maps g.M.SortedMaps.limit store there q.1.store)).held.texts

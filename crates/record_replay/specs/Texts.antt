@@ -1,6 +1,6 @@
 -- No clause of `run` rests on this module: it serves contracts between crates.
 --
--- What the texts of definitions among scanned records count.
+-- What the texts of definitions among records count.
 use Rattle.std.specs.Prelude.{ℕ, ◌+◌, List, [], ◌∷◌}
 use Rattle.txn_machine.specs.Log.{definition_entries}
 use Rattle.log_records.specs.declared.record.Record.{Record}
