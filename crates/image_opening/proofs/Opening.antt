@@ -3,6 +3,7 @@ use Rattle.std.proofs.Common.{◌≡◌, ◌⊎◌, inl, inr, ℕ, ◌+◌, ◌-
 use Rattle.std.specs.Prelude.{min}
 use Rattle.std.specs.List.{sum}
 use Rattle.disk_io.specs.Disk.{AreBytes}
+use Rattle.iv_types.specs.Definitions.{Definitions}
 use Rattle.iv_types.specs.Maps.{Map, map_size, used}
 use Rattle.query_laws.specs.Limited.{IsLimited}
 use Rattle.page_store.specs.Image.{area_at}
@@ -13,7 +14,6 @@ use Rattle.txn_log.specs.Room.{rows_bytes}
 use Rattle.txn_log.specs.Replay.{Pages, recovered}
 use Rattle.txn_log.specs.Stored.{parts_entries}
 use Rattle.txn_log.specs.Refused.{most_number, PlacedImage, data_left, texts_in, IsFine, BadImage, IsRefused, sums, entries, view}
-use Rattle.data_store.specs.Contents.{Contents}
 use Rattle.data_room.proofs.Used.{used_is}
 use Rattle.log_disk.specs.Placed.{data_limit}
 use Rattle.image_catalog.proofs.Making.{made_so}
@@ -30,12 +30,14 @@ use Rattle.record_replay.specs.Texts.{texts_entries}
 use Rattle.record_replay.specs.declared.replay.Replay.{Replay}
 use Rattle.log_replay.specs.Told.{IsRecovered}
 use Rattle.image_pages.specs.Pages.{no_limit, TreeStore, CountsTextsOf}
-use Rattle.image_opening.specs.Faults.{open_fault, counted_by}
+use Rattle.image_opening.specs.Faults.{open_fault, views_fault, counted_by}
 use Rattle.image_opening.specs.Images.{IsImageIn}
 use Rattle.image_opening.specs.Telling.{HasSound, IsFineSo, IsWrongIn, Tells, Refuses}
 use Rattle.image_opening.specs.declared.fault.OpenFault.{OpenFault}
 use Rattle.image_opening.specs.declared.read.Recovered.{Recovered}
 use Rattle.image_opening.specs.declared.fault.OpenFault.TheVariants as why
+use Rattle.image_opening.specs.declared.views.ViewsFault.{ViewsFault}
+use Rattle.image_opening.specs.declared.views.ViewsFault.TheVariants as views
 use Rattle.image_opening.proofs.Scanned.{are_scanned, pages_are}
 use Rattle.image_opening.proofs.Texts.{same_turned, both_texts, carried_none, further_texts}
 
@@ -50,10 +52,10 @@ pub is_within : (image : FoundImage) (maps : ℕ → Map) (text_bytes size limit
 is_within image maps text_bytes size limit texts size_is limit_is le = let pages = image.few_pages in omega (arith, texts, size_is, limit_is, le, pages)
 
 -- what is read has them
-pub has_sound : (size limit : ℕ) (r : Recovered) (p : Pages) → Has map_at no_limit r.replay.store p → r.replay.commits ≡ p.db.number → r.replay.next ≤ most_number + 1 → IsFineSo size limit (contents_of p)
+pub has_sound : (size limit : ℕ) (r : Recovered) (p : Pages) → Has map_at no_limit r.replay.store p → r.replay.commits ≡ p.db.number → r.replay.next ≤ most_number + 1 → ((q : Pages) → Has map_at no_limit r.replay.store q → IsFineSo size limit (contents_of q))
     → r.replay.commits < 2 ^ 63 → used (map_at r.replay.store.tables) ≤ data_limit r.header.pages → HasSound r
 has_sound size limit r p has commits next f few within =
-    record { pages = p; has = has; commits = commits; few = few; next = next; in_range = f.in_range; fresh_at = λ place. f.fresh_at p.db.number place; within = within }
+    record { pages = p; has = has; commits = commits; few = few; next = next; in_range = λ q h. (f q h).in_range; fresh_at = λ q h place. (f q h).fresh_at q.db.number place; within = within }
 
 -- an image is refused for this
 abbrev pub RefusesIt : PlacedImage → OpenFault → Type 0
@@ -124,8 +126,8 @@ module _ (c : List ℕ) (bytes : AreBytes c) (image : FoundImage) (has : HasImag
       fresh_at = λ place. f.fresh_at p.db.number place;
     }
 
-    pub refuses : (fault : OpenFault) → Tells size limit (contents_of p) fault → RefusesIt i fault
-    refuses (why.BadImage bad) t = by t.1
+    pub refuses : (fault : ViewsFault) → Tells size limit (contents_of p) fault → RefusesIt i (views_fault replay.store.catalog fault)
+    refuses (views.Rule bad) t = by t.1
       where
         told : (rule : ℕ) → bad.rule ≡ rule → IsRefused i (BadImage rule 0) → IsRefused i (BadImage bad.rule bad.place)
         told rule e h = subst (λ n. IsRefused i (BadImage n bad.place)) (sym e) (subst (λ n. IsRefused i (BadImage rule n)) (sym t.0) h)
@@ -133,15 +135,15 @@ module _ (c : List ℕ) (bytes : AreBytes c) (image : FoundImage) (has : HasImag
         by : ((bad.rule ≡ 14) × (AreInRange p.db.schema p.db.rows → ⊥)) ⊎ ((bad.rule ≡ 15) × AreInRange p.db.schema p.db.rows × (limit < size)) → IsRefused i (BadImage bad.rule bad.place)
         by (inl s) = told 14 s.0 (sums r.reading r.reverses s.1)
         by (inr s) = told 15 s.0 (entries r.reading r.reverses s.1 (beyond (let more = s.2 in omega (arith, more, size_is, limit_is_most))))
-    refuses (why.BadView wrong) t = record {
+    refuses (views.Row wrong) t = record {
       refused = view r.reading r.reverses t.0 (fits (let le = t.1 in omega (arith, le, size_is, limit_is_most))) (wrong.view, wrong.group) (t.2.first p.db.number);
       reading = r.reading;
       reverses = r.reverses;
+      objects = r.has.closed.held.objects;
       stored_is = t.2.stored_is;
       fresh_is = t.2.fresh_is;
     }
-    refuses why.DiskFault t = absurd t
-    refuses why.NoMemory t = tt
+    refuses views.NoMemory t = tt
 
 -- the same of the bytes
 pub refuses_all : (c : List ℕ) (fault : OpenFault) → rules.PassesUpTo 12 c → ((i : PlacedImage) → IsImageIn c i → RefusesIt i fault) → Refuses c fault
@@ -169,11 +171,10 @@ same_count (find.BadImage bad) before now h = h
 same_count find.DiskFault before now h = h
 same_count find.NoMemory before now h = h
 
-pub no_fault : (size limit : ℕ) (c : Contents) (fault : OpenFault) → Tells size limit c fault → (count : ℕ) → counted_by fault count count
-no_fault size limit c (why.BadImage bad) t count = refl
-no_fault size limit c (why.BadView wrong) t count = refl
-no_fault size limit c why.DiskFault t count = absurd t
-no_fault size limit c why.NoMemory t count = refl
+pub no_fault : (catalog : Definitions) (fault : ViewsFault) (count : ℕ) → counted_by (views_fault catalog fault) count count
+no_fault catalog (views.Rule bad) count = refl
+no_fault catalog (views.Row wrong) count = refl
+no_fault catalog views.NoMemory count = refl
 
 -- records that are replayed on maps in memory
 abbrev pub TreeReplay : Type 0

@@ -10,5 +10,5 @@ mod read;
 mod records;
 mod views;
 
-pub use fault::OpenFault;
+pub use fault::{OpenFault, WrongView};
 pub use read::{Recovered, read_image};

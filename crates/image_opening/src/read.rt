@@ -19,12 +19,13 @@ ghost use Rattle.image_opening.specs.Images.{IsImageIn};
 ghost use Rattle.image_opening.specs.Telling.{HasNoPast, HasSound, Opens, Refuses};
 
 use crate::bytes::{rows_bytes, texts_bytes};
-use crate::fault::{OpenFault, open_fault};
+use crate::fault::{OpenFault, open_fault, views_fault};
 use crate::records::replayed;
 use crate::views::checked;
 use disk_io::Disk;
 use image_finding::{FoundImage, LiveHeader, find_image};
 use image_pages::{StoredPages, read_pages};
+use iv_types::Catalog;
 use record_replay::Replay;
 use std::alloc::Global;
 use tree_maps::TreeMaps;
@@ -59,6 +60,14 @@ fn data_limit(pages: u32) -> u64
     (pages as u64).saturating_sub(SPARE_PAGES) * PAGE_BYTES
 }
 
+// The definitions of what was replayed, which is let go.
+fn catalog_of(replay: Replay<TreeMaps>) -> Catalog
+    ensures { result ≡ replay.store.catalog }
+{
+    let store = replay.store;
+    store.catalog
+}
+
 // What was replayed, if its bytes and its views are as they have to be.
 fn compared(
     replay: Replay<TreeMaps>,
@@ -81,7 +90,7 @@ fn compared(
             header: image.header,
             replay,
         }),
-        Err(fault) => Err(fault),
+        Err(fault) => Err(views_fault(fault, catalog_of(replay))),
     }
 }
 

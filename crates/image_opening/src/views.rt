@@ -3,15 +3,25 @@ ghost use Rattle.std.specs.Prelude.{◌≡◌, ◌≤◌, ◌<◌, OnOk, IfErr};
 ghost use Rattle.table_store.specs.Lists.{map_at};
 ghost use Rattle.data_store.specs.Contents.{Contents};
 ghost use Rattle.image_views.specs.Compared.{CanCompare};
-ghost use Rattle.image_opening.specs.declared.fault.OpenFault.TheVariants as why;
+ghost use Rattle.image_opening.specs.declared.views.ViewsFault.TheVariants as why;
 ghost use Rattle.image_opening.specs.Telling.{IsFineSo, Tells};
 
-use crate::fault::OpenFault;
 use data_store::DataStore;
 use image_finding::BadImage;
 use image_views::{ViewsFound, WrongRow, check_views};
 use iv_types::NoMemory;
 use tree_maps::TreeMaps;
+
+/// Why what was recovered is no database.
+#[derive(Drop)]
+pub(crate) enum ViewsFault {
+    /// A rule fails.
+    Rule(BadImage),
+    /// A stored row of a view is not what the view has.
+    Row(WrongRow),
+    /// There was no memory for a view.
+    NoMemory,
+}
 
 // The rules that are tried here, by their numbers. They have no place.
 const IN_RANGE: u8 = 14;
@@ -19,16 +29,16 @@ const IN_RANGE: u8 = 14;
 const WITHIN_LIMIT: u8 = 15;
 
 // The rule fails.
-fn fails(rule: u8) -> OpenFault
-    ensures { result ≡ why.BadImage (record { rule = rule; place = 0 }) }
+fn fails(rule: u8) -> ViewsFault
+    ensures { result ≡ why.Rule (record { rule = rule; place = 0 }) }
 {
-    OpenFault::BadImage(BadImage { rule, place: 0 })
+    ViewsFault::Rule(BadImage { rule, place: 0 })
 }
 
 // Whether so many bytes are within the limit.
-fn within(bytes: u64, most: u64) -> Result<(), OpenFault>
+fn within(bytes: u64, most: u64) -> Result<(), ViewsFault>
     ensures fits { OnOk result (bytes ≤ most) }
-    ensures passes { IfErr result (λ fault. (most < bytes) × (fault ≡ why.BadImage (record { rule = 15; place = 0 }))) }
+    ensures passes { IfErr result (λ fault. (most < bytes) × (fault ≡ why.Rule (record { rule = 15; place = 0 }))) }
 {
     if bytes > most {
         return Err(fails(WITHIN_LIMIT));
@@ -37,14 +47,14 @@ fn within(bytes: u64, most: u64) -> Result<(), OpenFault>
 }
 
 // A row differs, where the bytes are within the limit.
-fn differs(wrong: WrongRow, bytes: u64, most: u64) -> OpenFault
-    ensures within { bytes ≤ most → result ≡ why.BadView wrong }
-    ensures beyond { most < bytes → result ≡ why.BadImage (record { rule = 15; place = 0 }) }
+fn differs(wrong: WrongRow, bytes: u64, most: u64) -> ViewsFault
+    ensures within { bytes ≤ most → result ≡ why.Row wrong }
+    ensures beyond { most < bytes → result ≡ why.Rule (record { rule = 15; place = 0 }) }
 {
     if bytes > most {
         return fails(WITHIN_LIMIT);
     }
-    OpenFault::BadView(wrong)
+    ViewsFault::Row(wrong)
 }
 
 /// Compares each view of a store with what it is, evaluated afresh, and its bytes with their limit: first the sums of all views (rule 14),
@@ -52,8 +62,8 @@ fn differs(wrong: WrongRow, bytes: u64, most: u64) -> OpenFault
 ///
 /// # Errors
 ///
-/// `BadImage` with rule 14 or 15, and `BadView` with the first row that differs. `NoMemory` where there was none for a view.
-pub(crate) fn checked(store: &DataStore<TreeMaps>, bytes: u64, most: u64) -> Result<(), OpenFault>
+/// `Rule` with rule 14 or 15, and `Row` with the first row that differs. `NoMemory` where there was none for a view.
+pub(crate) fn checked(store: &DataStore<TreeMaps>, bytes: u64, most: u64) -> Result<(), ViewsFault>
     requires { (c : Contents) × CanCompare store.now.catalog (map_at store.now.tables) store.now.views c }
     ensures fine { OnOk result ((c : Contents) → CanCompare store.now.catalog (map_at store.now.tables) store.now.views c → IsFineSo bytes most c) }
     ensures refused { IfErr result (λ fault. (c : Contents) → CanCompare store.now.catalog (map_at store.now.tables) store.now.views c → Tells bytes most c fault) }
@@ -62,6 +72,6 @@ pub(crate) fn checked(store: &DataStore<TreeMaps>, bytes: u64, most: u64) -> Res
         Ok(ViewsFound::OutOfRange) => Err(fails(IN_RANGE)),
         Ok(ViewsFound::Same) => within(bytes, most),
         Ok(ViewsFound::Differs(wrong)) => Err(differs(wrong, bytes, most)),
-        Err(NoMemory) => Err(OpenFault::NoMemory),
+        Err(NoMemory) => Err(ViewsFault::NoMemory),
     }
 }
