@@ -9,7 +9,7 @@ use Rattle.clap.specs.Matches.{subcommand_name_of}
 use Rattle.clap.specs.declared.parser.matches.ArgMatches.{ArgMatches}
 use Rattle.clap.specs.declared.parser.matches.ArgMatches.TheViews.{out-ArgMatches}
 use Rattle.clap.proofs.OnLiterals.{clap_on_literals}
-use Rattle.command_words.specs.Commands.{commands}
+use Rattle.command_words.specs.Commands.{commands, file_in}
 use Rattle.command_words.specs.Init.{IsPlain}
 use Rattle.command_words.specs.Words.{IsFile}
 
@@ -76,15 +76,20 @@ one_of_nine P p1 p2 p3 p4 p5 p6 p7 p8 p9 (suc (suc (suc (suc (suc (suc (suc zero
 one_of_nine P p1 p2 p3 p4 p5 p6 p7 p8 p9 (suc (suc (suc (suc (suc (suc (suc (suc zero)))))))) less = p9
 one_of_nine P p1 p2 p3 p4 p5 p6 p7 p8 p9 (suc (suc (suc (suc (suc (suc (suc (suc (suc d))))))))) less = absurd (omega (arith, less))
 
--- ---- `script -`
+-- ---- `script` and `-` or FILE
 
-pub script_taken : takes commands (codes "script" ∷ codes "-" ∷ []) ≡ true
-unfolding clap_on_literals
-script_taken = refl
+pub record ReadsFile (text : List ℕ) : Type 0 where
+  pub taken : takes commands (codes "script" ∷ text ∷ []) ≡ true
+  pub read : file_in (subcommand_of commands (codes "script" ∷ text ∷ [])) ≡ Some (codes "script", Some text)
 
-pub script_read : option_map (λ p. p.0) (subcommand_of commands (codes "script" ∷ codes "-" ∷ [])) ≡ Some (codes "script")
+pub reads_dash : ReadsFile (codes "-")
 unfolding clap_on_literals
-script_read = refl
+reads_dash = record { taken = refl; read = refl }
+
+pub reads_file : (name : List ℕ) → IsPlain name → ReadsFile name
+unfolding clap_on_literals
+reads_file [] plain = absurd plain
+reads_file (b ∷ bs) plain = record { taken = rw (plain, plain) refl; read = rw (plain, plain) refl }
 
 -- ---- `make` and a number
 

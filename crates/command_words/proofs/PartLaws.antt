@@ -3,7 +3,7 @@ use Rattle.std.proofs.Common.{◌≡◌, ◌≤◌, ◌<◌, ◌+◌, ◌∙◌,
 use Rattle.std.specs.Prelude.{String, string_bytes, MatchOption}
 use Rattle.std.specs.List.{AllByRecursion}
 use Rattle.std.proofs.lemmas.Fmt.{decimal_injective}
-use Rattle.command_words.specs.Words.{Part, file, pages, log_kib, Fits, IsFile, words_of, all_words, files_in, pages_in, logs_in, Gives, Wanted, a_script, rounds, database, AsksFor, IsCommand, IsScript, IsMake}
+use Rattle.command_words.specs.Words.{Part, file, pages, log_kib, Fits, IsFile, words_of, all_words, files_in, pages_in, logs_in, Gives, Wanted, a_script, a_script_on, rounds, database, AsksFor, IsCommand, IsScript, IsScriptOn, IsMake}
 use Rattle.command_words.specs.Init.{HasParts}
 use Rattle.command_words.specs.Parts.{PartAt, NoPartAt, sort_of, has_met, with_met}
 use Rattle.command_words.specs.declared.parts.Sort.TheVariants as sort
@@ -317,6 +317,7 @@ first_byte xs = get_or (first_of_words xs) 0 0
 pub init_parts : {A : Type 0} (wanted : Wanted) (words : List (String A)) (texts : List (List ℕ)) → map string_bytes words ≡ codes "init" ∷ texts → AsksFor wanted words → HasParts texts
 unfolding first_of_words first_byte
 init_parts a_script words texts e asks = let byte : 105 ≡ 115 = ap first_byte (sym e ∙ asks) in absurd (omega (arith, byte))
+init_parts (a_script_on name) words texts e asks = let byte : 105 ≡ 115 = ap first_byte (sym e ∙ asks.are) in absurd (omega (arith, byte))
 init_parts (rounds n) words texts e asks = let byte : 105 ≡ 109 = ap first_byte (sym e ∙ asks.are) in absurd (omega (arith, byte))
 init_parts (database name p l) words texts e asks = record {
   parts = asks.parts;
@@ -327,13 +328,16 @@ init_parts (database name p l) words texts e asks = record {
   few_log = few_given DEFAULT_LOG_KIB (logs_in asks.parts) l asks.of_log;
 }
 
-pub other_form : {A : Type 0} (words : List (String A)) → IsScript words ⊎ ((number : ℕ) × IsMake number words) → IsCommand words
+pub other_form : {A : Type 0} (words : List (String A)) → IsScript words ⊎ (((name : List ℕ) × IsScriptOn name words) ⊎ ((number : ℕ) × IsMake number words)) → IsCommand words
 other_form words (inl s) = (a_script, s)
-other_form words (inr m) = (rounds m.0, m.1)
+other_form words (inr (inl s)) = (a_script_on s.0, s.1)
+other_form words (inr (inr m)) = (rounds m.0, m.1)
 
-pub other_wanted : {A : Type 0} (wanted : Wanted) (words : List (String A)) (first : List ℕ) (texts : List (List ℕ)) → map string_bytes words ≡ first ∷ texts → (first ≡ codes "init" → ⊥) → AsksFor wanted words → IsScript words ⊎ ((number : ℕ) × IsMake number words)
+pub other_wanted : {A : Type 0} (wanted : Wanted) (words : List (String A)) (first : List ℕ) (texts : List (List ℕ)) → map string_bytes words ≡ first ∷ texts → (first ≡ codes "init" → ⊥) → AsksFor wanted words
+    → IsScript words ⊎ (((name : List ℕ) × IsScriptOn name words) ⊎ ((number : ℕ) × IsMake number words))
 other_wanted a_script words first texts e not_init asks = inl asks
-other_wanted (rounds n) words first texts e not_init asks = inr (n, asks)
+other_wanted (a_script_on name) words first texts e not_init asks = inr (inl (name, asks))
+other_wanted (rounds n) words first texts e not_init asks = inr (inr (n, asks))
 other_wanted (database name p l) words first texts e not_init asks = absurd (not_init (same_first _ _ _ _ (sym e ∙ asks.are)))
 
 pub on_none : {X : Type 0} (r : Option X) (N M : Type 0) (S : X → Type 0) → (N → M) → MatchOption r N S → MatchOption r M S

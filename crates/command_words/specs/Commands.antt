@@ -7,7 +7,7 @@ use Rattle.clap.specs.Simple.{on_top}
 use Rattle.clap.specs.declared.parser.matches.ArgMatches.{ArgMatches}
 use Rattle.made_script.specs.declared.lines.TheConstants.{MOST_ROUNDS}
 use Rattle.command_words.specs.declared.limits.TheConstants.{LEAST_PAGES, MOST_PAGES, DEFAULT_PAGES, LEAST_LOG_KIB, MOST_LOG_KIB, DEFAULT_LOG_KIB}
-use Rattle.command_words.specs.Words.{Wanted, a_script, rounds, database}
+use Rattle.command_words.specs.Words.{Wanted, a_script, a_script_on, rounds, database, IsFile}
 
 abbrev pub file_rule : Rule
 file_rule = record (new_rule (codes "FILE")) { required = true }
@@ -35,6 +35,10 @@ commands = with_subcommand (with_subcommand (with_subcommand (on_top (λ s. reco
 abbrev pub met_in : ArgMatches → Option (Text × Option Text)
 met_in matches = option_map (λ p. (p.0, first_of (codes "NUMBER") p.1)) (subcommand_rows_of matches)
 
+-- the command that was met, and FILE behind it
+abbrev pub file_in : Option (Text × List Row) → Option (Text × Option Text)
+file_in = option_map (λ p. (p.0, first_of (codes "FILE") p.1))
+
 -- the command that was met, with FILE and the numbers of its options
 abbrev pub init_in : Option (Text × List Row) → Option (Text × (Option Text × (Option Text × Option Text)))
 init_in = option_map (λ p. (p.0, (first_of (codes "FILE") p.1, (first_of (codes "pages") p.1, first_of (codes "log-kib") p.1))))
@@ -61,8 +65,22 @@ pub record MetInit (met : Option (Text × List Row)) (name : List ℕ) (pages lo
   pub met_is : met ≡ Some (codes "init", rows)
   pub has : HasDatabase rows name pages log_kib
 
+-- the word behind `script` stands in these matches: `-`, or FILE
+abbrev pub HasScript : List Row → Wanted → Type 0
+HasScript rows a_script = first_of (codes "FILE") rows ≡ Some (codes "-")
+HasScript rows (a_script_on name) = IsFile name × (first_of (codes "FILE") rows ≡ Some name)
+HasScript rows (rounds number) = ⊥
+HasScript rows (database name pages log_kib) = ⊥
+
+-- `script` was met, with these matches
+pub record MetScript (met : Option (Text × List Row)) (wanted : Wanted) : Type 0 where
+  pub rows : List Row
+  pub met_is : met ≡ Some (codes "script", rows)
+  pub has : HasScript rows wanted
+
 -- this was found
 abbrev pub IsFound : ArgMatches → Wanted → Type 0
-IsFound matches a_script = option_map (λ p. p.0) (subcommand_rows_of matches) ≡ Some (codes "script")
+IsFound matches a_script = MetScript (subcommand_rows_of matches) a_script
+IsFound matches (a_script_on name) = MetScript (subcommand_rows_of matches) (a_script_on name)
 IsFound matches (rounds number) = (1 ≤ number) × (number ≤ MOST_ROUNDS) × (met_in matches ≡ Some (codes "make", Some (decimal number)))
 IsFound matches (database name pages log_kib) = MetInit (subcommand_rows_of matches) name pages log_kib

@@ -10,16 +10,21 @@ use Rattle.command_words.specs.declared.asked.Asked.TheVariants as asked
 abbrev pub IsScript : {A : Type 0} → List (String A) → Type 0
 IsScript words = map string_bytes words ≡ codes "script" ∷ codes "-" ∷ []
 
+-- a word that may be FILE: it is not empty and does not begin with `-`
+abbrev pub IsFile : List ℕ → Type 0
+IsFile [] = ⊥
+IsFile (b ∷ bs) = b ≢ 45
+
+-- `script` and FILE
+pub record IsScriptOn {A : Type 0} (name : List ℕ) (words : List (String A)) : Type 0 where
+  pub file : IsFile name
+  pub are : map string_bytes words ≡ codes "script" ∷ name ∷ []
+
 -- `make` and a number of rounds, in decimal digits without sign or leading zero
 pub record IsMake {A : Type 0} (number : ℕ) (words : List (String A)) : Type 0 where
   pub least : 1 ≤ number
   pub most : number ≤ MOST_ROUNDS
   pub are : map string_bytes words ≡ codes "make" ∷ decimal number ∷ []
-
--- a word that may be FILE: it is not empty and does not begin with `-`
-abbrev pub IsFile : List ℕ → Type 0
-IsFile [] = ⊥
-IsFile (b ∷ bs) = b ≢ 45
 
 -- a part of the words behind `init`: FILE, or an option with its number, in one word with `=` or in two
 pub data Part : Type 0 where
@@ -79,16 +84,18 @@ pub record IsInit {A : Type 0} (name : List ℕ) (pages log_kib : ℕ) (words : 
   pub of_pages : Gives DEFAULT_PAGES (pages_in parts) pages
   pub of_log : Gives DEFAULT_LOG_KIB (logs_in parts) log_kib
 
--- what words can ask for: a script, a made script of so many rounds, a new database under a name with so many pages and KiB of a log
--- area
+-- what words can ask for: a script on a new database, a script on the database of a name, a made script of so many rounds, a new
+-- database under a name with so many pages and KiB of a log area
 pub data Wanted : Type 0 where
   a_script : Wanted
+  a_script_on : List ℕ → Wanted
   rounds : ℕ → Wanted
   database : List ℕ → ℕ → ℕ → Wanted
 
 -- the words are the form that asks for this
 abbrev pub AsksFor : {A : Type 0} → Wanted → List (String A) → Type 0
 AsksFor a_script words = IsScript words
+AsksFor (a_script_on name) words = IsScriptOn name words
 AsksFor (rounds number) words = IsMake number words
 AsksFor (database name of_pages of_log) words = IsInit name of_pages of_log words
 
@@ -98,11 +105,13 @@ IsCommand words = (wanted : Wanted) × AsksFor wanted words
 
 abbrev pub wanted_of : Asked → Wanted
 wanted_of asked.Script = a_script
+wanted_of (asked.ScriptOn name) = a_script_on name.now
 wanted_of (asked.Make number) = rounds number
 wanted_of (asked.Init new) = database new.file.now new.pages new.log_kib
 
 -- a new database has as many pages and KiB of a log area as one may have
 abbrev pub HasBounds : Wanted → Type 0
 HasBounds a_script = Unit {0}
+HasBounds (a_script_on name) = Unit {0}
 HasBounds (rounds number) = Unit {0}
 HasBounds (database name of_pages of_log) = (LEAST_PAGES ≤ of_pages) × (of_pages ≤ MOST_PAGES) × (LEAST_LOG_KIB ≤ of_log) × (of_log ≤ MOST_LOG_KIB)

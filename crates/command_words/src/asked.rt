@@ -5,6 +5,8 @@
 pub enum Asked<'a> {
     /// To run the lines of the source on a new database.
     Script,
+    /// To run the lines of the source on the database of this name.
+    ScriptOn(&'a str),
     /// To run the made script of so many rounds.
     Make(u32),
     /// To make a new database under a name.

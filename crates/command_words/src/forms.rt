@@ -1,7 +1,8 @@
 //! Which lists of words are commands.
-ghost use Rattle.std.specs.Prelude.{◌≡◌, ◌↔◌, ◌⊎◌, ℕ, IsTrue, string_bytes};
-ghost use Rattle.command_words.specs.Words.{IsScript, IsMake, IsCommand};
+ghost use Rattle.std.specs.Prelude.{◌≡◌, ◌↔◌, ◌⊎◌, ℕ, List, IsTrue, string_bytes};
+ghost use Rattle.command_words.specs.Words.{IsScript, IsScriptOn, IsMake, IsCommand};
 
+use crate::file::is_file;
 use crate::init::is_init;
 use crate::numbers::number_within;
 use made_script::MOST_ROUNDS;
@@ -12,15 +13,15 @@ fn is_word(word: &String, text: &str) -> bool
     word.as_str() == text
 }
 
-// Whether the words are `script -`, or `make` and a number.
+// Whether the words are `script` and `-` or FILE, or `make` and a number.
 fn is_script_or_make(words: &[String]) -> bool
-    ensures { IsTrue result ↔ (IsScript words.now ⊎ ((number : ℕ) × IsMake number words.now)) }
+    ensures { IsTrue result ↔ (IsScript words.now ⊎ (((name : List ℕ) × IsScriptOn name words.now) ⊎ ((number : ℕ) × IsMake number words.now))) }
 {
     if words.len() != 2 {
         return false;
     }
     if is_word(&words[0], "script") {
-        return is_word(&words[1], "-");
+        return is_word(&words[1], "-") || is_file(words[1].as_str());
     }
     if !is_word(&words[0], "make") {
         return false;

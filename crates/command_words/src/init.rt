@@ -4,19 +4,10 @@ ghost use Rattle.command_words.specs.Words.{IsFile};
 ghost use Rattle.command_words.specs.Init.{ValueAt, HasParts};
 ghost use Rattle.command_words.specs.Parts.{PartAt, NoPartAt};
 
+use crate::file::is_file;
 use crate::limits::{LEAST_LOG_KIB, LEAST_PAGES, MOST_LOG_KIB, MOST_PAGES};
 use crate::numbers::number_within;
 use crate::parts::{Found, Met, Sort};
-
-// Whether a word may be FILE: it is not empty and does not begin with `-`.
-fn is_file(word: &str) -> bool
-    ensures { IsTrue result ↔ IsFile word.now }
-{
-    match word.as_bytes().first() {
-        Some(first) => *first != b'-',
-        None => false,
-    }
-}
 
 // The value of an option of this name with which the words begin, and how many words it is.
 fn value_of<'a>(words: &'a [String], name: &str, joined: &str) -> Option<(&'a str, usize)>

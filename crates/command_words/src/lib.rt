@@ -2,6 +2,7 @@
 #![tactic(auto)]
 
 mod asked;
+mod file;
 mod forms;
 mod init;
 mod limits;

@@ -3,7 +3,7 @@ ghost use Rattle.std.specs.Prelude.{◌≡◌, ℕ, List, Option, IfOk, false, d
 ghost use Rattle.clap.specs.Words.{app_of, found_of, kind_of, rows_of};
 ghost use Rattle.clap.specs.declared.builder.command.Command.TheViews.{out-Command as fields_of};
 ghost use Rattle.command_words.specs.Commands as clap_commands;
-ghost use Rattle.command_words.specs.Commands.{IsFound, IsNumber, HasDatabase};
+ghost use Rattle.command_words.specs.Commands.{IsFound, IsNumber, HasScript, HasDatabase};
 ghost use Rattle.command_words.specs.Words.{IsCommand, AsksFor, HasBounds, Wanted, wanted_of};
 
 use crate::asked::{Asked, NewDatabase};
@@ -59,6 +59,18 @@ fn number_given(word: Option<&str>, least: u32, most: u32, default: u32) -> u32
     }
 }
 
+// What the lines of a script are to run on.
+fn script_found<'a>(given: &ArgMatches<'a>) -> Asked<'a>
+    requires { (wanted : Wanted) × HasScript (rows_of (found_of given.now)) wanted }
+    ensures { (wanted : Wanted) → HasScript (rows_of (found_of given.now)) wanted → wanted_of result ≡ wanted }
+{
+    let file = given.get_str("FILE").unwrap();
+    if file == "-" {
+        return Asked::Script;
+    }
+    Asked::ScriptOn(file)
+}
+
 // The database that `init` is to make.
 fn database_found<'a>(given: &ArgMatches<'a>) -> NewDatabase<'a>
     requires { (name : List ℕ) × (pages : ℕ) × (log_kib : ℕ) × HasDatabase (rows_of (found_of given.now)) name pages log_kib }
@@ -91,7 +103,7 @@ fn found<'a>(matches: &ArgMatches<'a>) -> Asked<'a>
 {
     let (name, given) = matches.subcommand().unwrap();
     if name == "script" {
-        return Asked::Script;
+        return script_found(given);
     }
     if name == "init" {
         return Asked::Init(database_found(given));

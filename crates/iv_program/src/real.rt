@@ -91,10 +91,11 @@ impl<'a, R: Files<File = File>> Outside for RealOutside<'a, R> {
         }
     }
 
-    fn close_disk(&mut self, disk: FileDisk) {
-        if disk.faults() > 0 {
-            let _ = Failed::counted(&mut self.faults);
-        }
+    fn close_disk(&mut self, disk: FileDisk) -> Result<(), Failed> {
         self.lock = None;
+        if disk.faults() > 0 {
+            return Err(Failed::counted(&mut self.faults));
+        }
+        Ok(())
     }
 }

@@ -94,6 +94,7 @@ impl Outside for ListOutside {
     ghost use Rattle.disk_io.specs.Memory.{IsNew};
     ghost use Rattle.disk_io.specs.Counts.{one_up};
     ghost use Rattle.std.specs.Prelude.{IsTrue, Err};
+    ghost use Rattle.iv_types.specs.Faults.{CountsFault};
     ghost use Rattle.outside.specs.declared.unmade.Unmade.TheVariants as Unmade;
     ghost use Rattle.outside.specs.Outside.{CountsUnmade, CountsClosed, OthersStay, ReadsAsBefore};
     ghost use Rattle.outside.specs.ListOutside.{lies_of, open_of, faults_of, room_of, disk_failing_of, calls_of, fails_next, FailsWhere, KeepsSettings};
@@ -169,21 +170,24 @@ impl Outside for ListOutside {
         Ok(disk)
     }
 
-    fn close_disk(&mut self, disk: ListDisk)
+    fn close_disk(&mut self, disk: ListDisk) -> Result<(), Failed>
         ensures closed { Unit {0} → (name : List ℕ) → open_of self.old ≡ Some name → lies_of self.new name ≡ Some disk }
         ensures opened_as { Unit {0} → open_of self.new ≡ None }
         ensures others { Unit {0} → (name : List ℕ) → open_of self.old ≡ Some name → OthersStay name (lies_of self.old) (lies_of self.new) }
         ensures lie { Unit {0} → open_of self.old ≡ None → (name : List ℕ) → lies_of self.new name ≡ lies_of self.old name }
         ensures cause { CountsClosed (faults_since disk) (faults_of self.old) (faults_of self.new) }
+        ensures told { CountsFault result (faults_of self.old) (faults_of self.new) }
         ensures calls { calls_of self.new ≡ calls_of self.old }
         ensures settings { KeepsSettings self.old self.new }
     {
-        if disk.faults() > 0 {
-            let _ = Failed::counted(&mut self.faults);
-        }
+        let faults = disk.faults();
         match self.opened.take() {
             Some(name) => self.closed.insert(0, ClosedDisk { name, disk }).unwrap(),
             None => let_go(disk),
         }
+        if faults > 0 {
+            return Err(Failed::counted(&mut self.faults));
+        }
+        Ok(())
     }
 }

@@ -1,9 +1,11 @@
 //! The outside, as a program sees it: disks that are opened and made by name.
 ghost use Rattle.std.specs.Prelude.{◌≡◌, ◌<◌, ◌^◌, ℕ, List, Option, Some, None, IfOk, OnOk, OnErr, replicate};
+ghost use Rattle.iv_types.specs.Faults.{CountsFault};
 ghost use Rattle.outside.specs.Outside.{CountsUnmade, CountsClosed, OthersStay, ReadsAsBefore};
 
 use crate::unmade::Unmade;
 use disk_io::Disk;
+use iv_types::Failed;
 use std::alloc::Global;
 
 /// What a program meets outside itself. Of its disks it tells by name which one lies where, or leaves it untold, by its type.
@@ -58,12 +60,17 @@ pub trait Outside {
 
     /// Closes a disk, which then lies under the name that was opened or made last; where there is none, each name is as before. The
     /// count of faults rises exactly where the disk's count is above 0.
-    fn close_disk(&mut self, disk: Self::Disk)
+    ///
+    /// # Errors
+    ///
+    /// `Failed` exactly where the disk's count of faults is above 0: a call of it has failed since it was opened or made.
+    fn close_disk(&mut self, disk: Self::Disk) -> Result<(), Failed>
         ensures closed { is_told → (name : List ℕ) → opened_as self.old ≡ Some name → lies self.new name ≡ Some disk }
         ensures opened_as { is_told → opened_as self.new ≡ None }
         ensures others { is_told → (name : List ℕ) → opened_as self.old ≡ Some name → OthersStay name (lies self.old) (lies self.new) }
         ensures lie { is_told → opened_as self.old ≡ None → (name : List ℕ) → lies self.new name ≡ lies self.old name }
-        ensures cause { CountsClosed (Self.Disk.faults disk) (faults self.old) (faults self.new) };
+        ensures cause { CountsClosed (Self.Disk.faults disk) (faults self.old) (faults self.new) }
+        ensures told { CountsFault result (faults self.old) (faults self.new) };
 
     /// The count of faults is a `u64`, so it never falls.
     ghost counts_in: { (outside : Self) → faults outside < 2 ^ 64 };

@@ -1,7 +1,7 @@
 -- Words ask for one thing alone.
 use Rattle.std.proofs.Common.{◌≡◌, ℕ, List, [], ap, arith, subst}
 use Rattle.std.specs.Prelude.{String}
-use Rattle.command_words.specs.Words.{Wanted, a_script, rounds, database, wanted_of, AsksFor, HasBounds, IsScript, IsMake, IsInit}
+use Rattle.command_words.specs.Words.{Wanted, a_script, a_script_on, rounds, database, wanted_of, AsksFor, HasBounds, IsScript, IsScriptOn, IsMake, IsInit}
 use Rattle.command_words.specs.declared.asked.Asked.{Asked}
 use Rattle.command_words.specs.declared.asked.Asked.TheVariants as asked
 use Rattle.command_words.specs.declared.asked.NewDatabase.{NewDatabase}
@@ -9,26 +9,31 @@ use Rattle.recovery.specs.Formatted.{IsGeometry}
 
 number_in : Wanted → ℕ
 number_in a_script = 0
+number_in (a_script_on name) = 0
 number_in (rounds n) = n
 number_in (database name p l) = 0
 
 name_in : Wanted → List ℕ
 name_in a_script = []
+name_in (a_script_on name) = name
 name_in (rounds n) = []
 name_in (database name p l) = name
 
 pages_of : Wanted → ℕ
 pages_of a_script = 0
+pages_of (a_script_on name) = 0
 pages_of (rounds n) = 0
 pages_of (database name p l) = p
 
 log_of : Wanted → ℕ
 log_of a_script = 0
+log_of (a_script_on name) = 0
 log_of (rounds n) = 0
 log_of (database name p l) = l
 
 kind_of_wanted : Wanted → ℕ
 kind_of_wanted a_script = 0
+kind_of_wanted (a_script_on name) = 3
 kind_of_wanted (rounds n) = 1
 kind_of_wanted (database name p l) = 2
 
@@ -54,6 +59,34 @@ module _ {A : Type 0} {words : List (String A)} where
   pub script_not_init : (n : List ℕ) (p l : ℕ) → Only a_script words → IsInit n p l words → ⊥
   unfolding kind_of_wanted
   script_not_init n p l only init = let e : 0 ≡ 2 = ap kind_of_wanted (only (database n p l) init) in absurd (omega (arith, e))
+
+  pub script_not_on : (n : List ℕ) → Only a_script words → IsScriptOn n words → ⊥
+  unfolding kind_of_wanted
+  script_not_on n only on = let e : 0 ≡ 3 = ap kind_of_wanted (only (a_script_on n) on) in absurd (omega (arith, e))
+
+  pub one_file : (m n : List ℕ) → Only (a_script_on m) words → IsScriptOn n words → m ≡ n
+  unfolding name_in
+  one_file m n only on = ap name_in (only (a_script_on n) on)
+
+  pub on_not_script : (m : List ℕ) → Only (a_script_on m) words → IsScript words → ⊥
+  unfolding kind_of_wanted
+  on_not_script m only script = let e : 3 ≡ 0 = ap kind_of_wanted (only a_script script) in absurd (omega (arith, e))
+
+  pub on_not_make : (m : List ℕ) (b : ℕ) → Only (a_script_on m) words → IsMake b words → ⊥
+  unfolding kind_of_wanted
+  on_not_make m b only make = let e : 3 ≡ 1 = ap kind_of_wanted (only (rounds b) make) in absurd (omega (arith, e))
+
+  pub on_not_init : (m n : List ℕ) (p l : ℕ) → Only (a_script_on m) words → IsInit n p l words → ⊥
+  unfolding kind_of_wanted
+  on_not_init m n p l only init = let e : 3 ≡ 2 = ap kind_of_wanted (only (database n p l) init) in absurd (omega (arith, e))
+
+  pub make_not_on : (a : ℕ) (n : List ℕ) → Only (rounds a) words → IsScriptOn n words → ⊥
+  unfolding kind_of_wanted
+  make_not_on a n only on = let e : 1 ≡ 3 = ap kind_of_wanted (only (a_script_on n) on) in absurd (omega (arith, e))
+
+  pub init_not_on : (m n : List ℕ) (q k : ℕ) → Only (database m q k) words → IsScriptOn n words → ⊥
+  unfolding kind_of_wanted
+  init_not_on m n q k only on = let e : 2 ≡ 3 = ap kind_of_wanted (only (a_script_on n) on) in absurd (omega (arith, e))
 
   pub make_not_script : (a : ℕ) → Only (rounds a) words → IsScript words → ⊥
   unfolding kind_of_wanted

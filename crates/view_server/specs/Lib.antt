@@ -1,2 +1,3 @@
 pub mod Init
+pub mod OnDisk
 pub mod Usage

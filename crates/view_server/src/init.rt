@@ -38,7 +38,7 @@ fn make_database<O: Outside>(
         Ok(disk) => {
             let mut disk = disk;
             let formatted = format_disk(alloc, &mut disk, pages, log_kib);
-            outside.close_disk(disk);
+            let _ = outside.close_disk(disk);
             formatted
         }
         Err(Unmade::Failed) => Err(FormatFault::DiskFault),

@@ -8,13 +8,15 @@ ghost use Rattle.engine_core.specs.Standing.{IsInMemory};
 ghost use Rattle.iv_meaning.specs.Database.{created};
 ghost use Rattle.script_run.specs.Run.{Output, Taken, SourceFaults, SinkFaults};
 ghost use Rattle.script_run.specs.Summary.{Made, EndsMade};
-ghost use Rattle.command_words.specs.Words.{IsScript, IsMake, IsInit, IsCommand};
+ghost use Rattle.command_words.specs.Words.{IsScript, IsScriptOn, IsMake, IsInit, IsCommand};
 ghost use Rattle.outside.specs.Outside.{OthersStay};
 ghost use Rattle.view_server.specs.declared.script.TheConstants.{DATA_LIMIT};
 ghost use Rattle.view_server.specs.Init.{DiskFaults, EndsInit, HasBlank, IsMade, ToldInit};
+ghost use Rattle.view_server.specs.OnDisk.{FaultsOnDisk, IsThere, RanOn};
 ghost use Rattle.view_server.specs.Usage.{ToldUsage};
 
 use crate::init::init;
+use crate::on_disk::script_on_disk;
 use command_words::{Asked, DEFAULT_PAGES, is_command, read_words};
 use core_journal::NoJournal;
 use engine_core::Core;
@@ -117,10 +119,11 @@ fn make<K: Sink>(alloc: Global, sink: &mut K, number: u32) -> Status
 }
 
 /// Does what the program's words, without its name, ask for. For `script -` the lines of the source are run as a script, and the
-/// replies go to the sink; they wait until the source is to be asked for more, or until they fill a buffer. For `make NUMBER`
+/// replies go to the sink; they wait until the source is to be asked for more, or until they fill a buffer. For `script FILE` they are run
+/// on the database of the disk FILE of the outside, or the sink is told why it has none. For `make NUMBER`
 /// the made script of so many rounds is run, and its summary goes to the sink. For `init FILE` a new database is made on the disk
 /// FILE of the outside, and its sizes go to the sink. Nothing is taken from the source but for a script, and nothing is asked of
-/// the outside but for `init`.
+/// the outside but for `init` and `script FILE`.
 #[tactic(auto, using(crate::proofs::Naming::geometry_of))]
 pub fn run<O: Outside, S: Source, K: Sink>(
     alloc: Global,
@@ -138,6 +141,12 @@ pub fn run<O: Outside, S: Source, K: Sink>(
     ensures output { IsScript words.now → (input before : List ℕ) → S.left source.old ≡ Some input → K.written sink.old ≡ Some before → Output created result input before (S.left source.new) (K.written sink.new) }
     ensures taken { IsScript words.now → (input : List ℕ) → S.left source.old ≡ Some input → Taken result input (S.left source.new) }
 
+    // A script on a disk: the database is what the image on the disk of that name recovers to, where the outside tells its disks, and the
+    // output is that of the input on it; or the image is refused, for what is told.
+    ensures on_disk { (file : List ℕ) → IsScriptOn file words.now → (input before : List ℕ) → S.left source.old ≡ Some input → K.written sink.old ≡ Some before → RanOn (IsThere O.is_told O.Disk.is_told O.Disk.seen (O.lies outside.old file)) result input before (S.left source.new) (K.written sink.new) }
+    ensures disk_kept { O.is_told → (file : List ℕ) → IsScriptOn file words.now → OthersStay file (O.lies outside.old) (O.lies outside.new) }
+    ensures on_disk_faults { (file : List ℕ) → IsScriptOn file words.now → FaultsOnDisk result (O.faults outside.old) (O.faults outside.new) }
+
     // A made script: what is written is the summary of a run of its lines, on a database that is empty at first.
     ensures made { (number : ℕ) → IsMake number words.now → (before : List ℕ) → K.written sink.old ≡ Some before → Made created result number before (K.written sink.new) }
     ensures made_status { (number : ℕ) → IsMake number words.now → EndsMade result }
@@ -149,12 +158,12 @@ pub fn run<O: Outside, S: Source, K: Sink>(
     ensures blank { O.is_told → O.Disk.is_told → (file : List ℕ) (pages log_kib : ℕ) → IsInit file pages log_kib words.now → IsMade result → HasBlank O.Disk.seen O.Disk.may_leave (O.lies outside.new file) pages log_kib }
     ensures other_disks { O.is_told → (file : List ℕ) (pages log_kib : ℕ) → IsInit file pages log_kib words.now → OthersStay file (O.lies outside.old) (O.lies outside.new) }
 
-    // Only a script takes from the source, and only `init` asks for a disk.
-    ensures untouched { (IsScript words.now → ⊥) → source.new ≡ source.old }
-    ensures no_disks { ((file : List ℕ) (pages log_kib : ℕ) → IsInit file pages log_kib words.now → ⊥) → outside.new ≡ outside.old }
+    // Only scripts take from the source, and only `init` and a script on a disk ask for a disk.
+    ensures untouched { (IsScript words.now → ⊥) → ((file : List ℕ) → IsScriptOn file words.now → ⊥) → source.new ≡ source.old }
+    ensures no_disks { ((file : List ℕ) (pages log_kib : ℕ) → IsInit file pages log_kib words.now → ⊥) → ((file : List ℕ) → IsScriptOn file words.now → ⊥) → outside.new ≡ outside.old }
 
     // A fault is told only where there was one.
-    ensures disk_faults { DiskFaults result (O.faults outside.old) (O.faults outside.new) }
+    ensures disk_faults { ((file : List ℕ) → IsScriptOn file words.now → ⊥) → DiskFaults result (O.faults outside.old) (O.faults outside.new) }
     ensures source_faults { SourceFaults result (S.faults source.old) (S.faults source.new) }
     ensures sink_faults { SinkFaults result (K.faults sink.old) (K.faults sink.new) }
 {
@@ -164,6 +173,7 @@ pub fn run<O: Outside, S: Source, K: Sink>(
     }
     match read_words(alloc, words) {
         Ok(Asked::Script) => run_script(alloc, source, sink),
+        Ok(Asked::ScriptOn(file)) => script_on_disk(alloc, outside, source, sink, file),
         Ok(Asked::Make(number)) => make(alloc, sink, number),
         Ok(Asked::Init(database)) => init(alloc, outside, sink, &database),
         Err(NoMemory) => Status::NoMemory,

@@ -11,10 +11,17 @@ pub unwrap-requires : goal.unwrap-requires
 unwrap-requires c =
     is_value (λ p. p.0.now) c.subcommand.result _ (c.subcommand.ensures.name ∙ met_something c.args.matches.now c.requires.0 c.requires.1)
 
+pub script_found-requires : goal.script_found-requires
+script_found-requires c =
+    let named = ap (option_map (λ p. p.0.now)) (sym c.unwrap.ensures) ∙ c.subcommand.ensures.name in
+    let rows = ap (option_map (λ p. rows_of (found_of p.1.now))) (sym c.unwrap.ensures) ∙ c.subcommand.ensures.rows in
+    (c.requires.0, is_script c.args.matches.now c.requires.0 _ _ c.requires.1 (named_for c.args.matches.now c.requires.0 _ c.requires.1 named) rows (sym c.eq.ensures ∙ c.if-eq.true))
+
 pub returns-then-eq : goal.returns-then-eq
 returns-then-eq c = λ wanted f.
     let named = ap (option_map (λ p. p.0.now)) (sym c.unwrap.ensures) ∙ c.subcommand.ensures.name in
-    is_script wanted _ (named_for c.args.matches.now wanted _ f named) (sym c.eq.ensures ∙ c.if-eq.true)
+    let rows = ap (option_map (λ p. rows_of (found_of p.1.now))) (sym c.unwrap.ensures) ∙ c.subcommand.ensures.rows in
+    c.script_found.ensures wanted (is_script c.args.matches.now wanted _ _ f (named_for c.args.matches.now wanted _ f named) rows (sym c.eq.ensures ∙ c.if-eq.true))
 
 pub database_found-requires : goal.database_found-requires
 database_found-requires c =

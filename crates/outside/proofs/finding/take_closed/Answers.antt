@@ -1,8 +1,8 @@
-use Rattle.std.proofs.Common.{◌≡◌, ◌∙◌, ◌+◌, ◌≤◌, ℕ, ap, subst, sym, rules, arith, true, false, List}
+use Rattle.std.proofs.Common.{◌≡◌, ◌∙◌, ◌≤◌, ap, subst, sym, rules, true, false, List}
 use Rattle.std.specs.Prelude.{string_bytes}
 use Rattle.std.specs.Cmp.Lexicographic.{bytes_decides}
 use Rattle.outside.specs.declared.closed.ClosedDisk.{ClosedDisk}
-use Rattle.outside.specs.Closed.{is_named, lies_in, one_if, times_in}
+use Rattle.outside.specs.Closed.{is_named, lies_in, times_in}
 use Rattle.outside.proofs.Closings.{test_fails, without_other, none_times, without_fewer, without_only}
 use Rattle.outside.proofs.finding.take_closed.Goals as goal
 

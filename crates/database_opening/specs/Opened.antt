@@ -1,0 +1,78 @@
+-- No clause of `run` rests on this module: it serves contracts between crates.
+--
+-- A core on a disk, as it is opened.
+use Rattle.std.specs.Prelude.{◌≡◌, ℕ, ◌+◌, ◌≤◌, List, Some, Result, MatchResult}
+use Rattle.txn_machine.specs.Laws.{IsOpened}
+use Rattle.txn_machine.specs.Log.{Opening, block_bytes}
+use Rattle.txn_machine.specs.State.{State, opened_state}
+use Rattle.txn_machine.specs.Store.{opened}
+use Rattle.txn_log.specs.Replay.{Pages, Reading, recovered}
+use Rattle.txn_log.specs.Refused.{PlacedImage, ReversesAs, IsFine}
+use Rattle.log_disk.specs.Placed.{data_limit}
+use Rattle.ordered_index.specs.Tree.{Tree, map_of, spare_of, limit_of}
+use Rattle.core_journal.specs.Records.{Records}
+use Rattle.log_journal.specs.Standing.{Has, area_limit, disk_of}
+use Rattle.log_journal.specs.declared.journal.LogJournal.{LogJournal}
+use Rattle.data_store.specs.declared.store.DataStore.{DataStore}
+use Rattle.core_opening.specs.Opening.{CanOpen}
+use Rattle.engine_core.specs.Standing.{IsIn}
+use Rattle.engine_core.specs.declared.engine.Core.{Core}
+use Rattle.image_finding.specs.declared.header.LiveHeader.{LiveHeader}
+use Rattle.record_replay.specs.Standing.{Has as HasPages}
+use Rattle.image_pages.specs.Pages.{no_limit}
+use Rattle.image_opening.specs.Faults.{counted_by}
+use Rattle.image_opening.specs.Images.{IsImageIn}
+use Rattle.image_opening.specs.declared.read.Recovered.{Recovered}
+use Rattle.table_store.specs.Lists.{map_at}
+use Rattle.database_opening.specs.declared.refused.OpenRefused.{OpenRefused}
+
+-- its maps are pages, and its journal is on a disk
+abbrev pub DiskCore : Type 0 → Type 0
+DiskCore D = Core Tree (LogJournal D)
+
+-- ---- what is opened
+
+-- what was read has these pages, with their commit number
+pub record IsOf (r : Recovered) (p : Pages) : Type 0 where
+  pub has : HasPages map_at no_limit r.replay.store p
+  pub commits : r.replay.commits ≡ p.db.number
+
+-- an opening of a database with these texts of its definitions: the sizes of its log and of its data are those of the header, the next
+-- record has this number, and the disk has failed so often
+abbrev pub opening_of : LiveHeader → List (List ℕ) → ℕ → ℕ → Opening
+opening_of h texts next faults = record { log_limit = Some h.area_bytes; data_limit = Some (data_limit h.pages); definitions = texts; next = next; faults = faults }
+
+-- a core can be opened on a store that has these pages
+pub record CanBegin (store : DataStore Tree) (h : LiveHeader) (commits next : ℕ) (p : Pages) : Type 0 where
+  pub texts : List (List ℕ)
+  pub opens : (faults : ℕ) → CanOpen map_of limit_of store (Some h.area_bytes) (data_limit h.pages) commits next (opening_of h texts next faults) p.db p.view
+
+-- ---- a core that was opened
+
+module _ {D : Type 0} (is_told : Type 0) (size_of : D → ℕ) (seen : D → List ℕ) (may_leave : D → List ℕ → Type 0) (faults : D → ℕ) where
+  -- a journal that has saved the checkpoint of the opening, and has no record beside it
+  pub record HasBegun (journal : LogJournal D) (h : LiveHeader) : Type 0 where
+    pub records : Records
+    pub has : Has is_told size_of seen may_leave journal records
+    pub used : records.used ≡ block_bytes + 1
+    pub saves : records.saves ≤ 1
+    pub image_limit : records.image_limit ≡ Some (data_limit h.pages)
+    pub limit : area_limit journal ≡ Some h.area_bytes
+
+  -- the states in which it is
+  abbrev pub IsOnDisk : DiskCore D → State → Type 0
+  IsOnDisk core s = IsIn map_of spare_of limit_of (Has is_told size_of seen may_leave) area_limit (λ journal. faults (disk_of journal)) core s
+
+  -- it stands where steps begin, on these pages
+  pub record IsOpenOn (core : DiskCore D) (p : Pages) : Type 0 where
+    pub opening : Opening
+    pub was_opened : IsOpened p.db p.view
+    pub stands : IsOnDisk core (opened_state opening (opened p.db p.view))
+
+  -- the image that stands in these bytes is refused for nothing, and the core stands on what it recovers to
+  abbrev pub OpensAs : List ℕ → DiskCore D → Type 0
+  OpensAs c core = (i : PlacedImage) → IsImageIn c i → IsFine i × ((r : Reading) × ReversesAs i r × IsOpenOn core (recovered r))
+
+-- the disk's count of faults rose exactly with a fault of the disk
+abbrev pub OpenCounts : {D : Type 0} → (D → ℕ) → ℕ → Result (DiskCore D) (OpenRefused D) → Type 0
+OpenCounts faults before result = MatchResult result (λ core. faults (disk_of core.journal) ≡ before) (λ refused. counted_by refused.fault before (faults refused.disk))

@@ -1,0 +1,107 @@
+-- A script on the database of a disk.
+use Rattle.std.proofs.Common.{◌≡◌, ◌≢◌, ◌⊎◌, inl, inr, ℕ, ◌+◌, ◌<◌, ◌≤◌, ◌^◌, List, Some, Ok, Err, refl, sym, ap, subst, ◌∙◌, arith}
+use Rattle.std.specs.Prelude.{Option, Result, min}
+use Rattle.iv_types.specs.Faults.{Rose, CountsFault}
+use Rattle.iv_types.specs.declared.fault.Failed.{Failed}
+use Rattle.outside.specs.Outside.{CountsClosed, ReadsAsBefore}
+use Rattle.txn_log.specs.Replay.{Pages, recovered}
+use Rattle.image_opening.specs.Faults.{counted_by}
+use Rattle.image_opening.specs.Telling.{Refuses}
+use Rattle.image_opening.specs.declared.fault.OpenFault.{OpenFault}
+use Rattle.image_opening.specs.declared.fault.OpenFault.TheVariants as why
+use Rattle.database_opening.specs.Opened.{DiskCore, IsOpenOn, OpensAs}
+use Rattle.script_run.specs.Lines.{WasOpened}
+use Rattle.script_run.specs.Run.{Output, Taken, SourceFaults, SinkFaults}
+use Rattle.script_run.specs.declared.status.Status.{Status}
+use Rattle.script_run.specs.declared.status.Status.TheVariants.{Done, Usage, ReadFault, WriteFault, DiskFault, BadImage, NoMemory, TooMuch}
+use Rattle.view_server.specs.OnDisk.{EndsWith, EndsSo, FaultsOnDisk, IsOfLines, IsThere, IsToldOf, RanOn, lines, refused, nothing, TellsBad}
+
+-- ---- a core that was opened
+
+module _ {D : Type 0} (is_told : Type 0) (size_of : D → ℕ) (seen : D → List ℕ) (may_leave : D → List ℕ → Type 0) (faults : D → ℕ) (core : DiskCore D) where
+  pub was_opened : (p : Pages) → IsOpenOn is_told size_of seen may_leave faults core p → WasOpened (Rattle.database_opening.specs.Opened.IsOnDisk is_told size_of seen may_leave faults core)
+  was_opened p h = record { db = p.db; stored = p.view; opening = h.opening; is_opened = h.was_opened; stands = h.stands }
+
+  -- the output of its lines is that on the database which is there
+  pub ran_lines : (There : List ℕ → Type 0) → ((c : List ℕ) → There c → OpensAs is_told size_of seen may_leave faults c core) → (p : Pages) → IsOpenOn is_told size_of seen may_leave faults core p
+      → (of status : Status) → EndsWith of status → (input before : List ℕ) (left written : Option (List ℕ)) → Taken of input left
+      → ((q : Pages) → IsOpenOn is_told size_of seen may_leave faults core q → Output q.db of input before left written) → RanOn There status input before left written
+  ran_lines There opens p here of status ends input before left written taken out =
+      lines of ends taken p.db (out p here) (λ c there i im. let o = opens c there i im in (o.0, o.1, o.2, out (recovered o.1) o.3))
+
+-- ---- what was told
+
+pub ran_told : (There : List ℕ → Type 0) (fault : OpenFault) → ((c : List ℕ) → There c → Refuses c fault) → (status : Status) (input before : List ℕ) (left written : Option (List ℕ)) → left ≡ Some input
+    → IsToldOf fault status before written → RanOn There status input before left written
+ran_told There fault refuses status input before left written none (inl told) = refused fault refuses told.0 told.1 none told.2
+ran_told There fault refuses status input before left written none (inr bare) = nothing bare.0 none bare.1
+
+-- of fewer bytes
+pub ran_more : (There Other : List ℕ → Type 0) → ((c : List ℕ) → Other c → There c) → (status : Status) (input before : List ℕ) (left written : Option (List ℕ)) → RanOn There status input before left written → RanOn Other status input before left written
+ran_more There Other fewer status input before left written (lines of ends taken db out there) = lines of ends taken db out (λ c is. there c (fewer c is))
+ran_more There Other fewer status input before left written (refused fault refuses line told none bad) = refused fault (λ c is. refuses c (fewer c is)) line told none bad
+ran_more There Other fewer status input before left written (nothing bare none same) = nothing bare none same
+
+-- the disk that lay there reads as the one that was opened
+pub reads_so : {D : Type 0} (outside_tells disk_tells : Type 0) (size : D → ℕ) (seen : D → List ℕ) (may_leave : D → List ℕ → Type 0) (lay : Option D) (disk : D) → (outside_tells → ReadsAsBefore size seen may_leave lay disk)
+    → (c : List ℕ) → IsThere outside_tells disk_tells seen lay c → disk_tells × (seen disk ≡ c)
+reads_so outside_tells disk_tells size seen may_leave lay disk opened c is =
+    let before = opened is.told in
+    let same : before.closed ≡ is.disk = some_same before.closed is.disk (sym before.there ∙ is.there) in
+    (is.tells, before.reads ∙ (ap seen same ∙ is.reads))
+  where
+    some_same : {A : Type 0} (x y : A) → Some x ≡ Some y → x ≡ y
+    some_same x y e = cc
+
+-- ---- statuses
+
+pub ends_with : (of : Status) (closed : Result (Unit {0}) Failed) (status : Status) → EndsSo of closed status → EndsWith of status
+ends_with of (Ok u) status h = inl h
+ends_with of (Err failed) status (inl h) = inr h
+ends_with of (Err failed) status (inr h) = inl h.1
+
+pub source_so : (of status : Status) → EndsWith of status → (before now : ℕ) → SourceFaults of before now → SourceFaults status before now
+source_so of status (inl same) before now h = subst (λ s. SourceFaults s before now) (sym same) h
+source_so of status (inr both) before now h = subst (λ s. SourceFaults s before now) (sym both.1) (subst (λ s. SourceFaults s before now) both.0 h)
+
+pub sink_so : (of status : Status) → EndsWith of status → (before now : ℕ) → SinkFaults of before now → SinkFaults status before now
+sink_so of status (inl same) before now h = subst (λ s. SinkFaults s before now) (sym same) h
+sink_so of status (inr both) before now h = subst (λ s. SinkFaults s before now) (sym both.1) (subst (λ s. SinkFaults s before now) both.0 h)
+
+sound_so : (of : Status) → IsOfLines of → (before now : ℕ) → now ≡ before → FaultsOnDisk of before now
+sound_so Done is before now same = same
+sound_so Usage is before now same = inl same
+sound_so ReadFault is before now same = inl same
+sound_so WriteFault is before now same = inl same
+sound_so DiskFault is before now same = absurd (is.disks refl)
+sound_so BadImage is before now same = absurd (is.images refl)
+sound_so NoMemory is before now same = inl same
+sound_so TooMuch is before now same = inl same
+
+rose_so : (of : Status) → IsOfLines of → (of ≡ Done → ⊥) → (before now : ℕ) → Rose before now → FaultsOnDisk of before now
+rose_so Done is other before now rose = absurd (other refl)
+rose_so Usage is other before now rose = inr rose
+rose_so ReadFault is other before now rose = inr rose
+rose_so WriteFault is other before now rose = inr rose
+rose_so DiskFault is other before now rose = rose
+rose_so BadImage is other before now rose = absurd (is.images refl)
+rose_so NoMemory is other before now rose = inr rose
+rose_so TooMuch is other before now rose = inr rose
+
+-- the outside's count rose just where a fault is told, or another cause
+pub faults_so : (of : Status) → IsOfLines of → (closed : Result (Unit {0}) Failed) (status : Status) → EndsSo of closed status → (before now : ℕ) → CountsFault closed before now → FaultsOnDisk status before now
+faults_so of is (Ok u) status same before now h = subst (λ s. FaultsOnDisk s before now) (sym same) (sound_so of is before now h)
+faults_so of is (Err failed) status (inl both) before now h = subst (λ s. FaultsOnDisk s before now) (sym both.1) h
+faults_so of is (Err failed) status (inr both) before now h = subst (λ s. FaultsOnDisk s before now) (sym both.1) (rose_so of is both.0 before now h)
+
+-- and so where an image was refused
+pub told_faults : (status : Status) → TellsBad status → (before now : ℕ) → now ≡ before → FaultsOnDisk status before now
+told_faults status (inl bad) before now same = subst (λ s. FaultsOnDisk s before now) (sym bad) same
+told_faults status (inr (inl write)) before now same = subst (λ s. FaultsOnDisk s before now) (sym write) (inl same)
+told_faults status (inr (inr none)) before now same = subst (λ s. FaultsOnDisk s before now) (sym none) (inl same)
+
+pub closed_sound : (count before now : ℕ) → count ≡ 0 → CountsClosed count before now → now ≡ before
+closed_sound count before now none closed = closed.sound none
+
+pub closed_rose : (count before now : ℕ) → Rose 0 count → CountsClosed count before now → Rose before now
+closed_rose count before now rose closed = closed.failed (let least : min (0 + 1) (2 ^ 64 - 1) ≤ count = rose in omega (arith, least))
