@@ -4,18 +4,18 @@
 use Rattle.std.specs.Prelude.{◌≡◌, ℕ, ◌+◌, ◌≤◌, List, Some, Result, MatchResult}
 use Rattle.txn_machine.specs.Laws.{IsOpened}
 use Rattle.txn_machine.specs.Log.{Opening, block_bytes}
-use Rattle.txn_machine.specs.State.{State, opened_state}
+use Rattle.txn_machine.specs.State.{opened_state}
 use Rattle.txn_machine.specs.Store.{opened}
 use Rattle.txn_log.specs.Replay.{Pages, Reading, recovered}
 use Rattle.txn_log.specs.Refused.{PlacedImage, ReversesAs, IsFine}
 use Rattle.log_disk.specs.Placed.{data_limit}
-use Rattle.ordered_index.specs.Tree.{Tree, map_of, spare_of, limit_of}
+use Rattle.ordered_index.specs.Tree.{Tree, map_of, limit_of}
 use Rattle.core_journal.specs.Records.{Records}
 use Rattle.log_journal.specs.Standing.{Has, area_limit, disk_of}
 use Rattle.log_journal.specs.declared.journal.LogJournal.{LogJournal}
 use Rattle.data_store.specs.declared.store.DataStore.{DataStore}
 use Rattle.core_opening.specs.Opening.{CanOpen}
-use Rattle.engine_core.specs.Standing.{IsIn}
+use Rattle.engine_core.specs.Standing.{IsOnDisk}
 use Rattle.engine_core.specs.declared.engine.Core.{Core}
 use Rattle.image_finding.specs.declared.header.LiveHeader.{LiveHeader}
 use Rattle.record_replay.specs.Standing.{Has as HasPages}
@@ -59,15 +59,11 @@ module _ {D : Type 0} (is_told : Type 0) (size_of : D → ℕ) (seen : D → Lis
     pub image_limit : records.image_limit ≡ Some (data_limit h.pages)
     pub limit : area_limit journal ≡ Some h.area_bytes
 
-  -- the states in which it is
-  abbrev pub IsOnDisk : DiskCore D → State → Type 0
-  IsOnDisk core s = IsIn map_of spare_of limit_of (Has is_told size_of seen may_leave) area_limit (λ journal. faults (disk_of journal)) core s
-
   -- it stands where steps begin, on these pages
   pub record IsOpenOn (core : DiskCore D) (p : Pages) : Type 0 where
     pub opening : Opening
     pub was_opened : IsOpened p.db p.view
-    pub stands : IsOnDisk core (opened_state opening (opened p.db p.view))
+    pub stands : IsOnDisk is_told size_of seen may_leave faults core (opened_state opening (opened p.db p.view))
 
   -- the image that stands in these bytes is refused for nothing, and the core stands on what it recovers to
   abbrev pub OpensAs : List ℕ → DiskCore D → Type 0

@@ -1,5 +1,5 @@
 -- What is told of a step, and how many steps an open transaction keeps.
-use Rattle.std.specs.Prelude.{◌≡◌, ℕ, ◌+◌, ◌==◌, ◌≤◌, Bool, true, false, length, Option, None, Some, refl, if◌then◌else◌}
+use Rattle.std.specs.Prelude.{◌≡◌, ℕ, ◌+◌, ◌==◌, ◌≤◌, Bool, true, false, List, length, Option, None, Some, refl, if◌then◌else◌}
 use Rattle.std.specs.Option.{option_map}
 use mathlib.Core.Path.{sym, ap, ◌∙◌}
 use mathlib.Core.Logic.{inl, inr}
@@ -20,12 +20,17 @@ use Rattle.txn_book.specs.Txns.{txn_of}
 use Rattle.txn_book.specs.declared.open_table.Open.{Open as BookOpen}
 use Rattle.txn_book.specs.declared.step.Step as asked
 use Rattle.txn_book.specs.declared.step.Answer as told
+use Rattle.ordered_index.specs.Tree.{Tree, map_of, spare_of, limit_of}
+use Rattle.core_journal.specs.NoJournal as no_journal
 use Rattle.core_journal.specs.Records.{Records, records_after}
+use Rattle.core_journal.specs.declared.none.NoJournal.{NoJournal}
+use Rattle.log_journal.specs.Standing.{Has, area_limit, disk_of}
+use Rattle.log_journal.specs.declared.journal.LogJournal.{LogJournal}
 use Rattle.core_recording.specs.Giving.{IsSaved, IsBehind}
 use Rattle.core_state.specs.Stands.{Stands}
 use Rattle.core_effects.proofs.Counted.{many_same}
 use Rattle.engine_core.specs.Acting.{Recorded}
-use Rattle.engine_core.specs.Standing.{IsIn}
+use Rattle.engine_core.specs.Standing.{IsIn, IsInMemory, IsOnDisk}
 use Rattle.engine_core.specs.declared.engine.Core.{Core}
 use Rattle.engine_core.proofs.Recording.{gives_some, opening_stays, stays_stopped}
 
@@ -82,6 +87,15 @@ module _ {M J : Type 0} (maps : M → ℕ → Map) (spare : M → ℕ → ℕ) (
   pub may_be_done : (core : Core M J) (step : asked.Step) → IsAskable (IsIn maps spare limit has area faults core) step
       → (s : State) × (rs : Records) × Stands maps spare limit core.state s × (s.stop ≡ None → IsBehind maps spare limit has area core.state core.journal s.log rs) × IsAsked s step × (rs.saves ≤ s.steps + 1)
   may_be_done core step q = (q.state, q.stands.records, q.stands.stands, q.stands.behind, q.asked, q.stands.few)
+
+-- of a core without a disk, and of one on a disk
+pub done_in_memory : (core : Core Tree NoJournal) (step : asked.Step) → IsAskable (IsInMemory core) step
+    → (s : State) × (rs : Records) × Stands map_of spare_of limit_of core.state s × (s.stop ≡ None → IsBehind map_of spare_of limit_of no_journal.has_any no_journal.limit_of core.state core.journal s.log rs) × IsAsked s step × (rs.saves ≤ s.steps + 1)
+done_in_memory = may_be_done map_of spare_of limit_of no_journal.has_any no_journal.limit_of (λ journal. 0)
+
+pub done_on_disk : {D : Type 0} (is_told : Type 0) (size_of : D → ℕ) (seen : D → List ℕ) (may_leave : D → List ℕ → Type 0) (faults : D → ℕ) (core : Core Tree (LogJournal D)) (step : asked.Step) → IsAskable (IsOnDisk is_told size_of seen may_leave faults core) step
+    → (s : State) × (rs : Records) × Stands map_of spare_of limit_of core.state s × (s.stop ≡ None → IsBehind map_of spare_of limit_of (Has is_told size_of seen may_leave) area_limit core.state core.journal s.log rs) × IsAsked s step × (rs.saves ≤ s.steps + 1)
+done_on_disk is_told size_of seen may_leave faults = may_be_done map_of spare_of limit_of (Has is_told size_of seen may_leave) area_limit (λ journal. faults (disk_of journal))
 
 -- as many are kept in the book
 pub kept_as : (objects : Schema) (o : Option BookOpen) (m : Option Open) (l : Logged) → IsSame objects o m l → option_map (λ (t : BookOpen). length t.kept.items) o ≡ option_map kept_count m

@@ -1,8 +1,9 @@
 -- No clause of `run` rests on this module: it serves contracts between crates.
 --
 -- In which states of the machine a core is.
-use Rattle.std.specs.Prelude.{◌≡◌, ℕ, ◌+◌, ◌≤◌, [], Option, None}
+use Rattle.std.specs.Prelude.{◌≡◌, ℕ, ◌+◌, ◌<◌, ◌≤◌, ◌^◌, List, [], Option, None}
 use Rattle.std.specs.FinMap.{empty}
+use Rattle.std.proofs.Common.{arith}
 use Rattle.iv_types.specs.Maps.{Map}
 use Rattle.txn_machine.specs.State.{State}
 use Rattle.ordered_index.specs.Tree.{Tree, map_of, spare_of, limit_of}
@@ -10,6 +11,8 @@ use Rattle.core_journal.specs.NoJournal as no_journal
 use Rattle.core_journal.specs.Records.{Records, Saved}
 use Rattle.core_journal.specs.declared.none.NoJournal.{NoJournal}
 use Rattle.core_recording.specs.Giving.{IsBehind}
+use Rattle.log_journal.specs.Standing.{Has, area_limit, disk_of}
+use Rattle.log_journal.specs.declared.journal.LogJournal.{LogJournal}
 use Rattle.core_state.specs.Stands.{Stands}
 use Rattle.engine_core.specs.declared.engine.Core.{Core}
 
@@ -31,3 +34,11 @@ module _ {M J : Type 0} (maps : M → ℕ → Map) (spare : M → ℕ → ℕ) (
 -- the same of a core without a disk, whose maps are trees of pages
 abbrev pub IsInMemory : Core Tree NoJournal → State → Type 0
 IsInMemory core s = IsIn map_of spare_of limit_of no_journal.has_any no_journal.limit_of (λ journal. 0) core s
+
+-- the same of one on a disk
+abbrev pub IsOnDisk : {D : Type 0} (is_told : Type 0) (size_of : D → ℕ) (seen : D → List ℕ) (may_leave : D → List ℕ → Type 0) (faults : D → ℕ) → Core Tree (LogJournal D) → State → Type 0
+IsOnDisk is_told size_of seen may_leave faults core s = IsIn map_of spare_of limit_of (Has is_told size_of seen may_leave) area_limit (λ journal. faults (disk_of journal)) core s
+
+-- a count of no faults is a u64
+pub none_below : 0 < 2 ^ 64
+none_below = omega arith

@@ -8,12 +8,20 @@ ghost use Rattle.data_store.specs.Held.{AreEmpty};
 ghost use Rattle.txn_machine.specs.Log.{Within, block_bytes};
 ghost use Rattle.txn_machine.specs.State.{State, opened_state};
 ghost use Rattle.txn_machine.specs.Store.{opened};
-ghost use Rattle.engine_core.specs.Standing.{IsIn, nothing_saved};
+ghost use Rattle.iv_meaning.specs.Escrow.{IsSession};
+ghost use Rattle.log_journal.specs.Standing.{disk_of};
+ghost use Rattle.std.specs.Option.{option_map};
+ghost use Rattle.txn_book.specs.Acts.{last_refusal};
+ghost use Rattle.txn_book.specs.Moves.{kept_count};
+ghost use Rattle.engine_core.specs.Standing.{IsIn, IsInMemory, IsOnDisk, none_below, nothing_saved};
 
 use crate::acting::do_one;
-use core_journal::{Checkpoints, Journal};
+use core_journal::{Journal, NoJournal};
 use core_state::CoreState;
+use disk_io::Disk;
 use iv_types::{NoMemory, SEATS, SortedMaps};
+use log_journal::LogJournal;
+use ordered_index::PageMaps;
 use std::alloc::Global;
 use txn_book::{Answer, LastRefusal, Step, Stepper};
 
@@ -79,11 +87,32 @@ impl<M: SortedMaps, J: Journal + Drop> Core<M, J> {
     }
 }
 
-// What a crash leaves is not told.
-impl<M: SortedMaps, J: Checkpoints<M>> Stepper for Core<M, J> {
-    ghost stands = { IsIn M.maps M.spare M.limit J.has J.limit J.faults };
+// The last step of a session that the engine refused, if there is one.
+fn refused_in<M: SortedMaps>(state: &CoreState<M>, session: u32) -> Option<LastRefusal>
+    ensures { (s : State) → Stands M.maps M.spare M.limit state.now s → option_map last_refusal result ≡ (s.seat_of session).refused }
+{
+    if session as usize >= SEATS {
+        return None;
+    }
+    state.seats.get(session).refused
+}
 
-    ghost faults = { λ core. J.faults core.journal };
+// How many steps the open transaction of a session keeps, if one is open.
+fn kept_in<M: SortedMaps>(state: &CoreState<M>, session: u32) -> Option<u64>
+    requires { IsSession session }
+    ensures { (s : State) → Stands M.maps M.spare M.limit state.now s → result ≡ option_map kept_count (s.store.open_of session) }
+{
+    match state.book.get(session) {
+        Some(txn) => Some(txn.kept.len() as u64),
+        None => None,
+    }
+}
+
+// A core without a disk. What a crash leaves is not told.
+impl Stepper for Core<PageMaps, NoJournal> {
+    ghost stands = { IsInMemory };
+
+    ghost faults = { λ _. 0 };
 
     ghost may_recover = { λ _ _. ⊥ };
 
@@ -103,8 +132,9 @@ impl<M: SortedMaps, J: Checkpoints<M>> Stepper for Core<M, J> {
 
     ghost longer = { λ _ _ _ _ _ no. no };
 
-    ghost counts_in = { λ core. J.counts_in core.journal };
+    ghost counts_in = { λ core. none_below };
 
+    #[tactic(auto, using(crate::proofs::Steps::done_in_memory))]
     fn step(&mut self, step: &Step) -> Answer {
         do_one(&mut self.state, &mut self.journal, step)
     }
@@ -114,10 +144,7 @@ impl<M: SortedMaps, J: Checkpoints<M>> Stepper for Core<M, J> {
     }
 
     fn refused(&self, session: u32) -> Option<LastRefusal> {
-        if session as usize >= SEATS {
-            return None;
-        }
-        self.state.seats.get(session).refused
+        refused_in(&self.state, session)
     }
 
     fn number(&self) -> u64 {
@@ -125,9 +152,54 @@ impl<M: SortedMaps, J: Checkpoints<M>> Stepper for Core<M, J> {
     }
 
     fn kept_steps(&self, session: u32) -> Option<u64> {
-        match self.state.book.get(session) {
-            Some(txn) => Some(txn.kept.len() as u64),
-            None => None,
-        }
+        kept_in(&self.state, session)
+    }
+}
+
+// A core on a disk. What a crash leaves is not told.
+impl<D: Disk> Stepper for Core<PageMaps, LogJournal<D>> {
+    ghost stands = { IsOnDisk D.is_told D.size_of D.seen D.may_leave D.faults };
+
+    ghost faults = { λ core. D.faults (disk_of core.journal) };
+
+    ghost may_recover = { λ _ _. ⊥ };
+
+    ghost moment = { λ _. 0 };
+
+    ghost recovered_since = { λ _ _ _. ⊥ };
+
+    ghost is_reached = { λ _ _ stands. stands.stands.reached };
+
+    ghost runs_well = { λ _ _ stands. stands.well };
+
+    ghost keeps_all = { λ _ _ _ _ _ no. absurd no };
+
+    ghost counts_now = { λ _ _ _ _ no. no };
+
+    ghost only_now = { λ _ _ no. no };
+
+    ghost longer = { λ _ _ _ _ _ no. no };
+
+    ghost counts_in = { λ core. D.counts_in (disk_of core.journal) };
+
+    #[tactic(auto, using(crate::proofs::Steps::done_on_disk))]
+    fn step(&mut self, step: &Step) -> Answer {
+        do_one(&mut self.state, &mut self.journal, step)
+    }
+
+    fn steps_done(&self) -> u64 {
+        self.state.steps
+    }
+
+    fn refused(&self, session: u32) -> Option<LastRefusal> {
+        refused_in(&self.state, session)
+    }
+
+    fn number(&self) -> u64 {
+        self.state.book.number()
+    }
+
+    fn kept_steps(&self, session: u32) -> Option<u64> {
+        kept_in(&self.state, session)
     }
 }

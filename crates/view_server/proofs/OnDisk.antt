@@ -9,6 +9,7 @@ use Rattle.image_opening.specs.Faults.{counted_by}
 use Rattle.image_opening.specs.Telling.{Refuses}
 use Rattle.image_opening.specs.declared.fault.OpenFault.{OpenFault}
 use Rattle.image_opening.specs.declared.fault.OpenFault.TheVariants as why
+use Rattle.engine_core.specs.Standing.{IsOnDisk}
 use Rattle.database_opening.specs.Opened.{DiskCore, IsOpenOn, OpensAs}
 use Rattle.script_run.specs.Lines.{WasOpened}
 use Rattle.script_run.specs.Run.{Output, Taken, SourceFaults, SinkFaults}
@@ -19,7 +20,7 @@ use Rattle.view_server.specs.OnDisk.{EndsWith, EndsSo, FaultsOnDisk, IsOfLines, 
 -- ---- a core that was opened
 
 module _ {D : Type 0} (is_told : Type 0) (size_of : D → ℕ) (seen : D → List ℕ) (may_leave : D → List ℕ → Type 0) (faults : D → ℕ) (core : DiskCore D) where
-  pub was_opened : (p : Pages) → IsOpenOn is_told size_of seen may_leave faults core p → WasOpened (Rattle.database_opening.specs.Opened.IsOnDisk is_told size_of seen may_leave faults core)
+  pub was_opened : (p : Pages) → IsOpenOn is_told size_of seen may_leave faults core p → WasOpened (IsOnDisk is_told size_of seen may_leave faults core)
   was_opened p h = record { db = p.db; stored = p.view; opening = h.opening; is_opened = h.was_opened; stands = h.stands }
 
   -- the output of its lines is that on the database which is there
