@@ -1,5 +1,5 @@
 -- A core can be begun on what was read.
-use Rattle.std.proofs.Common.{◌≡◌, ℕ, ◌+◌, ◌*◌, ◌≤◌, ◌^◌, List, [], map, None, Some, refl, sym, ap, subst, ◌∙◌, arith, append-nil}
+use Rattle.std.proofs.Common.{◌≡◌, ℕ, ◌+◌, ◌*◌, ◌≤◌, ◌^◌, List, [], map, false, None, Some, refl, sym, ap, subst, ◌∙◌, arith, append-nil}
 use Rattle.std.specs.Prelude.{Option}
 use Rattle.std.specs.List.{sum}
 use Rattle.std.specs.FinMap.{empty}
@@ -29,6 +29,7 @@ use Rattle.ordered_index.specs.Tree.{Tree, map_of, limit_of}
 use Rattle.core_opening.specs.Opening.{HasDatabase}
 use Rattle.image_catalog.proofs.Making.{made_so}
 use Rattle.image_finding.specs.Headers.{as_header}
+use Rattle.image_finding.specs.declared.header.LiveHeader.{LiveHeader}
 use Rattle.image_opening.specs.Telling.{HasNoPast, HasSound}
 use Rattle.image_opening.specs.declared.read.Recovered.{Recovered}
 use Rattle.database_opening.specs.Opened.{CanBegin, IsOf, opening_of}
@@ -57,7 +58,7 @@ module _ (r : Recovered) (sound : HasSound r) (past : HasNoPast r.replay.store) 
   has_texts : HasTexts (map_of new.tables 0) new.catalog texts
   has_texts = subst (λ (ds : Definitions). HasTexts (map_of new.tables 0) ds texts) (sym same.catalog) (subst (λ (m : Map). HasTexts m r.replay.store.catalog texts) (sym (same.entries 0)) is.has.texts.has)
 
-  has_database : HasDatabase map_of new p.db p.view texts
+  has_database : HasDatabase map_of limit_of new p.db p.view texts
   has_database = record {
     stored = stored;
     texts = has_texts;
@@ -95,3 +96,33 @@ module _ (r : Recovered) (sound : HasSound r) (past : HasNoPast r.replay.store) 
       early = early;
     };
   }
+
+-- and so where the maps are others with the same entries
+pub same_entries : (store : DataStore Tree) (tables : Tree) (h : LiveHeader) (commits next : ℕ) (p : Pages) → map_of tables ≡ map_of store.tables → limit_of tables ≡ limit_of store.tables
+    → CanBegin store h commits next p → CanBegin (record store { tables = tables }) h commits next p
+same_entries store tables h commits next p maps limit can = record {
+  texts = can.texts;
+  opens = λ faults.
+      let o = can.opens faults in record {
+        log_is = o.log_is;
+        data_is = o.data_is;
+        next_is = o.next_is;
+        number_is = o.number_is;
+        was_opened = o.was_opened;
+        limited = o.limited;
+        has = record {
+          stored = subst (λ (ms : ℕ → Map). IsHeld store.catalog ms store.views (contents_of (opened p.db p.view))) (sym maps) o.has.stored;
+          texts = subst (λ (ms : ℕ → Map). HasTexts (ms 0) store.catalog can.texts) (sym maps) o.has.texts;
+          row_versions = o.has.row_versions;
+          delta_versions = o.has.delta_versions;
+          row_mark = o.has.row_mark;
+          delta_mark = o.has.delta_mark;
+          pending = o.has.pending;
+        };
+        maps_limit = limit ∙ o.maps_limit;
+        within = o.within;
+        least = o.least;
+        few = o.few;
+        early = o.early;
+      };
+}

@@ -1,8 +1,9 @@
 -- The live header of an image that was read, as a journal has it.
 use Rattle.std.proofs.Common.{◌≡◌, ℕ, ◌+◌, ◌*◌, ◌-◌, ◌≤◌, ◌<◌, List, length, get_or, Some, sym, ap, subst, ◌∙◌, arith}
 use Rattle.disk_io.specs.Disk.{Only, part}
+use Rattle.disk_io.specs.Bytes.{byte-part}
 use Rattle.page_store.specs.Image as page
-use Rattle.page_store.specs.Image.{live, image_at, area_of, map_byte}
+use Rattle.page_store.specs.Image.{live, header_at, image_at, area_of, map_byte}
 use Rattle.page_store.specs.Publish.{next_number, Fits, LiveFits, OtherArea}
 use Rattle.txn_log.specs.Damaged.{Header, Rule, rule_number, header_lives, format_known, sizes_fit, area_named, first_block_ends, blocks_lie, records_read, map_read, pages_formed, keys_apart, definitions_read, entries_read, FitsDevice}
 use Rattle.log_disk.specs.Found.{header_of, IsFound, IsWhole}
@@ -12,7 +13,6 @@ use Rattle.log_disk.proofs.Living.{live_same}
 use Rattle.log_disk.proofs.Whole.{whole}
 use Rattle.log_journal.specs.Standing.{HasHeader}
 use Rattle.image_finding.specs.Headers.{map_in, StandsUpTo}
-use Rattle.image_finding.proofs.Paging.{byte_is}
 
 some_same : (m n : ℕ) → Some m ≡ Some n → m ≡ n
 some_same m n e = cc
@@ -60,7 +60,9 @@ module _ (c : List ℕ) (h : Header) (stands : StandsUpTo 12 c h) (fits : FitsDe
           let place = ap (λ (x : Header). x.place) stands.live.fields in
           let map_is : here.map ≡ map_in h c = sym (ap (λ (x : page.Image). x.map) there) ∙ (λ t. part (sym place t + 64) (sym pages t) c) in
           let least = is.low p (omega (arith, inside, pages)) in
-          subst (λ b. b ≤ 2) (byte_is c h stands.live here.map map_is p inside) least
+          let byte : get_or here.map p 0 ≡ map_byte side p c = ap (λ (bs : List ℕ). get_or bs p 0) map_is ∙ byte-part (h.place + 64) h.pages c p inside
+          ∙ ap (λ i. get_or c i 0) (let e : h.place + 64 + p ≡ header_at side + (64 + p) = omega (arith, place) in e) in
+          subst (λ b. b ≤ 2) byte least
 
   fits_by : (k : ℕ) → live c ≡ Some k → Fits (length c) h.pages k c
   fits_by k is = subst (λ n. Fits (length c) h.pages n c) (some_same side k (sym lives ∙ is)) (record {

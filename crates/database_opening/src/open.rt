@@ -1,5 +1,5 @@
 //! A database, opened.
-ghost use Rattle.std.specs.Prelude.{◌≡◌, ◌≤◌, Some, max, IfOk, IfErr, MatchResult};
+ghost use Rattle.std.specs.Prelude.{◌≡◌, ◌≤◌, ℕ, List, Some, max, IfOk, IfErr, MatchResult};
 ghost use Rattle.disk_io.specs.Disk.{Only};
 ghost use Rattle.iv_types.specs.Maps.{used};
 ghost use Rattle.table_store.specs.Lists.{map_at};
@@ -80,7 +80,7 @@ fn save<D: Disk>(
     requires limit { limit_of store.tables ≡ Some (data_limit header.now.pages) }
     requires can { (p : Pages) × CanBegin store header.now commits next p }
     ensures opened { IfOk result (λ core. (p : Pages) → CanBegin store header.now commits next p → IsOpenOn D.is_told D.size_of D.seen D.may_leave D.faults core p) }
-    ensures refused { IfErr result (λ refused. Refuses (D.seen disk) refused.fault) }
+    ensures refused { IfErr result (λ refused. (c : List ℕ) → Refuses c refused.fault) }
     ensures cause { OpenCounts D.faults (D.faults disk) result }
 {
     let mut journal = LogJournal::restarting(
@@ -134,7 +134,7 @@ fn open_recovered<D: Disk>(
     requires sound { HasSound recovered }
     requires no_past { HasNoPast recovered.replay.store }
     ensures opened { IfOk result (λ core. (p : Pages) → IsOf recovered p → IsOpenOn D.is_told D.size_of D.seen D.may_leave D.faults core p) }
-    ensures refused { IfErr result (λ refused. Refuses (D.seen disk) refused.fault) }
+    ensures refused { IfErr result (λ refused. (c : List ℕ) → Refuses c refused.fault) }
     ensures cause { OpenCounts D.faults (D.faults disk) result }
 {
     let Recovered { header, replay } = recovered;

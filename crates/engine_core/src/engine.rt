@@ -66,8 +66,9 @@ impl<M: SortedMaps, J: Journal + Drop> Core<M, J> {
 
     /// A core that holds this, with a journal that has the records of the log as it is.
     pub fn on(state: CoreState<M>, journal: J) -> Self
-        ensures { (s : State) (rs : Records) → Stands M.maps M.spare M.limit state s → IsBehind M.maps M.spare M.limit J.has J.limit state journal s.log rs → rs.saves ≤ s.steps + 1 → J.faults journal ≡ s.opening.faults
+        ensures stands { (s : State) (rs : Records) → Stands M.maps M.spare M.limit state s → IsBehind M.maps M.spare M.limit J.has J.limit state journal s.log rs → rs.saves ≤ s.steps + 1 → J.faults journal ≡ s.opening.faults
             → IsIn M.maps M.spare M.limit J.has J.limit J.faults result s }
+        ensures journal { result.journal ≡ journal }
     {
         Core { state, journal }
     }

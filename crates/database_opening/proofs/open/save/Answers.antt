@@ -1,0 +1,37 @@
+use Rattle.std.proofs.Common.{◌+◌, [], refl, sym, ap, ◌∙◌, arith}
+use Rattle.std.proofs.lemmas.Result.{IfOk-weaker}
+use Rattle.std.specs.FinMap.{empty}
+use Rattle.txn_machine.specs.Log.{block_bytes}
+use Rattle.wal_log.specs.Log.{LogState}
+use Rattle.ordered_index.specs.Tree.{Tree, map_of, limit_of}
+use Rattle.core_journal.specs.Records.{Records, begun, restarted}
+use Rattle.log_journal.specs.Standing.{maps_limit}
+use Rattle.database_opening.proofs.Beginning.{same_entries}
+use Rattle.database_opening.proofs.open.save.Goals as goal
+
+pub save-requires : goal.save-requires
+save-requires g c =
+    let rs : Records = begun (maps_limit c.restarting-journal.result) (record { maps = λ index. empty; definitions = []; commits = 0; next = 0; carried = [] }) 0 in
+    (rs, c.args.next, [], block_bytes + 1, c.restarting-journal.ensures.carries rs refl, ap limit_of c.maps_mut.ensures.value ∙ (c.requires.limit ∙ sym c.restarting-journal.ensures.maps_limit))
+
+pub begin-requires-clause-has : goal.begin-requires-clause-has
+begin-requires-clause-has g c =
+    let rs : Records = begun (maps_limit c.restarting-journal.result) (record { maps = λ index. empty; definitions = []; commits = 0; next = 0; carried = [] }) 0 in
+    record {
+      records = restarted rs (record { maps = map_of c.maps_mut.result.now; definitions = c.args.store.catalog; commits = c.args.commits; next = c.args.next; carried = [] }) (block_bytes + 1);
+      has = c.in-Ok.ensures.ok.0 rs c.args.next [] (block_bytes + 1) (c.restarting-journal.ensures.carries rs refl);
+      used = refl;
+      saves = omega arith;
+      image_limit = c.restarting-journal.ensures.maps_limit;
+      limit = c.in-Ok.ensures.limit ∙ (c.restarting-journal.ensures.limit ∙ ap (λ (l : LogState). Rattle.std.proofs.Common.Some l.size) c.requires.log);
+    }
+
+pub begin-requires-clause-can : goal.begin-requires-clause-can
+begin-requires-clause-can g c =
+    let can = c.requires.can in
+    (can.0, same_entries c.args.store c.save.new.maps c.args.header.now c.args.commits c.args.next can.0 (c.in-Ok.ensures.maps ∙ ap map_of c.maps_mut.ensures.value) (c.in-Ok.ensures.data_limit ∙ ap limit_of c.maps_mut.ensures.value) can.1)
+
+pub returns-in-Ok-clause-opened : goal.returns-in-Ok-clause-opened
+returns-in-Ok-clause-opened g c =
+    IfOk-weaker c.begin.result _ _ (λ core f p can.
+    f p (same_entries c.args.store c.save.new.maps c.args.header.now c.args.commits c.args.next p (c.in-Ok.ensures.maps ∙ ap map_of c.maps_mut.ensures.value) (c.in-Ok.ensures.data_limit ∙ ap limit_of c.maps_mut.ensures.value) can)) c.begin.ensures.opened
