@@ -1,19 +1,17 @@
 -- A core can be begun on what was read.
-use Rattle.std.proofs.Common.{◌≡◌, ℕ, ◌+◌, ◌*◌, ◌≤◌, ◌^◌, List, [], map, false, None, Some, refl, sym, ap, subst, ◌∙◌, arith, append-nil}
+use Rattle.std.proofs.Common.{◌≡◌, ℕ, ◌+◌, ◌≤◌, ◌^◌, List, map, false, None, Some, refl, sym, ap, subst, ◌∙◌, arith, append-nil}
 use Rattle.std.specs.Prelude.{Option}
 use Rattle.std.specs.List.{sum}
-use Rattle.std.specs.FinMap.{empty}
 use Rattle.iv_types.specs.Definitions.{Definitions}
 use Rattle.iv_types.specs.Maps.{Map, map_size, used}
 use Rattle.query_laws.specs.Limited.{IsLimited}
 use Rattle.txn_machine.specs.Counts.{sum_over}
-use Rattle.txn_machine.specs.Log.{Within, block_bytes, definition_entries, room_kept, view_entries}
+use Rattle.txn_machine.specs.Log.{definition_entries, room_kept}
 use Rattle.txn_machine.specs.State.{opened_state}
 use Rattle.txn_machine.specs.Steps.{used_data}
 use Rattle.txn_machine.specs.Store.{opened}
 use Rattle.txn_log.specs.Damaged.{FitsDevice}
 use Rattle.txn_log.specs.Replay.{Pages}
-use Rattle.txn_log.specs.Room.{rows_bytes}
 use Rattle.log_disk.specs.Placed.{data_limit}
 use Rattle.version_chain.specs.Chains.{Chains}
 use Rattle.version_chain.specs.declared.deltas.Delta.{Delta}

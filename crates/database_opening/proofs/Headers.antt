@@ -1,12 +1,12 @@
 -- The live header of an image that was read, as a journal has it.
-use Rattle.std.proofs.Common.{◌≡◌, ℕ, ◌+◌, ◌*◌, ◌-◌, ◌≤◌, ◌<◌, List, length, get_or, Some, sym, ap, subst, ◌∙◌, arith}
+use Rattle.std.proofs.Common.{◌≡◌, ℕ, ◌+◌, ◌≤◌, ◌<◌, List, length, get_or, Some, sym, ap, subst, ◌∙◌, arith}
 use Rattle.disk_io.specs.Disk.{Only, part}
 use Rattle.disk_io.specs.Bytes.{byte-part}
 use Rattle.page_store.specs.Image as page
 use Rattle.page_store.specs.Image.{live, header_at, image_at, area_of, map_byte}
-use Rattle.page_store.specs.Publish.{next_number, Fits, LiveFits, OtherArea}
+use Rattle.page_store.specs.Publish.{next_number, Fits}
 use Rattle.txn_log.specs.Damaged.{Header, Rule, rule_number, header_lives, format_known, sizes_fit, area_named, first_block_ends, blocks_lie, records_read, map_read, pages_formed, keys_apart, definitions_read, entries_read, FitsDevice}
-use Rattle.log_disk.specs.Found.{header_of, IsFound, IsWhole}
+use Rattle.log_disk.specs.Found.{IsWhole}
 use Rattle.log_disk.proofs.Areas.{image_live}
 use Rattle.log_disk.proofs.Finding.{all_are_found}
 use Rattle.log_disk.proofs.Living.{live_same}

@@ -28,7 +28,7 @@ module _ {D : Type 0} (is_told : Type 0) (size_of : D → ℕ) (seen : D → Lis
       → (of status : Status) → EndsWith of status → (input before : List ℕ) (left written : Option (List ℕ)) → Taken of input left
       → ((q : Pages) → IsOpenOn is_told size_of seen may_leave faults core q → Output q.db of input before left written) → RanOn There status input before left written
   ran_lines There opens p here of status ends input before left written taken out =
-      lines of ends taken p.db (out p here) (λ c there i im. let o = opens c there i im in (o.0, o.1, o.2, out (recovered o.1) o.3))
+      lines of ends taken p.db (out p here) (λ c there i im. let o = opens c there i im in (o.0, (o.1.0, o.1.1, out (recovered o.1.0) o.1.2)))
 
 -- ---- what was told
 

@@ -1,5 +1,5 @@
 use Rattle.std.proofs.Common.{◌≡◌, ℕ, List, length, sym, subst, ◌∙◌}
-use Rattle.std.proofs.lemmas.Result.{IfOk-weaker}
+use Rattle.std.proofs.lemmas.Result.{IfOk-weaker, MatchResult-weaker}
 use Rattle.txn_log.specs.Damaged.{FitsDevice}
 use Rattle.txn_log.specs.Replay.{recovered}
 use Rattle.log_journal.specs.Standing.{HasHeader}
@@ -26,4 +26,7 @@ pub returns-in-Ok-clause-recovered : goal.returns-in-Ok-clause-recovered
 returns-in-Ok-clause-recovered g c = λ told.
     IfOk-weaker c.open_recovered.result _ _ (λ core f i im.
     let o = (c.in-Ok.ensures.opened told).1 i im in
-    (o.0, o.1.reading, o.1.reverses, f (recovered o.1.reading) (record { has = o.1.has; commits = o.1.commits }))) c.open_recovered.ensures.opened
+    (o.0, (o.1.reading, o.1.reverses, f (recovered o.1.reading) (record { has = o.1.has; commits = o.1.commits })))) c.open_recovered.ensures.opened
+
+pub returns-in-Ok-clause-refused : goal.returns-in-Ok-clause-refused
+returns-in-Ok-clause-refused g c = λ told. MatchResult-weaker c.open_recovered.result c.open_recovered.ensures.refused (λ core u. u) (λ refused f. f (g.D.Disk.seen c.args.disk))

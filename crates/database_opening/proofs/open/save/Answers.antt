@@ -3,7 +3,7 @@ use Rattle.std.proofs.lemmas.Result.{IfOk-weaker}
 use Rattle.std.specs.FinMap.{empty}
 use Rattle.txn_machine.specs.Log.{block_bytes}
 use Rattle.wal_log.specs.Log.{LogState}
-use Rattle.ordered_index.specs.Tree.{Tree, map_of, limit_of}
+use Rattle.ordered_index.specs.Tree.{map_of, limit_of}
 use Rattle.core_journal.specs.Records.{Records, begun, restarted}
 use Rattle.log_journal.specs.Standing.{maps_limit}
 use Rattle.database_opening.proofs.Beginning.{same_entries}

@@ -1,4 +1,4 @@
-use Rattle.std.proofs.Common.{◌≡◌, ◌<◌, ◌^◌, Some, ap, arith}
+use Rattle.std.proofs.Common.{◌<◌, ◌^◌, Some, ap, arith}
 use Rattle.log_disk.specs.Placed.{data_limit}
 use Rattle.database_opening.proofs.pages.in_pages.Goals as goal
 
