@@ -116,6 +116,9 @@ module _ {A : Type 0} {words : List (String A)} where
   pub sizes_asked : (read : Asked) (new : NewDatabase) (n : List ℕ) (p l : ℕ) → read ≡ asked.Init new → Only (wanted_of read) words → IsInit n p l words → SameSizes new.file.now n new.pages p new.log_kib l
   sizes_asked read new n p l e only init = one_database new.file.now n new.pages p new.log_kib l (subst (λ (a : Asked). Only (wanted_of a) words) e only) init
 
+  pub file_asked : (read : Asked) (file : _) (n : List ℕ) → read ≡ asked.ScriptOn file → Only (wanted_of read) words → IsScriptOn n words → file.now ≡ n
+  file_asked read file n e only on = one_file file.now n (subst (λ (a : Asked). Only (wanted_of a) words) e only) on
+
 -- the bounds of a new database that was read are those of a disk
 pub geometry_of : (read : Asked) (new : NewDatabase) → read ≡ asked.Init new → HasBounds (wanted_of read) → IsGeometry new.pages new.log_kib
 geometry_of read new e bounds =

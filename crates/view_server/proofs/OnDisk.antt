@@ -1,26 +1,24 @@
 -- A script on the database of a disk.
-use Rattle.std.proofs.Common.{◌≡◌, ◌≢◌, ◌⊎◌, inl, inr, ℕ, ◌+◌, ◌<◌, ◌≤◌, ◌^◌, List, Some, Ok, Err, refl, sym, ap, subst, ◌∙◌, arith}
-use Rattle.std.specs.Prelude.{Option, Result, min}
+use Rattle.std.proofs.Common.{◌≡◌, inl, inr, ℕ, ◌+◌, ◌-◌, ◌≤◌, ◌^◌, List, Some, Ok, Err, refl, sym, ap, subst, ◌∙◌, arith}
+use Rattle.std.specs.Prelude.{Option, Result, IfOk, IfErr, min}
 use Rattle.iv_types.specs.Faults.{Rose, CountsFault}
 use Rattle.iv_types.specs.declared.fault.Failed.{Failed}
 use Rattle.outside.specs.Outside.{CountsClosed, ReadsAsBefore}
 use Rattle.txn_log.specs.Replay.{Pages, recovered}
-use Rattle.image_opening.specs.Faults.{counted_by}
 use Rattle.image_opening.specs.Telling.{Refuses}
 use Rattle.image_opening.specs.declared.fault.OpenFault.{OpenFault}
-use Rattle.image_opening.specs.declared.fault.OpenFault.TheVariants as why
 use Rattle.engine_core.specs.Standing.{IsOnDisk}
 use Rattle.database_opening.specs.Opened.{DiskCore, IsOpenOn, OpensAs}
 use Rattle.script_run.specs.Lines.{WasOpened}
 use Rattle.script_run.specs.Run.{Output, Taken, SourceFaults, SinkFaults}
 use Rattle.script_run.specs.declared.status.Status.{Status}
 use Rattle.script_run.specs.declared.status.Status.TheVariants.{Done, Usage, ReadFault, WriteFault, DiskFault, BadImage, NoMemory, TooMuch}
-use Rattle.view_server.specs.OnDisk.{EndsWith, EndsSo, FaultsOnDisk, IsOfLines, IsThere, IsToldOf, RanOn, lines, refused, nothing, TellsBad}
+use Rattle.view_server.specs.OnDisk.{EndsWith, EndsSo, FaultsOnDisk, IsOfLines, IsThere, IsTold, IsToldOf, RanOn, lines, refused, nothing, TellsBad, ToldBad}
 
 -- ---- a core that was opened
 
 module _ {D : Type 0} (is_told : Type 0) (size_of : D → ℕ) (seen : D → List ℕ) (may_leave : D → List ℕ → Type 0) (faults : D → ℕ) (core : DiskCore D) where
-  pub was_opened : (p : Pages) → IsOpenOn is_told size_of seen may_leave faults core p → WasOpened (IsOnDisk is_told size_of seen may_leave faults core)
+  abbrev pub was_opened : (p : Pages) → IsOpenOn is_told size_of seen may_leave faults core p → WasOpened (IsOnDisk is_told size_of seen may_leave faults core)
   was_opened p h = record { db = p.db; stored = p.view; opening = h.opening; is_opened = h.was_opened; stands = h.stands }
 
   -- the output of its lines is that on the database which is there
@@ -36,6 +34,13 @@ pub ran_told : (There : List ℕ → Type 0) (fault : OpenFault) → ((c : List 
     → IsToldOf fault status before written → RanOn There status input before left written
 ran_told There fault refuses status input before left written none (inl told) = refused fault refuses told.0 told.1 none told.2
 ran_told There fault refuses status input before left written none (inr bare) = nothing bare.0 none bare.1
+
+-- a line that was made or not, and told then
+pub told_line : {T S N : Type 0} (items : T → List ℕ) (written : S → Option (List ℕ)) (old new : S) (fault : OpenFault) (wanted : List ℕ) → IsTold fault wanted → (line : Result T N) → IfOk line (λ text. items text ≡ wanted)
+    → (status : Status) → IfOk line (λ text. (b : List ℕ) → written old ≡ Some b → ToldBad status (items text) b (written new)) → IfErr line (λ _. (status ≡ NoMemory) × (new ≡ old))
+    → (before : List ℕ) → written old ≡ Some before → IsToldOf fault status before (written new)
+told_line items written old new fault wanted is (Ok text) are status told none before w = inl (wanted, is, subst (λ (line : List ℕ). ToldBad status line before (written new)) are (told before w))
+told_line items written old new fault wanted is (Err e) are status told none before w = inr (inr none.0, ap written none.1 ∙ w)
 
 -- of fewer bytes
 pub ran_more : (There Other : List ℕ → Type 0) → ((c : List ℕ) → Other c → There c) → (status : Status) (input before : List ℕ) (left written : Option (List ℕ)) → RanOn There status input before left written → RanOn Other status input before left written

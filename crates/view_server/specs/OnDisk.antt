@@ -14,7 +14,7 @@ use Rattle.image_opening.specs.declared.fault.OpenFault.TheVariants as why
 use Rattle.image_refusals.specs.Lines.{rule_line, row_line}
 use Rattle.script_run.specs.Run.{Output, Taken}
 use Rattle.script_run.specs.declared.status.Status.{Status}
-use Rattle.script_run.specs.declared.status.Status.TheVariants.{Done, Usage, ReadFault, WriteFault, DiskFault, BadImage, NoMemory, TooMuch}
+use Rattle.script_run.specs.declared.status.Status.TheVariants.{Done, Usage, WriteFault, DiskFault, BadImage, NoMemory}
 
 -- a disk lay there that reads so, and both are told
 pub record IsThere {D : Type 0} (outside_tells disk_tells : Type 0) (seen : D → List ℕ) (lay : Option D) (bytes : List ℕ) : Type 0 where

@@ -1,10 +1,10 @@
-use Rattle.std.proofs.Common.{ℕ, subst}
+use Rattle.std.proofs.Common.{◌≡◌, ℕ, subst}
 use Rattle.std.proofs.lemmas.Bool.{false≢true}
 use Rattle.iv_meaning.specs.Database.{created}
 use Rattle.script_run.specs.Summary.{Made}
-use Rattle.command_words.specs.Words.{a_script, rounds, database, wanted_of, AsksFor, IsInit}
+use Rattle.command_words.specs.Words.{a_script, a_script_on, rounds, database, wanted_of, AsksFor, IsInit}
 use Rattle.command_words.specs.declared.asked.Asked.{Asked}
-use Rattle.view_server.proofs.Naming.{Only, one_number, script_not_make, sizes_asked}
+use Rattle.view_server.proofs.Naming.{Only, file_asked, one_number, script_not_make, sizes_asked}
 use Rattle.view_server.proofs.script.run.Goals as goal
 
 -- ---- no command
@@ -20,6 +20,16 @@ returns-then-not-is_command-clause-init g c = λ file pages log_kib asks before 
 
 pub returns-then-not-is_command-clause-init_status : goal.returns-then-not-is_command-clause-init_status
 returns-then-not-is_command-clause-init_status g c = λ file pages log_kib asks. absurd (false≢true (c.if-not-is_command.ensures.1 (database file pages log_kib, asks)))
+
+pub returns-then-not-is_command-clause-on_disk : goal.returns-then-not-is_command-clause-on_disk
+returns-then-not-is_command-clause-on_disk g c = λ file asks input before e w. absurd (false≢true (c.if-not-is_command.ensures.1 (a_script_on file, asks)))
+
+-- ---- a script on a disk
+
+pub returns-in-Ok-ScriptOn-clause-on_disk : goal.returns-in-Ok-ScriptOn-clause-on_disk
+returns-in-Ok-ScriptOn-clause-on_disk g c = λ file asks input before e w.
+    let same : c.in-Ok-ScriptOn.file.now ≡ file = file_asked c.in-Ok-ScriptOn.field-0 c.in-Ok-ScriptOn.file file c.in-Ok-ScriptOn.field-0-is c.in-Ok-ScriptOn.ensures.nothing_else asks in
+    rw (← same) (c.script_on_disk.ensures.ran input before e w)
 
 -- ---- a script
 
