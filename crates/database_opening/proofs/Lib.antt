@@ -1,2 +1,3 @@
 pub mod Headers
 pub mod Beginning
+pub mod Saving

@@ -1,7 +1,7 @@
 -- No clause of `run` rests on this module: it serves contracts between crates.
 --
 -- A core on a disk, as it is opened.
-use Rattle.std.specs.Prelude.{◌≡◌, ℕ, ◌+◌, ◌≤◌, List, Some, Result, MatchResult}
+use Rattle.std.specs.Prelude.{◌≡◌, ℕ, ◌+◌, ◌≤◌, List, [], Some, Result, MatchResult}
 use Rattle.txn_machine.specs.Laws.{IsOpened}
 use Rattle.txn_machine.specs.Log.{Opening, block_bytes}
 use Rattle.txn_machine.specs.State.{opened_state}
@@ -10,7 +10,8 @@ use Rattle.txn_log.specs.Replay.{Pages, Reading, recovered}
 use Rattle.txn_log.specs.Refused.{PlacedImage, ReversesAs, IsFine}
 use Rattle.log_disk.specs.Placed.{data_limit}
 use Rattle.ordered_index.specs.Tree.{Tree, map_of, limit_of}
-use Rattle.core_journal.specs.Records.{Records}
+use Rattle.core_journal.specs.Records.{Records, Saved}
+use Rattle.core_recording.specs.Giving.{IsSaved}
 use Rattle.log_journal.specs.Standing.{Has, area_limit, disk_of}
 use Rattle.log_journal.specs.declared.journal.LogJournal.{LogJournal}
 use Rattle.data_store.specs.declared.store.DataStore.{DataStore}
@@ -49,21 +50,33 @@ pub record CanBegin (store : DataStore Tree) (h : LiveHeader) (commits next : �
 
 -- ---- a core that was opened
 
+-- what its checkpoint saves: the entries and the definitions of the store, and no record
+abbrev pub saved_of : DataStore Tree → ℕ → ℕ → Saved
+saved_of store commits next = record { maps = map_of store.tables; definitions = store.catalog; commits = commits; next = next; carried = [] }
+
 module _ {D : Type 0} (is_told : Type 0) (size_of : D → ℕ) (seen : D → List ℕ) (may_leave : D → List ℕ → Type 0) (faults : D → ℕ) where
   -- a journal that has saved the checkpoint of the opening, and has no record beside it
-  pub record HasBegun (journal : LogJournal D) (h : LiveHeader) : Type 0 where
+  pub record HasBegun (journal : LogJournal D) (store : DataStore Tree) (h : LiveHeader) (commits next : ℕ) : Type 0 where
     pub records : Records
     pub has : Has is_told size_of seen may_leave journal records
+    pub saved : records.saved ≡ saved_of store commits next
+    pub flushed : records.flushed ≡ []
+    pub waiting : records.waiting ≡ []
     pub used : records.used ≡ block_bytes + 1
     pub saves : records.saves ≤ 1
     pub image_limit : records.image_limit ≡ Some (data_limit h.pages)
     pub limit : area_limit journal ≡ Some h.area_bytes
 
-  -- it stands where steps begin, on these pages
+  -- it stands where steps begin, on these pages, which its disk has as a checkpoint without a record
   pub record IsOpenOn (core : DiskCore D) (p : Pages) : Type 0 where
     pub opening : Opening
     pub was_opened : IsOpened p.db p.view
     pub stands : IsOnDisk is_told size_of seen may_leave faults core (opened_state opening (opened p.db p.view))
+    pub records : Records
+    pub has : Has is_told size_of seen may_leave core.journal records
+    pub saved : IsSaved (opened_state opening (opened p.db p.view)) records.saved
+    pub flushed : records.flushed ≡ []
+    pub waiting : records.waiting ≡ []
 
   -- the image that stands in these bytes is refused for nothing, and the core stands on what it recovers to
   abbrev pub OpensAs : List ℕ → DiskCore D → Type 0

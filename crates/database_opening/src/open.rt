@@ -47,7 +47,7 @@ fn begin<D: Disk>(
 ) -> Result<Core<PageMaps, LogJournal<D>>, OpenRefused<D>>
     requires pages { (512 ≤ header.now.pages) × (header.now.pages ≤ 131072) }
     requires area { header.now.area_bytes ≤ 268435456 }
-    requires has { HasBegun D.is_told D.size_of D.seen D.may_leave D.faults journal header.now }
+    requires has { HasBegun D.is_told D.size_of D.seen D.may_leave D.faults journal store header.now commits next }
     requires can { (p : Pages) × CanBegin store header.now commits next p }
     ensures opened { IfOk result (λ core. (p : Pages) → CanBegin store header.now commits next p → IsOpenOn D.is_told D.size_of D.seen D.may_leave D.faults core p) }
     ensures refused { IfErr result (λ refused. refused.fault ≡ why.NoMemory) }

@@ -20,6 +20,9 @@ begin-requires-clause-has g c =
     record {
       records = restarted rs (record { maps = map_of c.maps_mut.result.now; definitions = c.args.store.catalog; commits = c.args.commits; next = c.args.next; carried = [] }) (block_bytes + 1);
       has = c.in-Ok.ensures.ok.0 rs c.args.next [] (block_bytes + 1) (c.restarting-journal.ensures.carries rs refl);
+      saved = ap (λ ms. record { maps = ms; definitions = c.args.store.catalog; commits = c.args.commits; next = c.args.next; carried = [] }) (sym c.in-Ok.ensures.maps);
+      flushed = refl;
+      waiting = refl;
       used = refl;
       saves = omega arith;
       image_limit = c.restarting-journal.ensures.maps_limit;
