@@ -1,4 +1,5 @@
 //! Tables as they are read, line by line.
+use crate::crashes;
 use crate::outcomes::Outcomes;
 use crate::parts::Parts;
 use crate::running::new_outside;
@@ -15,6 +16,8 @@ enum Sort {
     Each,
     // They are run for each call of a disk.
     Calls,
+    // They are run for each call of a disk, at which a crash comes.
+    Crashes,
 }
 
 fn sort_of(name: &str) -> Sort {
@@ -23,6 +26,9 @@ fn sort_of(name: &str) -> Sort {
     }
     if name.starts_with("disk calls: ") {
         return Sort::Calls;
+    }
+    if name.starts_with("crashes: ") {
+        return Sort::Crashes;
     }
     Sort::Once
 }
@@ -115,6 +121,7 @@ impl Cases {
         match sort_of(name) {
             Sort::Each => Ok(String::new(alloc)),
             Sort::Calls => self.outcomes.otherwise(alloc, &self.parts),
+            Sort::Crashes => crashes::otherwise(alloc, &self.outcomes, &self.parts),
             Sort::Once => {
                 let disk = number_in(name, ", disk ")?;
                 let mut outside = new_outside(alloc, disk, number_in(name, ", outside ")?)?;

@@ -152,6 +152,22 @@ fn cut<O: Outside>(alloc: Global, outside: &mut O, name: &str, size: u64) -> any
     make(alloc, outside, name, size, &bytes)
 }
 
+/// Makes a disk under a name that has what another one has.
+///
+/// # Errors
+///
+/// Where a disk fails, or memory is wanting.
+pub fn copy_disk<O: Outside, D: Disk>(
+    alloc: Global,
+    outside: &mut O,
+    name: &str,
+    disk: &mut D,
+) -> anyhow::Result<()> {
+    let size = disk.size();
+    let bytes = first_bytes(alloc, disk, size)?;
+    make(alloc, outside, name, size, &bytes)
+}
+
 // The places at which some bytes stand.
 fn places_of(alloc: Global, bytes: &[u8], wanted: &[u8]) -> anyhow::Result<Vec<u64>>
     requires { 0 < length wanted.now }

@@ -3,8 +3,8 @@ use crate::parts::{Parts, difference};
 use crate::running::new_outside;
 use std::alloc::Global;
 
-// No table makes so many calls of a disk.
-const MOST_CALLS: u64 = 1000;
+/// No table makes so many calls of a disk.
+pub const MOST_CALLS: u64 = 1000;
 
 /// What may come of a table's parts, in the order in which it comes.
 #[derive(Drop)]
@@ -56,8 +56,8 @@ impl Outcomes {
         }
     }
 
-    // The outcome at a place, or a text that none has.
-    fn at(&self, place: usize) -> &str {
+    /// The outcome at a place, or a text that none has.
+    pub fn at(&self, place: usize) -> &str {
         match self.list.get(place) {
             Some(text) => text.as_str(),
             None => "no further outcome",
@@ -72,6 +72,16 @@ impl Outcomes {
         let next = place.saturating_add(1);
         if self.at(next) == found {
             return Some(next);
+        }
+        None
+    }
+
+    /// The first place from this one on at which this outcome stands.
+    pub fn place_from(&self, found: &str, place: usize) -> Option<usize> {
+        for (at, text) in self.list.iter().enumerate().skip(place) {
+            if text.as_str() == found {
+                return Some(at);
+            }
         }
         None
     }

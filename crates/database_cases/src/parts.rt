@@ -194,6 +194,40 @@ impl Parts {
         Ok(told)
     }
 
+    /// What the runs before the last part tell, each behind a line `$`, up to the first in which the outside or a disk fails.
+    ///
+    /// # Errors
+    ///
+    /// Where a change can't be made, or memory is wanting.
+    pub fn told_until_fault(
+        &self,
+        alloc: Global,
+        outside: &mut ListOutside,
+    ) -> anyhow::Result<String> {
+        let mut told = String::new(alloc);
+        if let Some((_, before)) = self.list.split_last() {
+            for part in before {
+                if outside.faults() == 0 {
+                    part.tell(alloc, outside, &mut told)?;
+                }
+            }
+        }
+        Ok(told)
+    }
+
+    /// What the last part tells, behind a line `$`.
+    ///
+    /// # Errors
+    ///
+    /// Where a change can't be made, or memory is wanting.
+    pub fn told_last(&self, alloc: Global, outside: &mut ListOutside) -> anyhow::Result<String> {
+        let mut told = String::new(alloc);
+        if let Some(last) = self.list.last() {
+            last.tell(alloc, outside, &mut told)?;
+        }
+        Ok(told)
+    }
+
     /// What is told of the runs before the last part.
     ///
     /// # Errors
