@@ -114,7 +114,7 @@ impl Disk for FileDisk {
     }
 
     fn sync(&mut self) -> Result<(), Failed> {
-        if self.file.sync_all().is_err() {
+        if self.file.sync_data().is_err() {
             return Err(Failed::counted(&mut self.faults));
         }
         Ok(())
