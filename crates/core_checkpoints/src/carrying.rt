@@ -11,6 +11,7 @@ ghost use Rattle.txn_book.specs.Opens.{open_at};
 ghost use Rattle.log_records.specs.Area.{Entry};
 ghost use Rattle.record_lending.specs.Steps.{HasItsEntries, record_of};
 ghost use Rattle.core_journal.specs.Records.{Records};
+ghost use Rattle.core_journal.specs.Cuts.{Cut};
 ghost use Rattle.core_recording.specs.Carried.{CarriesAll};
 ghost use Rattle.core_recording.specs.Carrying.{steps_at, id_of, CanCarry, CanCarryAll, entry_of, all_bytes};
 
@@ -29,8 +30,9 @@ fn carry_next<J: Journal>(book: &Book, journal: &mut J, session: u32, done: usiz
         → J.carries journal.new rs next (entry_of (schema_of definitions) (id_of (open_at book.now.opens session)) k ∷ es) (used + record_bytes (schema_of definitions) (record_of (id_of (open_at book.now.opens session)) k)) }
     ensures bytes { (definitions : Definitions) (k : Kept) → slice_get (steps_at book.now.opens session) done ≡ Some k → HasItsEntries definitions k
         → result ≡ told_need (record_bytes (schema_of definitions) (record_of (id_of (open_at book.now.opens session)) k)) }
+    ensures stands { (x : Cut) → J.stands_on journal.old x → J.stands_on journal.new x }
     ensures limit { J.limit journal.new ≡ J.limit journal.old }
-    ensures faults { J.faults journal.new ≡ J.faults journal.old }
+    ensures medium { J.medium journal.new ≡ J.medium journal.old }
     ensures few { done < 2 ^ 63 }
 {
     short_law();
@@ -52,8 +54,9 @@ pub(crate) fn carry_kept<J: Journal>(book: &Book, journal: &mut J) -> u64
     ensures carries { (definitions : Definitions) (rs : Records) (next : ℕ) (used : ℕ) → CanCarryAll definitions book.now.opens → J.carries journal.old rs next [] used
         → (es : List Entry) × CarriesAll (schema_of definitions) book.now.opens es × J.carries journal.new rs next es (used + all_bytes (schema_of definitions) book.now.opens) }
     ensures bytes { (definitions : Definitions) → CanCarryAll definitions book.now.opens → result ≡ told_need (all_bytes (schema_of definitions) book.now.opens) }
+    ensures stands { (x : Cut) → J.stands_on journal.old x → J.stands_on journal.new x }
     ensures limit { J.limit journal.new ≡ J.limit journal.old }
-    ensures faults { J.faults journal.new ≡ J.faults journal.old }
+    ensures medium { J.medium journal.new ≡ J.medium journal.old }
 {
     let mut done = [0; SEATS];
     let mut bytes: u64 = 0;

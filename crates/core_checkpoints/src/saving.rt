@@ -1,5 +1,5 @@
 //! Checkpoint.
-ghost use Rattle.std.specs.Prelude.{◌≡◌, ◌+◌, true, false, OnOk, OnErr, IfOk};
+ghost use Rattle.std.specs.Prelude.{◌≡◌, ◌+◌, true, false, [], OnOk, OnErr, IfOk};
 ghost use Rattle.iv_types.specs.Faults.{Rose};
 ghost use Rattle.txn_machine.specs.Acts as act;
 ghost use Rattle.txn_machine.specs.Counts.{told_need};
@@ -9,6 +9,7 @@ ghost use Rattle.txn_machine.specs.State.{State, is_fault};
 ghost use Rattle.txn_machine.specs.Store.{committed};
 ghost use Rattle.txn_book.specs.Acts.{answer_of};
 ghost use Rattle.core_journal.specs.Records.{Records, Saved, restarted};
+ghost use Rattle.core_journal.specs.Cuts.{cut_of};
 ghost use Rattle.core_state.specs.Stands.{Began};
 ghost use Rattle.core_recording.specs.Giving.{IsSaved, CanGive, IsBehind, MayGiveUp};
 
@@ -28,9 +29,12 @@ fn write<M: SortedMaps, J: Checkpoints<M>>(
 ) -> Result<u64, DiskFault>
     requires { CanGive M.maps M.spare M.limit J.has J.limit core.old journal.old 0 act.Checkpoint }
     ensures ok { OnOk result (((s : State) (rs : Records) → Began M.maps M.spare M.limit core.old s 0 → IsBehind M.maps M.spare M.limit J.has J.limit core.old journal.old s.log rs → number ≡ (committed s.store).number
-        → (saved : Saved) × IsSaved s saved × J.has journal.new (restarted rs saved (block_bytes + 1 + log.carried s.store))) × (J.faults journal.new ≡ J.faults journal.old)) }
+        → (saved : Saved) × IsSaved s saved × J.has journal.new (restarted rs saved (block_bytes + 1 + log.carried s.store)) × J.leaves (J.medium journal.old) (J.medium journal.new) (cut_of rs) (record { saved = saved; records = [] })) × (J.faults (J.medium journal.new) ≡ J.faults (J.medium journal.old))) }
     ensures bytes { IfOk result (λ bytes. (s : State) → Began M.maps M.spare M.limit core.old s 0 → bytes ≡ told_need (log.carried s.store)) }
-    ensures err { OnErr result (Rose (J.faults journal.old) (J.faults journal.new)) }
+    ensures err { OnErr result (Rose (J.faults (J.medium journal.old)) (J.faults (J.medium journal.new))) }
+    // A crash behind a failure leaves what the medium had, or the checkpoint.
+    ensures left { OnErr result ((s : State) (rs : Records) → Began M.maps M.spare M.limit core.old s 0 → IsBehind M.maps M.spare M.limit J.has J.limit core.old journal.old s.log rs → number ≡ (committed s.store).number
+        → (saved : Saved) × IsSaved s saved × J.leaves (J.medium journal.old) (J.medium journal.new) (cut_of rs) (record { saved = saved; records = [] })) }
     ensures limit { J.limit journal.new ≡ J.limit journal.old }
     ensures began { (s : State) → Began M.maps M.spare M.limit core.old s 0 → Began M.maps M.spare M.limit core.new s 0 }
     ensures rest { core.new ≡ record core.old { store = record core.old.store { tables = core.new.store.tables } } }
@@ -49,9 +53,9 @@ fn write<M: SortedMaps, J: Checkpoints<M>>(
 #[tactic(none)]
 pub fn save<M: SortedMaps, J: Checkpoints<M>>(core: &mut CoreState<M>, journal: &mut J) -> Answer
     requires { CanGive M.maps M.spare M.limit J.has J.limit core.old journal.old 0 act.Checkpoint }
-    ensures gives { MayGiveUp M.maps M.spare M.limit J.has J.limit core.old journal.old 0 act.Checkpoint (answer_of result) core.new journal.new }
-    ensures faults { is_fault (answer_of result) ≡ false → J.faults journal.new ≡ J.faults journal.old }
-    ensures rose { is_fault (answer_of result) ≡ true → Rose (J.faults journal.old) (J.faults journal.new) }
+    ensures gives { MayGiveUp M.maps M.spare M.limit J.has J.limit J.medium J.leaves core.old journal.old 0 act.Checkpoint (answer_of result) core.new journal.new }
+    ensures faults { is_fault (answer_of result) ≡ false → J.faults (J.medium journal.new) ≡ J.faults (J.medium journal.old) }
+    ensures rose { is_fault (answer_of result) ≡ true → Rose (J.faults (J.medium journal.old)) (J.faults (J.medium journal.new)) }
 {
     core.book.book_law();
     let number = core.book.number();

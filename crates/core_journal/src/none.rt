@@ -1,5 +1,5 @@
 //! The journal of an engine without a disk.
-ghost use Rattle.core_journal.specs.NoJournal.{has_any, carries_any, limit_of, none_below};
+ghost use Rattle.core_journal.specs.NoJournal.{has_any, carries_any, stands_on_any, leaves_any, limit_of, none_below};
 
 use crate::journal::{Checkpoints, Journal};
 use iv_types::{Catalog, DiskFault, SortedMaps};
@@ -20,7 +20,15 @@ impl Journal for NoJournal {
 
     ghost limit = { limit_of };
 
+    ghost Medium = { Unit {0} };
+
+    ghost medium = { λ _. tt };
+
     ghost faults = { λ _. 0 };
+
+    ghost stands_on = { stands_on_any };
+
+    ghost leaves = { leaves_any };
 
     ghost counts_in = { λ _. none_below };
 

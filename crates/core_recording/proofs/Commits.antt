@@ -1,5 +1,6 @@
 -- A commit, of changes and of none.
 use Rattle.std.specs.Prelude.{◌≡◌, ◌≢◌, ◌<◌, ◌≤◌, ◌^◌, ℕ, ◌+◌, ◌*◌, Bool, true, false, List, [], ◌∷◌, length, Option, Some, None}
+use mathlib.Core.Logic.{inr}
 use mathlib.Core.Path.{refl, sym, ap, subst, ◌∙◌}
 use Rattle.std.proofs.Common.{arith}
 use Rattle.std.proofs.lemmas.Slice.Zip.{AllZip-long}
@@ -28,11 +29,12 @@ use Rattle.txn_book.specs.Books.{IsBook, number_of}
 use Rattle.txn_book.specs.Holding.{IsEntry}
 use Rattle.log_room.specs.Rooms.{AreCountedIn}
 use Rattle.core_journal.specs.Records.{Records, with_one, flushed_all, records_after}
+use Rattle.core_journal.specs.Cuts.{Cut, cut_of}
 use Rattle.core_state.specs.Stands.{Began, Told}
 use Rattle.core_state.specs.declared.state.CoreState.{CoreState}
 use Rattle.core_state.proofs.Sessions.{serial_to_commit}
 use Rattle.core_recording.specs.Appending.{CanAppend}
-use Rattle.core_recording.specs.Giving.{IsBehind, Gave, GaveUp}
+use Rattle.core_recording.specs.Giving.{IsBehind, LeavesOne, Gave, GaveUp}
 use Rattle.core_recording.proofs.Given.{one, ended, commit_gives, leave_gives}
 use Rattle.core_recording.proofs.Used.{small_next}
 
@@ -130,17 +132,32 @@ module _ {M J : Type 0} (maps : M → ℕ → Map) (spare : M → ℕ → ℕ) (
       let one : rs.used + (record_bytes (schema_of s.store) its_record + block_bytes) ≡ rs.used + record_bytes (schema_of s.store) its_record + block_bytes = omega arith in
       subst (Within (area journal)) one (room_left (record_bytes (schema_of s.store) its_record + block_bytes) (omega arith) rs behind)
 
+module _ {M J X : Type 0} (maps : M → ℕ → Map) (spare : M → ℕ → ℕ) (limit : M → Option ℕ) (has : J → Records → Type 0) (area : J → Option ℕ) (medium : J → X) (leaves : X → X → Cut → Cut → Type 0) (core : CoreState M) (journal : J) (s : State) (i : ℕ)
+    (began : Began maps spare limit core s i) (may : MayAct s.store i act.Commit) (some : changes_by s.store i ≢ []) where
+  -- its record under this number, on the disk with those that wait
+  abbrev with_it : ℕ → Records → Records
+  with_it number rs = flushed_all (with_one (schema_of s.store) (record { number = number; of = Commit (s.log.logged i).transaction ((committed s.store).number + 1) i }) rs)
+
+  -- a crash leaves what the medium had, or that
+  abbrev pub Left : J → Type 0
+  Left after = (rs : Records) → has journal rs → leaves (medium journal) (medium after) (cut_of rs) (cut_of (with_it core.next rs))
+
   -- it is flushed, and then done
-  pub gave_commit : (said : Answer) (then : CoreState M) (after : J) → (told : Told maps spare limit s i act.Commit said then)
-      → ((rs : Records) → has journal rs → has after (flushed_all (with_one (schema_of s.store) (record { number = core.next; of = its_record }) rs))) → area after ≡ area journal → Gave maps spare limit has area s i act.Commit said core journal then after
-  gave_commit said then after told given same = record {
+  pub gave_commit : (said : Answer) (then : CoreState M) (after : J) → (told : Told maps spare limit s i act.Commit said then) → ((rs : Records) → has journal rs → has after (with_it core.next rs)) → Left after → area after ≡ area journal
+      → Gave maps spare limit has area medium leaves s i act.Commit said core journal then after
+  gave_commit said then after told given left_one same = record {
     told = told;
     gave = λ rs behind.
-        subst (has after) ((λ x. flushed_all (with_one (schema_of s.store) (record { number = began.holds.next x; of = its_record }) rs)) ∙ sym (commit_told s i rs said told.effects told.no_fault some told.says)) (given rs behind.has_them);
+        subst (λ xs. has after xs × LeavesOne medium leaves journal after (cut_of rs) (cut_of xs)) ((λ x. with_it (began.holds.next x) rs) ∙ sym (commit_told s i rs said told.effects told.no_fault some told.says))
+        (given rs behind.has_them, inr (left_one rs behind.has_them));
     same_limit = same;
   }
 
   -- or the disk failed, and nothing is done
-  pub gave_up : (after : J) → area after ≡ area journal
-      → GaveUp maps spare limit has area s i act.Commit (answer.Refused refusal.DiskFault) core journal core after
-  gave_up after same = record { said_is = refl; failed = record { began = began; says = (refl, some); appends = refl }; same_limit = same }
+  pub gave_up : (after : J) → Left after → area after ≡ area journal → GaveUp maps spare limit has area medium leaves s i act.Commit (answer.Refused refusal.DiskFault) core journal core after
+  gave_up after left_one same = record {
+    said_is = refl;
+    failed = record { began = began; says = (refl, some); appends = refl };
+    left = λ rs behind. inr (subst (λ n. leaves (medium journal) (medium after) (cut_of rs) (cut_of (with_it n rs))) began.holds.next (left_one rs behind.has_them));
+    same_limit = same;
+  }

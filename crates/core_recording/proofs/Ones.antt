@@ -1,5 +1,6 @@
 -- An act that gives one record, after it was done.
 use Rattle.std.specs.Prelude.{◌≡◌, ◌≤◌, ◌^◌, ℕ, List, ◌∷◌, Option}
+use mathlib.Core.Logic.{inl}
 use mathlib.Core.Path.{sym, subst, ◌∙◌}
 use Rattle.iv_types.specs.Maps.{Map}
 use Rattle.iv_types.specs.declared.refusal.EngineRefusal.TheVariants as refusal
@@ -18,11 +19,12 @@ use Rattle.log_records.specs.declared.record.Record as bytes
 use Rattle.log_records.specs.Spelling.{IsShort}
 use Rattle.log_disk.specs.Spelled.{in_bytes}
 use Rattle.core_journal.specs.Records.{Records, with_one, with_perhaps, records_after}
+use Rattle.core_journal.specs.Cuts.{Cut, cut_of}
 use Rattle.core_recording.proofs.Plain.{IsPlain, plain_gives}
 use Rattle.core_state.specs.Stands.{Began, Told}
 use Rattle.core_state.specs.declared.state.CoreState.{CoreState}
 use Rattle.core_recording.specs.Appending.{CanAppend}
-use Rattle.core_recording.specs.Giving.{IsSaved, IsBehind, IsUngiven, Gave}
+use Rattle.core_recording.specs.Giving.{IsSaved, IsBehind, IsUngiven, LeavesOne, Gave}
 use Rattle.core_recording.proofs.Given.{one, ended, undo_gives, end_gives}
 use Rattle.core_recording.proofs.Used.{told_within, next_small, limit_stays, image_stays}
 
@@ -58,25 +60,6 @@ module _ {M J : Type 0} (maps : M → ℕ → Map) (spare : M → ℕ → ℕ) (
         room = subst (λ (xs : Records). Within (area journal) xs.used) gives within;
       }
 
-  -- the journal has it then
-  pub gave_one : (r : Record) (lent : bytes.Record) (after : J) → ((rs : Records) → records_after s i a said told.effects rs ≡ with_one (schema_of s.store) (record { number = s.log.next; of = r }) rs) → lent ≡ in_bytes (schema_of s.store) r
-      → ((objects : Schema) (x : Record) (rs : Records) → lent ≡ in_bytes objects x → has journal rs → has after (with_one objects (record { number = core.next; of = x }) rs)) → area after ≡ area journal
-      → IsPlain a → Gave maps spare limit has area s i a said core journal then after
-  gave_one r lent after gives is given same plain = record {
-    told = told;
-    gave = λ rs behind. plain_gives (has after) (IsSaved s) a said _ plain (subst (has after) ((λ x. with_one (schema_of s.store) (record { number = began.holds.next x; of = r }) rs) ∙ sym (gives rs)) (given (schema_of s.store) r rs is behind.has_them));
-    same_limit = same;
-  }
-
-  -- and one that is given perhaps
-  pub gave_perhaps : (r : Option Record) (after : J) → ((rs : Records) → records_after s i a said told.effects rs ≡ with_perhaps (schema_of s.store) s.log.next r rs)
-      → ((objects : Schema) (rs : Records) → has journal rs → has after (with_perhaps objects core.next r rs)) → area after ≡ area journal → IsPlain a → Gave maps spare limit has area s i a said core journal then after
-  gave_perhaps r after gives given same plain = record {
-    told = told;
-    gave = λ rs behind. plain_gives (has after) (IsSaved s) a said _ plain (subst (has after) ((λ x. with_perhaps (schema_of s.store) (began.holds.next x) r rs) ∙ sym (gives rs)) (given (schema_of s.store) rs behind.has_them));
-    same_limit = same;
-  }
-
   -- its record is not given yet
   abbrev pub still_ungiven : MayAct s.store i a → (rs : Records) → IsBehind maps spare limit has area core journal s.log rs → IsUngiven maps spare limit has area then journal i a said
   still_ungiven may rs behind = record {
@@ -87,5 +70,28 @@ module _ {M J : Type 0} (maps : M → ℕ → Map) (spare : M → ℕ → ℕ) (
     behind = record { has_them = behind.has_them; used = behind.used; same_limit = behind.same_limit ∙ sym (limit_stays maps spare limit s i a said then told core began); same_image = behind.same_image ∙ sym (image_stays maps spare limit s i a said then told core began) };
   }
 
-  pub gave_all : (after : J) → ((rs : Records) → has journal rs → has after (records_after s i a said told.effects rs)) → area after ≡ area journal → IsPlain a → Gave maps spare limit has area s i a said core journal then after
-  gave_all after given same plain = record { told = told; gave = λ rs behind. plain_gives (has after) (IsSaved s) a said _ plain (given rs behind.has_them); same_limit = same }
+-- ---- the journal has it then, and nothing was written
+
+module _ {M J X : Type 0} (maps : M → ℕ → Map) (spare : M → ℕ → ℕ) (limit : M → Option ℕ) (has : J → Records → Type 0) (area : J → Option ℕ) (medium : J → X) (leaves : X → X → Cut → Cut → Type 0) (core : CoreState M) (journal : J) (s : State) (i : ℕ) (a : Act) (said : Answer)
+    (then : CoreState M) (began : Began maps spare limit core s i) (told : Told maps spare limit s i a said then) where
+  pub gave_all : (after : J) → ((rs : Records) → has journal rs → has after (records_after s i a said told.effects rs)) → area after ≡ area journal → medium after ≡ medium journal → IsPlain a
+      → Gave maps spare limit has area medium leaves s i a said core journal then after
+  gave_all after given same still plain = record {
+    told = told;
+    gave = λ rs behind. plain_gives (λ xs. has after xs × LeavesOne medium leaves journal after (cut_of rs) (cut_of xs)) (IsSaved s) a said _ plain (given rs behind.has_them, inl still);
+    same_limit = same;
+  }
+
+  -- a record that is given
+  pub gave_one : (r : Record) (lent : bytes.Record) (after : J) → ((rs : Records) → records_after s i a said told.effects rs ≡ with_one (schema_of s.store) (record { number = s.log.next; of = r }) rs) → lent ≡ in_bytes (schema_of s.store) r
+      → ((objects : Schema) (x : Record) (rs : Records) → lent ≡ in_bytes objects x → has journal rs → has after (with_one objects (record { number = core.next; of = x }) rs)) → area after ≡ area journal → medium after ≡ medium journal
+      → IsPlain a → Gave maps spare limit has area medium leaves s i a said core journal then after
+  gave_one r lent after gives is given same still plain =
+      gave_all after (λ rs mine. subst (has after) ((λ x. with_one (schema_of s.store) (record { number = began.holds.next x; of = r }) rs) ∙ sym (gives rs)) (given (schema_of s.store) r rs is mine)) same still plain
+
+  -- and one that is given perhaps
+  pub gave_perhaps : (r : Option Record) (after : J) → ((rs : Records) → records_after s i a said told.effects rs ≡ with_perhaps (schema_of s.store) s.log.next r rs)
+      → ((objects : Schema) (rs : Records) → has journal rs → has after (with_perhaps objects core.next r rs)) → area after ≡ area journal → medium after ≡ medium journal → IsPlain a
+      → Gave maps spare limit has area medium leaves s i a said core journal then after
+  gave_perhaps r after gives given same still plain =
+      gave_all after (λ rs mine. subst (has after) ((λ x. with_perhaps (schema_of s.store) (began.holds.next x) r rs) ∙ sym (gives rs)) (given (schema_of s.store) rs mine)) same still plain

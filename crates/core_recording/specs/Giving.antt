@@ -1,7 +1,7 @@
 -- No clause of `run` rests on this module: it serves contracts between crates.
 --
 -- What an act gives to the journal.
-use Rattle.std.specs.Prelude.{◌≡◌, ◌⊎◌, ℕ, ◌≤◌, ◌^◌, List, Option}
+use Rattle.std.specs.Prelude.{◌≡◌, ◌⊎◌, ℕ, ◌≤◌, ◌^◌, List, [], Option}
 use Rattle.iv_types.specs.Maps.{Map}
 use Rattle.iv_types.specs.declared.refusal.EngineRefusal.TheVariants.{DiskFault}
 use Rattle.iv_meaning.specs.Escrow.{IsSession}
@@ -19,6 +19,7 @@ use Rattle.ghost_rows.specs.State as views
 use Rattle.data_store.specs.Contents.{contents_of}
 use Rattle.data_store.specs.Held.{IsHeld}
 use Rattle.core_journal.specs.Records.{Records, Saved, records_after, GivesTo}
+use Rattle.core_journal.specs.Cuts.{Cut, cut_of, MayHave}
 use Rattle.definition_parts.specs.Parts.{HasTexts}
 use Rattle.core_state.specs.Stands.{Began, Told, Failed}
 use Rattle.core_state.specs.declared.state.CoreState.{CoreState}
@@ -62,17 +63,24 @@ module _ {M J : Type 0} (maps : M → ℕ → Map) (spare : M → ℕ → ℕ) (
     pub records : Records
     pub behind : IsBehind core journal state.log records
 
-  -- what is told of an act, and the journal has the records of its effects beside those that it had, or after a checkpoint what that
-  -- saves
+-- nothing was written, or a crash at any moment of it leaves one of these two
+abbrev pub LeavesOne : {J X : Type 0} → (medium : J → X) → (leaves : X → X → Cut → Cut → Type 0) → J → J → Cut → Cut → Type 0
+LeavesOne medium leaves journal after x y = (medium after ≡ medium journal) ⊎ leaves (medium journal) (medium after) x y
+
+module _ {M J X : Type 0} (maps : M → ℕ → Map) (spare : M → ℕ → ℕ) (limit : M → Option ℕ) (has : J → Records → Type 0) (area : J → Option ℕ) (medium : J → X) (leaves : X → X → Cut → Cut → Type 0) where
+  -- What is told of an act, and the journal has the records of its effects beside those that it had, or after a checkpoint what that
+  -- saves. A crash on the way leaves what the medium had, or what it has then.
   pub record Gave (s : State) (session : ℕ) (a : Act) (said : Answer) (core : CoreState M) (journal : J) (then : CoreState M) (after : J) : Type 0 where
     pub told : Told maps spare limit s session a said then
-    pub gave : (rs : Records) → IsBehind core journal s.log rs → GivesTo (has after) (IsSaved s) a said (records_after s session a said told.effects rs)
+    pub gave : (rs : Records) → IsBehind maps spare limit has area core journal s.log rs
+        → GivesTo (λ xs. has after xs × LeavesOne medium leaves journal after (cut_of rs) (cut_of xs)) (IsSaved s) a said (records_after s session a said told.effects rs)
     pub same_limit : area after ≡ area journal
 
-  -- the disk failed: nothing is changed, and what the journal has is not told
+  -- The disk failed: nothing is changed, and what the journal has is not told. A crash leaves what the medium had, or what it was to have.
   pub record GaveUp (s : State) (session : ℕ) (a : Act) (said : Answer) (core : CoreState M) (journal : J) (then : CoreState M) (after : J) : Type 0 where
     pub said_is : said ≡ Refused DiskFault
     pub failed : Failed maps spare limit s session a then
+    pub left : (rs : Records) → IsBehind maps spare limit has area core journal s.log rs → MayHave (LeavesOne medium leaves journal after (cut_of rs)) (IsSaved s) a (records_after s session a said [] rs)
     pub same_limit : area after ≡ area journal
 
   -- one or the other

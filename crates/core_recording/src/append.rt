@@ -7,6 +7,7 @@ ghost use Rattle.txn_machine.specs.Records.{Record, Abort, record_bytes};
 ghost use Rattle.log_records.specs.Lent.{stands_for};
 ghost use Rattle.log_disk.specs.Spelled.{in_bytes};
 ghost use Rattle.core_journal.specs.Records.{Records, with_one, with_perhaps, flushed_all};
+ghost use Rattle.core_journal.specs.Cuts.{cut_of};
 ghost use Rattle.core_recording.specs.Appending.{CanAppend};
 
 use core_journal::Journal;
@@ -19,7 +20,7 @@ pub fn give<J: Journal>(journal: &mut J, number: u64, lent: LentRecord<'_>)
     requires { (objects : Schema) × (r : Record) × (rs : Records) × (stands_for lent ≡ in_bytes objects r) × J.has journal.old rs × CanAppend (J.limit journal.old) objects number r rs }
     ensures has { (objects : Schema) (r : Record) (rs : Records) → stands_for lent.entry ≡ in_bytes objects r → J.has journal.old rs → J.has journal.new (with_one objects (record { number = number; of = r }) rs) }
     ensures limit { J.limit journal.new ≡ J.limit journal.old }
-    ensures faults { J.faults journal.new ≡ J.faults journal.old }
+    ensures medium { J.medium journal.new ≡ J.medium journal.old }
 {
     journal.append(number, lent);
 }
@@ -30,7 +31,7 @@ pub(crate) fn give_abort<J: Journal>(journal: &mut J, wrote: bool, number: u64, 
     requires { wrote ≡ true → (objects : Schema) × (rs : Records) × J.has journal.old rs × CanAppend (J.limit journal.old) objects number (Abort transaction) rs }
     ensures has { (objects : Schema) (rs : Records) → J.has journal.old rs → J.has journal.new (with_perhaps objects number (cond wrote (Some (Abort transaction)) None) rs) }
     ensures limit { J.limit journal.new ≡ J.limit journal.old }
-    ensures faults { J.faults journal.new ≡ J.faults journal.old }
+    ensures medium { J.medium journal.new ≡ J.medium journal.old }
 {
     if !wrote {
         return;
@@ -50,8 +51,10 @@ pub fn give_and_flush<J: Journal>(
     lent: LentRecord<'_>,
 ) -> Result<(), DiskFault>
     requires { (objects : Schema) × (r : Record) × (rs : Records) × (stands_for lent ≡ in_bytes objects r) × J.has journal.old rs × CanAppend (J.limit journal.old) objects number r rs × Within (J.limit journal.old) (rs.used + record_bytes objects r + block_bytes) }
-    ensures ok { OnOk result (((objects : Schema) (r : Record) (rs : Records) → stands_for lent.entry ≡ in_bytes objects r → J.has journal.old rs → J.has journal.new (flushed_all (with_one objects (record { number = number; of = r }) rs))) × (J.faults journal.new ≡ J.faults journal.old)) }
-    ensures err { OnErr result (Rose (J.faults journal.old) (J.faults journal.new)) }
+    ensures ok { OnOk result (((objects : Schema) (r : Record) (rs : Records) → stands_for lent.entry ≡ in_bytes objects r → J.has journal.old rs → J.has journal.new (flushed_all (with_one objects (record { number = number; of = r }) rs))) × (J.faults (J.medium journal.new) ≡ J.faults (J.medium journal.old))) }
+    ensures err { OnErr result (Rose (J.faults (J.medium journal.old)) (J.faults (J.medium journal.new))) }
+    // A crash at any moment leaves what the medium had, or the records with all that waited.
+    ensures any_moment { (objects : Schema) (r : Record) (rs : Records) → stands_for lent.entry ≡ in_bytes objects r → J.has journal.old rs → J.leaves (J.medium journal.old) (J.medium journal.new) (cut_of rs) (cut_of (flushed_all (with_one objects (record { number = number; of = r }) rs))) }
     ensures limit { J.limit journal.new ≡ J.limit journal.old }
 {
     give(journal, number, lent);

@@ -25,8 +25,8 @@ pub fn end<M: SortedMaps, J: Journal>(
     session: u32,
 ) -> Answer
     requires { CanGive M.maps M.spare M.limit J.has J.limit core.old journal.old session act.End }
-    ensures gives { Gives M.maps M.spare M.limit J.has J.limit core.old journal.old session act.End (answer_of result) core.new journal.new }
-    ensures faults { J.faults journal.new ≡ J.faults journal.old }
+    ensures gives { Gives M.maps M.spare M.limit J.has J.limit J.medium J.leaves core.old journal.old session act.End (answer_of result) core.new journal.new }
+    ensures medium { J.medium journal.new ≡ J.medium journal.old }
 {
     let number = core.next;
     let txn = core.open_of(session);
@@ -57,9 +57,9 @@ fn commit_changes<M: SortedMaps, J: Journal>(
 ) -> Answer
     requires { (q : CanGive M.maps M.spare M.limit J.has J.limit core.old journal.old session act.Commit) × (changes_by q.state.store session ≢ []) }
     ensures gives { (s : State) → Began M.maps M.spare M.limit core.old s session → MayAct s.store session act.Commit → changes_by s.store session ≢ []
-        → Gave M.maps M.spare M.limit J.has J.limit s session act.Commit (answer_of result) core.old journal.old core.new journal.new ⊎ GaveUp M.maps M.spare M.limit J.has J.limit s session act.Commit (answer_of result) core.old journal.old core.new journal.new }
-    ensures faults { is_fault (answer_of result) ≡ false → J.faults journal.new ≡ J.faults journal.old }
-    ensures rose { is_fault (answer_of result) ≡ true → Rose (J.faults journal.old) (J.faults journal.new) }
+        → Gave M.maps M.spare M.limit J.has J.limit J.medium J.leaves s session act.Commit (answer_of result) core.old journal.old core.new journal.new ⊎ GaveUp M.maps M.spare M.limit J.has J.limit J.medium J.leaves s session act.Commit (answer_of result) core.old journal.old core.new journal.new }
+    ensures faults { is_fault (answer_of result) ≡ false → J.faults (J.medium journal.new) ≡ J.faults (J.medium journal.old) }
+    ensures rose { is_fault (answer_of result) ≡ true → Rose (J.faults (J.medium journal.old)) (J.faults (J.medium journal.new)) }
 {
     let number = core.next;
     let txn = core.open_of(session);
@@ -80,8 +80,8 @@ fn commit_none<M: SortedMaps, J: Journal>(
 ) -> Answer
     requires { (q : CanGive M.maps M.spare M.limit J.has J.limit core.old journal.old session act.Commit) × (changes_by q.state.store session ≡ []) }
     ensures gives { (s : State) → Began M.maps M.spare M.limit core.old s session → MayAct s.store session act.Commit → changes_by s.store session ≡ []
-        → Gave M.maps M.spare M.limit J.has J.limit s session act.Commit (answer_of result) core.old journal.old core.new journal.new }
-    ensures faults { J.faults journal.new ≡ J.faults journal.old }
+        → Gave M.maps M.spare M.limit J.has J.limit J.medium J.leaves s session act.Commit (answer_of result) core.old journal.old core.new journal.new }
+    ensures medium { J.medium journal.new ≡ J.medium journal.old }
     ensures fine { is_fault (answer_of result) ≡ false }
 {
     let number = core.next;
@@ -103,9 +103,9 @@ pub fn commit<M: SortedMaps, J: Journal>(
     session: u32,
 ) -> Answer
     requires { CanGive M.maps M.spare M.limit J.has J.limit core.old journal.old session act.Commit }
-    ensures gives { MayGiveUp M.maps M.spare M.limit J.has J.limit core.old journal.old session act.Commit (answer_of result) core.new journal.new }
-    ensures faults { is_fault (answer_of result) ≡ false → J.faults journal.new ≡ J.faults journal.old }
-    ensures rose { is_fault (answer_of result) ≡ true → Rose (J.faults journal.old) (J.faults journal.new) }
+    ensures gives { MayGiveUp M.maps M.spare M.limit J.has J.limit J.medium J.leaves core.old journal.old session act.Commit (answer_of result) core.new journal.new }
+    ensures faults { is_fault (answer_of result) ≡ false → J.faults (J.medium journal.new) ≡ J.faults (J.medium journal.old) }
+    ensures rose { is_fault (answer_of result) ≡ true → Rose (J.faults (J.medium journal.old)) (J.faults (J.medium journal.new)) }
 {
     core.book.book_law();
     if core.open_of(session).puts > 0 {

@@ -53,7 +53,7 @@ fn give_made<M: SortedMaps, J: Journal>(
     ensures gave { (s : State) (may : MayAct s.store session act.Ghost) → number ≡ s.log.next → was_there ≡ is_some (get s.store.view (place_of may.0.first)) → (told : Told M.maps M.spare M.limit s session act.Ghost (answer_of said.now) core.now) → (rs : Records) → J.has journal.old rs
         → J.has journal.new (records_after s session act.Ghost (answer_of said.now) told.effects rs) }
     ensures limit { J.limit journal.new ≡ J.limit journal.old }
-    ensures faults { J.faults journal.new ≡ J.faults journal.old }
+    ensures medium { J.medium journal.new ≡ J.medium journal.old }
 {
     short_law();
     let made = has_made(was_there, said);
@@ -76,10 +76,10 @@ pub fn make_ghost<M: SortedMaps, J: Journal>(
     session: u32,
 ) -> Result<Answer, NoMemory>
     requires { CanGive M.maps M.spare M.limit J.has J.limit core.old journal.old session act.Ghost }
-    ensures gives { IfOk result (λ said. Gives M.maps M.spare M.limit J.has J.limit core.old journal.old session act.Ghost (answer_of said) core.new journal.new) }
+    ensures gives { IfOk result (λ said. Gives M.maps M.spare M.limit J.has J.limit J.medium J.leaves core.old journal.old session act.Ghost (answer_of said) core.new journal.new) }
     ensures err { OnErr result ((s : State) → Began M.maps M.spare M.limit core.old s session → MayAct s.store session act.Ghost → Began M.maps M.spare M.limit core.new s session) }
     ensures ungiven { OnErr result (journal.new ≡ journal.old) }
-    ensures faults { J.faults journal.new ≡ J.faults journal.old }
+    ensures medium { J.medium journal.new ≡ J.medium journal.old }
 {
     let number = core.next;
     let was_there = has_row(core, session);

@@ -38,7 +38,7 @@ fn give_kept<M: SortedMaps, J: Journal>(
     ensures gave { (s : State) (a : Act) → MayKeep a → MayAct s.store session a → (told : Told M.maps M.spare M.limit s session a (answer_of said.now) core.now) → (rs : Records) → J.has journal.old rs
         → J.has journal.new (records_after s session a (answer_of said.now) told.effects rs) }
     ensures limit { J.limit journal.new ≡ J.limit journal.old }
-    ensures faults { J.faults journal.new ≡ J.faults journal.old }
+    ensures medium { J.medium journal.new ≡ J.medium journal.old }
 {
     short_law();
     let kept = has_kept(said);
@@ -63,10 +63,10 @@ pub fn put<M: SortedMaps, J: Journal>(
     new: &Option<Row>,
 ) -> Result<Answer, NoMemory>
     requires { CanGive M.maps M.spare M.limit J.has J.limit core.old journal.old session (act.Put table key.now new.now) }
-    ensures gives { IfOk result (λ said. Gives M.maps M.spare M.limit J.has J.limit core.old journal.old session (act.Put table key.now new.now) (answer_of said) core.new journal.new) }
+    ensures gives { IfOk result (λ said. Gives M.maps M.spare M.limit J.has J.limit J.medium J.leaves core.old journal.old session (act.Put table key.now new.now) (answer_of said) core.new journal.new) }
     ensures err { OnErr result ((s : State) → Began M.maps M.spare M.limit core.old s session → MayAct s.store session (act.Put table key.now new.now) → Began M.maps M.spare M.limit core.new s session) }
     ensures ungiven { OnErr result (journal.new ≡ journal.old) }
-    ensures faults { J.faults journal.new ≡ J.faults journal.old }
+    ensures medium { J.medium journal.new ≡ J.medium journal.old }
 {
     let said = changes::put(core, session, table, key, new)?;
     give_kept(core, journal, session, &said);
@@ -82,8 +82,8 @@ pub fn pay<M: SortedMaps, J: Journal>(
     session: u32,
 ) -> Answer
     requires { CanGive M.maps M.spare M.limit J.has J.limit core.old journal.old session act.Pay }
-    ensures gives { Gives M.maps M.spare M.limit J.has J.limit core.old journal.old session act.Pay (answer_of result) core.new journal.new }
-    ensures faults { J.faults journal.new ≡ J.faults journal.old }
+    ensures gives { Gives M.maps M.spare M.limit J.has J.limit J.medium J.leaves core.old journal.old session act.Pay (answer_of result) core.new journal.new }
+    ensures medium { J.medium journal.new ≡ J.medium journal.old }
 {
     let said = pays::pay(core, session);
     give_kept(core, journal, session, &said);

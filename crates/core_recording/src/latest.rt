@@ -33,7 +33,7 @@ pub fn give_latest<M: SortedMaps, J: Journal>(core: &CoreState<M>, journal: &mut
     ensures has { (s : Store) (l : Log) (texts : Texts) (rs : Records) (k : Step) (h : KeepsLatest s l session k) → Holds M.maps M.spare M.limit core.now s l texts → J.has journal.old rs
         → J.has journal.new (with_one (schema_of s) (record { number = h.number; of = kept_record (l.logged session).transaction k }) rs) }
     ensures limit { J.limit journal.new ≡ J.limit journal.old }
-    ensures faults { J.faults journal.new ≡ J.faults journal.old }
+    ensures medium { J.medium journal.new ≡ J.medium journal.old }
 {
     let txn = core.open_of(session);
     let step = latest_of(txn);

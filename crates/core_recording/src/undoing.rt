@@ -37,8 +37,8 @@ pub fn undo_one<M: SortedMaps, J: Journal>(
     session: u32,
 ) -> Answer
     requires { CanGive M.maps M.spare M.limit J.has J.limit core.old journal.old session act.UndoOne }
-    ensures gives { Gives M.maps M.spare M.limit J.has J.limit core.old journal.old session act.UndoOne (answer_of result) core.new journal.new }
-    ensures faults { J.faults journal.new ≡ J.faults journal.old }
+    ensures gives { Gives M.maps M.spare M.limit J.has J.limit J.medium J.leaves core.old journal.old session act.UndoOne (answer_of result) core.new journal.new }
+    ensures medium { J.medium journal.new ≡ J.medium journal.old }
 {
     let number = core.next;
     let undone = undo_of_latest(core, session);

@@ -1,5 +1,5 @@
 -- A definition is entered.
-use Rattle.std.specs.Prelude.{◌≡◌, ℕ, suc, ◌+◌, ◌-◌, ◌<◌, ◌≤◌, ◌^◌, min, List, [], ◌∷◌, ◌++◌, map, length, slice_get, Option, None, Some}
+use Rattle.std.specs.Prelude.{◌≡◌, ℕ, suc, ◌+◌, ◌≤◌, List, [], ◌∷◌, ◌++◌, map, length, slice_get, Option, None, Some}
 use Rattle.std.specs.List.{sum}
 use Rattle.std.specs.Option.{option_and_then}
 use mathlib.Core.Path.{refl, sym, ap, subst, ◌∙◌}
@@ -23,7 +23,7 @@ use Rattle.txn_machine.specs.Counts.{entry_size, definition_size, definition_siz
 use Rattle.txn_machine.specs.Fresh.{fresh, made_of}
 use Rattle.txn_machine.specs.Ghosts.{the_views}
 use Rattle.txn_machine.specs.Keeping.{Open}
-use Rattle.txn_machine.specs.Log.{Logged, logs, definition_entries}
+use Rattle.txn_machine.specs.Log.{Logged, logs}
 use Rattle.txn_machine.specs.State.{State}
 use Rattle.txn_machine.specs.Steps.{DefinesIt, history_bytes, texts_of}
 use Rattle.txn_machine.specs.Store.{Store, committed, schema_of, locks_of, Defines, does}

@@ -1,7 +1,7 @@
 -- The record of a definition: that there is room for it, and what is given.
 use Rattle.std.specs.Prelude.{◌≡◌, ◌≤◌, ◌^◌, ℕ, ◌+◌, true, false, List, [], ◌∷◌, Option, Some, None}
 use mathlib.Core.Path.{refl, sym, ap, subst, ◌∙◌}
-use mathlib.Core.Logic.{inl}
+use mathlib.Core.Logic.{inl, inr}
 use Rattle.std.proofs.Common.{arith}
 use Rattle.iv_types.specs.Maps.{Map}
 use Rattle.iv_types.specs.Printing.{statement_text}
@@ -21,11 +21,12 @@ use Rattle.txn_machine.specs.State.{State, is_fault}
 use Rattle.txn_machine.specs.Steps.{Says, DefinesIt}
 use Rattle.txn_machine.specs.Store.{Effect, Defines, committed, schema_of}
 use Rattle.core_journal.specs.Records.{Records, with_one, flushed_all, recorded_all, records_after}
+use Rattle.core_journal.specs.Cuts.{Cut, cut_of}
 use Rattle.core_state.specs.Stands.{Began, Told}
 use Rattle.core_state.specs.declared.state.CoreState.{CoreState}
 use Rattle.core_state.proofs.Logged.{log_limit_of}
 use Rattle.core_recording.specs.Appending.{CanAppend}
-use Rattle.core_recording.specs.Giving.{IsBehind, Gave, GaveUp, Did}
+use Rattle.core_recording.specs.Giving.{IsBehind, LeavesOne, Gave, GaveUp, Did}
 use Rattle.core_recording.proofs.Used.{small_next}
 use Rattle.core_schema.specs.Making.{MayEnter, IsReady}
 use Rattle.core_schema.proofs.Entered.{defines_it}
@@ -60,16 +61,6 @@ pub at_number : {M : Type 0} (maps : M → ℕ → Map) (spare : M → ℕ → �
 at_number maps spare limit {s = s} {core = core} {i = i} {statement = statement} {first = first} {parts = parts} {changes = changes} {need = need} e r = subst (λ k. IsReady maps spare limit s core i statement k first parts changes need) (sym e) r
 
 module _ {M J : Type 0} (maps : M → ℕ → Map) (spare : M → ℕ → ℕ) (limit : M → Option ℕ) (has : J → Records → Type 0) (area : J → Option ℕ) (core : CoreState M) (journal : J) (s : State) (i : ℕ) (statement : StatementTree) where
-  -- what was told where nothing was defined gives nothing
-  pub left_alone : (said : Answer) → IsLeft said → Told maps spare limit s i (act.Schema statement) said core → Did maps spare limit has area s i (act.Schema statement) said core journal core journal
-  left_alone said left told = inl (record {
-    told = told;
-    gave = λ rs behind. subst (has journal) (sym (no_records s i statement rs said told.effects left told.no_fault told.says)) behind.has_them;
-    same_limit = refl;
-  })
-
-  -- ---- a definition
-
   abbrev pub its_record : Record
   its_record = Definition ((committed s.store).number + 1) i (statement_text statement)
 
@@ -96,25 +87,46 @@ module _ {M J : Type 0} (maps : M → ℕ → Map) (spare : M → ℕ → ℕ) (
         let one : rs.used + (record_bytes (schema_of s.store) its_record + block_bytes) ≡ rs.used + record_bytes (schema_of s.store) its_record + block_bytes = omega arith in
         subst (Within (area journal)) one (room_left (record_bytes (schema_of s.store) its_record + block_bytes) (omega arith) rs behind)
 
+module _ {M J X : Type 0} (maps : M → ℕ → Map) (spare : M → ℕ → ℕ) (limit : M → Option ℕ) (has : J → Records → Type 0) (area : J → Option ℕ) (medium : J → X) (leaves : X → X → Cut → Cut → Type 0) (core : CoreState M) (journal : J) (s : State) (i : ℕ)
+    (statement : StatementTree) where
+  -- what was told where nothing was defined gives nothing
+  pub left_alone : (said : Answer) → IsLeft said → Told maps spare limit s i (act.Schema statement) said core → Did maps spare limit has area medium leaves s i (act.Schema statement) said core journal core journal
+  left_alone said left told = inl (record {
+    told = told;
+    gave = λ rs behind. (subst (has journal) (sym (no_records s i statement rs said told.effects left told.no_fault told.says)) behind.has_them, inl refl);
+    same_limit = refl;
+  })
+
+  -- ---- a definition
+
+  -- its record under this number, on the disk with those that wait
+  abbrev with_it : ℕ → Records → Records
+  with_it number rs = flushed_all (with_one (schema_of s.store) (record { number = number; of = Definition ((committed s.store).number + 1) i (statement_text statement) }) rs)
+
+  -- a crash leaves what the medium had, or that
+  abbrev pub Left : J → Type 0
+  Left after = (rs : Records) → has journal rs → leaves (medium journal) (medium after) (cut_of rs) (cut_of (with_it core.next rs))
+
+  module _ (d : AnyDefinition) (first : List IndexEntry) (text : List ℕ) (need : ℕ) (m : MayEnter maps spare limit s core i statement d first text need) where
     -- it is flushed, and then entered
-    pub gave_definition : (number : ℕ) (then : CoreState M) (after : J) → (told : Told maps spare limit s i (act.Schema statement) (answer.Committed number) then)
-        → ((rs : Records) → has journal rs → has after (flushed_all (with_one (schema_of s.store) (record { number = core.next; of = its_record }) rs))) → area after ≡ area journal
-        → Gave maps spare limit has area s i (act.Schema statement) (answer.Committed number) core journal then after
-    gave_definition number then after told given same =
+    pub gave_definition : (number : ℕ) (then : CoreState M) (after : J) → (told : Told maps spare limit s i (act.Schema statement) (answer.Committed number) then) → ((rs : Records) → has journal rs → has after (with_it core.next rs)) → Left after → area after ≡ area journal
+        → Gave maps spare limit has area medium leaves s i (act.Schema statement) (answer.Committed number) core journal then after
+    gave_definition number then after told given left_one same =
         let says : DefinesIt s statement number told.effects = told.says in
         record {
           told = told;
           gave = λ rs behind.
-              subst (has after) ((λ x. flushed_all (with_one (schema_of s.store) (record { number = m.may.began.holds.next x; of = its_record }) rs))
-              ∙ sym (ap (λ (xs : List Effect). recorded_all s.store i (act.Schema statement) xs s.log rs) says.effects)) (given rs behind.has_them);
+              subst (λ xs. has after xs × LeavesOne medium leaves journal after (cut_of rs) (cut_of xs)) ((λ x. with_it (m.may.began.holds.next x) rs) ∙ sym (ap (λ (xs : List Effect). recorded_all s.store i (act.Schema statement) xs s.log rs) says.effects))
+              (given rs behind.has_them, inr (left_one rs behind.has_them));
           same_limit = same;
         }
 
     -- or the disk failed, and nothing is defined
-    pub gave_up : (then : CoreState M) (after : J) → Began maps spare limit then s i → area after ≡ area journal
-        → GaveUp maps spare limit has area s i (act.Schema statement) (answer.Refused refusal.DiskFault) core journal then after
-    gave_up then after began same = record {
+    pub gave_up : (then : CoreState M) (after : J) → Began maps spare limit then s i → Left after → area after ≡ area journal
+        → GaveUp maps spare limit has area medium leaves s i (act.Schema statement) (answer.Refused refusal.DiskFault) core journal then after
+    gave_up then after began left_one same = record {
       said_is = refl;
       failed = record { began = began; says = (refl, (committed s.store).number + 1, Defines (object_of d) ∷ [], defines_it maps spare limit s i statement d first text need core m ((committed s.store).number + 1) refl); appends = refl };
+      left = λ rs behind. inr (subst (λ n. leaves (medium journal) (medium after) (cut_of rs) (cut_of (with_it n rs))) m.may.began.holds.next (left_one rs behind.has_them));
       same_limit = same;
     }

@@ -64,9 +64,9 @@ fn enter_kept<M: SortedMaps, J: Journal>(
 ) -> Result<Answer, NoMemory>
     requires { (s : State) × (statement : StatementTree) × (rs : Records) × MayKeep M.maps M.spare M.limit s core.old session statement definition first text × IsBehind M.maps M.spare M.limit J.has J.limit core.old journal.old s.log rs }
     ensures did { IfOk result (λ said. (s : State) (statement : StatementTree) → MayKeep M.maps M.spare M.limit s core.old session statement definition first text
-        → Did M.maps M.spare M.limit J.has J.limit s session (act.Schema statement) (answer_of said) core.old journal.old core.new journal.new) }
-    ensures faults { IfOk result (λ said. is_fault (answer_of said) ≡ false → J.faults journal.new ≡ J.faults journal.old) }
-    ensures rose { IfOk result (λ said. is_fault (answer_of said) ≡ true → Rose (J.faults journal.old) (J.faults journal.new)) }
+        → Did M.maps M.spare M.limit J.has J.limit J.medium J.leaves s session (act.Schema statement) (answer_of said) core.old journal.old core.new journal.new) }
+    ensures faults { IfOk result (λ said. is_fault (answer_of said) ≡ false → J.faults (J.medium journal.new) ≡ J.faults (J.medium journal.old)) }
+    ensures rose { IfOk result (λ said. is_fault (answer_of said) ≡ true → Rose (J.faults (J.medium journal.old)) (J.faults (J.medium journal.new))) }
     ensures err { OnErr result ((s : State) → Began M.maps M.spare M.limit core.old s session → Began M.maps M.spare M.limit core.new s session) }
     ensures ungiven { OnErr result (journal.new ≡ journal.old) }
 {
@@ -91,9 +91,9 @@ fn enter_logged<M: SortedMaps, J: Journal>(
 ) -> Result<Answer, NoMemory>
     requires { (s : State) × (statement : StatementTree) × (rs : Records) × MayLog M.maps M.spare M.limit s core.old session statement definition first text × IsBehind M.maps M.spare M.limit J.has J.limit core.old journal.old s.log rs }
     ensures did { IfOk result (λ said. (s : State) (statement : StatementTree) → MayLog M.maps M.spare M.limit s core.old session statement definition first text
-        → Did M.maps M.spare M.limit J.has J.limit s session (act.Schema statement) (answer_of said) core.old journal.old core.new journal.new) }
-    ensures faults { IfOk result (λ said. is_fault (answer_of said) ≡ false → J.faults journal.new ≡ J.faults journal.old) }
-    ensures rose { IfOk result (λ said. is_fault (answer_of said) ≡ true → Rose (J.faults journal.old) (J.faults journal.new)) }
+        → Did M.maps M.spare M.limit J.has J.limit J.medium J.leaves s session (act.Schema statement) (answer_of said) core.old journal.old core.new journal.new) }
+    ensures faults { IfOk result (λ said. is_fault (answer_of said) ≡ false → J.faults (J.medium journal.new) ≡ J.faults (J.medium journal.old)) }
+    ensures rose { IfOk result (λ said. is_fault (answer_of said) ≡ true → Rose (J.faults (J.medium journal.old)) (J.faults (J.medium journal.new))) }
     ensures err { OnErr result ((s : State) → Began M.maps M.spare M.limit core.old s session → Began M.maps M.spare M.limit core.new s session) }
     ensures ungiven { OnErr result (journal.new ≡ journal.old) }
 {
@@ -118,9 +118,9 @@ fn enter_fitting<M: SortedMaps, J: Journal>(
 ) -> Result<Answer, NoMemory>
     requires { (s : State) × (statement : StatementTree) × (rs : Records) × MayFit M.maps M.spare M.limit s core.old session statement definition first text × IsBehind M.maps M.spare M.limit J.has J.limit core.old journal.old s.log rs }
     ensures did { IfOk result (λ said. (s : State) (statement : StatementTree) → MayFit M.maps M.spare M.limit s core.old session statement definition first text
-        → Did M.maps M.spare M.limit J.has J.limit s session (act.Schema statement) (answer_of said) core.old journal.old core.new journal.new) }
-    ensures faults { IfOk result (λ said. is_fault (answer_of said) ≡ false → J.faults journal.new ≡ J.faults journal.old) }
-    ensures rose { IfOk result (λ said. is_fault (answer_of said) ≡ true → Rose (J.faults journal.old) (J.faults journal.new)) }
+        → Did M.maps M.spare M.limit J.has J.limit J.medium J.leaves s session (act.Schema statement) (answer_of said) core.old journal.old core.new journal.new) }
+    ensures faults { IfOk result (λ said. is_fault (answer_of said) ≡ false → J.faults (J.medium journal.new) ≡ J.faults (J.medium journal.old)) }
+    ensures rose { IfOk result (λ said. is_fault (answer_of said) ≡ true → Rose (J.faults (J.medium journal.old)) (J.faults (J.medium journal.new))) }
     ensures err { OnErr result ((s : State) → Began M.maps M.spare M.limit core.old s session → Began M.maps M.spare M.limit core.new s session) }
     ensures ungiven { OnErr result (journal.new ≡ journal.old) }
 {
@@ -144,9 +144,9 @@ fn make_with<M: SortedMaps, J: Journal>(
 ) -> Result<Answer, NoMemory>
     requires { (s : State) × (rs : Records) × MayBegin M.maps M.spare M.limit s core.old session (statement_tree statement.now) definition first × IsBehind M.maps M.spare M.limit J.has J.limit core.old journal.old s.log rs }
     ensures did { IfOk result (λ said. (s : State) → MayBegin M.maps M.spare M.limit s core.old session (statement_tree statement.now) definition first
-        → Did M.maps M.spare M.limit J.has J.limit s session (act.Schema (statement_tree statement.now)) (answer_of said) core.old journal.old core.new journal.new) }
-    ensures faults { IfOk result (λ said. is_fault (answer_of said) ≡ false → J.faults journal.new ≡ J.faults journal.old) }
-    ensures rose { IfOk result (λ said. is_fault (answer_of said) ≡ true → Rose (J.faults journal.old) (J.faults journal.new)) }
+        → Did M.maps M.spare M.limit J.has J.limit J.medium J.leaves s session (act.Schema (statement_tree statement.now)) (answer_of said) core.old journal.old core.new journal.new) }
+    ensures faults { IfOk result (λ said. is_fault (answer_of said) ≡ false → J.faults (J.medium journal.new) ≡ J.faults (J.medium journal.old)) }
+    ensures rose { IfOk result (λ said. is_fault (answer_of said) ≡ true → Rose (J.faults (J.medium journal.old)) (J.faults (J.medium journal.new))) }
     ensures err { OnErr result ((s : State) → Began M.maps M.spare M.limit core.old s session → Began M.maps M.spare M.limit core.new s session) }
     ensures ungiven { OnErr result (journal.new ≡ journal.old) }
 {
@@ -164,9 +164,9 @@ fn make_alone<M: SortedMaps, J: Journal>(
 ) -> Result<Answer, NoMemory>
     requires { (s : State) × (rs : Records) × MayMake M.maps M.spare M.limit s core.old session (statement_tree statement.now) definition × IsBehind M.maps M.spare M.limit J.has J.limit core.old journal.old s.log rs }
     ensures did { IfOk result (λ said. (s : State) → MayMake M.maps M.spare M.limit s core.old session (statement_tree statement.now) definition
-        → Did M.maps M.spare M.limit J.has J.limit s session (act.Schema (statement_tree statement.now)) (answer_of said) core.old journal.old core.new journal.new) }
-    ensures faults { IfOk result (λ said. is_fault (answer_of said) ≡ false → J.faults journal.new ≡ J.faults journal.old) }
-    ensures rose { IfOk result (λ said. is_fault (answer_of said) ≡ true → Rose (J.faults journal.old) (J.faults journal.new)) }
+        → Did M.maps M.spare M.limit J.has J.limit J.medium J.leaves s session (act.Schema (statement_tree statement.now)) (answer_of said) core.old journal.old core.new journal.new) }
+    ensures faults { IfOk result (λ said. is_fault (answer_of said) ≡ false → J.faults (J.medium journal.new) ≡ J.faults (J.medium journal.old)) }
+    ensures rose { IfOk result (λ said. is_fault (answer_of said) ≡ true → Rose (J.faults (J.medium journal.old)) (J.faults (J.medium journal.new))) }
     ensures err { OnErr result ((s : State) → Began M.maps M.spare M.limit core.old s session → Began M.maps M.spare M.limit core.new s session) }
     ensures ungiven { OnErr result (journal.new ≡ journal.old) }
 {
@@ -189,9 +189,9 @@ fn make<M: SortedMaps, J: Journal>(
 ) -> Result<Answer, NoMemory>
     requires { (s : State) × (rs : Records) × IsMade M.maps M.spare M.limit s core.old session (statement_tree statement.now) definition × IsBehind M.maps M.spare M.limit J.has J.limit core.old journal.old s.log rs }
     ensures did { IfOk result (λ said. (s : State) → IsMade M.maps M.spare M.limit s core.old session (statement_tree statement.now) definition
-        → Did M.maps M.spare M.limit J.has J.limit s session (act.Schema (statement_tree statement.now)) (answer_of said) core.old journal.old core.new journal.new) }
-    ensures faults { IfOk result (λ said. is_fault (answer_of said) ≡ false → J.faults journal.new ≡ J.faults journal.old) }
-    ensures rose { IfOk result (λ said. is_fault (answer_of said) ≡ true → Rose (J.faults journal.old) (J.faults journal.new)) }
+        → Did M.maps M.spare M.limit J.has J.limit J.medium J.leaves s session (act.Schema (statement_tree statement.now)) (answer_of said) core.old journal.old core.new journal.new) }
+    ensures faults { IfOk result (λ said. is_fault (answer_of said) ≡ false → J.faults (J.medium journal.new) ≡ J.faults (J.medium journal.old)) }
+    ensures rose { IfOk result (λ said. is_fault (answer_of said) ≡ true → Rose (J.faults (J.medium journal.old)) (J.faults (J.medium journal.new))) }
     ensures err { OnErr result ((s : State) → Began M.maps M.spare M.limit core.old s session → Began M.maps M.spare M.limit core.new s session) }
     ensures ungiven { OnErr result (journal.new ≡ journal.old) }
 {
@@ -219,9 +219,9 @@ pub fn define<M: SortedMaps, J: Journal>(
     statement: &Statement,
 ) -> Result<Answer, NoMemory>
     requires { CanGive M.maps M.spare M.limit J.has J.limit core.old journal.old session (act.Schema (statement_tree statement.now)) }
-    ensures gives { IfOk result (λ said. MayGiveUp M.maps M.spare M.limit J.has J.limit core.old journal.old session (act.Schema (statement_tree statement.now)) (answer_of said) core.new journal.new) }
-    ensures faults { IfOk result (λ said. is_fault (answer_of said) ≡ false → J.faults journal.new ≡ J.faults journal.old) }
-    ensures rose { IfOk result (λ said. is_fault (answer_of said) ≡ true → Rose (J.faults journal.old) (J.faults journal.new)) }
+    ensures gives { IfOk result (λ said. MayGiveUp M.maps M.spare M.limit J.has J.limit J.medium J.leaves core.old journal.old session (act.Schema (statement_tree statement.now)) (answer_of said) core.new journal.new) }
+    ensures faults { IfOk result (λ said. is_fault (answer_of said) ≡ false → J.faults (J.medium journal.new) ≡ J.faults (J.medium journal.old)) }
+    ensures rose { IfOk result (λ said. is_fault (answer_of said) ≡ true → Rose (J.faults (J.medium journal.old)) (J.faults (J.medium journal.new))) }
     ensures err { OnErr result ((s : State) → Began M.maps M.spare M.limit core.old s session → Began M.maps M.spare M.limit core.new s session) }
     ensures ungiven { OnErr result (journal.new ≡ journal.old) }
 {

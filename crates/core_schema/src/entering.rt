@@ -213,9 +213,9 @@ pub(crate) fn enter<M: SortedMaps, J: Journal>(
 ) -> Result<Answer, NoMemory>
     requires { (s : State) × (statement : StatementTree) × (rs : Records) × MayEnter M.maps M.spare M.limit s core.old session statement definition first text need × IsBehind M.maps M.spare M.limit J.has J.limit core.old journal.old s.log rs }
     ensures did { IfOk result (λ said. (s : State) (statement : StatementTree) → MayEnter M.maps M.spare M.limit s core.old session statement definition first text need
-        → Did M.maps M.spare M.limit J.has J.limit s session (act.Schema statement) (answer_of said) core.old journal.old core.new journal.new) }
-    ensures faults { IfOk result (λ said. is_fault (answer_of said) ≡ false → J.faults journal.new ≡ J.faults journal.old) }
-    ensures rose { IfOk result (λ said. is_fault (answer_of said) ≡ true → Rose (J.faults journal.old) (J.faults journal.new)) }
+        → Did M.maps M.spare M.limit J.has J.limit J.medium J.leaves s session (act.Schema statement) (answer_of said) core.old journal.old core.new journal.new) }
+    ensures faults { IfOk result (λ said. is_fault (answer_of said) ≡ false → J.faults (J.medium journal.new) ≡ J.faults (J.medium journal.old)) }
+    ensures rose { IfOk result (λ said. is_fault (answer_of said) ≡ true → Rose (J.faults (J.medium journal.old)) (J.faults (J.medium journal.new))) }
     ensures err { OnErr result ((s : State) → Began M.maps M.spare M.limit core.old s session → Began M.maps M.spare M.limit core.new s session) }
     ensures ungiven { OnErr result (journal.new ≡ journal.old) }
 {

@@ -13,6 +13,7 @@ use Rattle.txn_machine.specs.State.{State}
 use Rattle.txn_machine.specs.Steps.{Says}
 use Rattle.txn_machine.specs.Store.{Effect, Cleans, schema_of}
 use Rattle.core_journal.specs.Records.{Records, with_one, recorded_all, records_after}
+use Rattle.core_journal.specs.Cuts.{Cut}
 use Rattle.core_state.specs.Stands.{Began, Told}
 use Rattle.core_state.specs.declared.state.CoreState.{CoreState}
 use Rattle.core_recording.specs.Giving.{Gave}
@@ -32,7 +33,7 @@ module _ (s : State) (rs : Records) where
   clean_gives place es is = ap (λ (xs : List Effect). recorded_all s.store 0 act.Clean xs s.log rs) is
 
 -- where nothing is given the journal is as it was
-pub gave_none : {M J : Type 0} (maps : M → ℕ → Map) (spare : M → ℕ → ℕ) (limit : M → Option ℕ) (has : J → Records → Type 0) (area : J → Option ℕ) (core : CoreState M) (journal : J) (s : State) (said : Answer) (then : CoreState M)
-    → Began maps spare limit core s 0 → (told : Told maps spare limit s 0 act.Clean said then) → ((rs : Records) → records_after s 0 act.Clean said told.effects rs ≡ rs) → Gave maps spare limit has area s 0 act.Clean said core journal then journal
-gave_none maps spare limit has area core journal s said then began told quiet =
-    gave_all maps spare limit has area core journal s 0 act.Clean said then began told journal (λ rs mine. subst (has journal) (sym (quiet rs)) mine) refl tt
+pub gave_none : {M J X : Type 0} (maps : M → ℕ → Map) (spare : M → ℕ → ℕ) (limit : M → Option ℕ) (has : J → Records → Type 0) (area : J → Option ℕ) (medium : J → X) (leaves : X → X → Cut → Cut → Type 0) (core : CoreState M) (journal : J) (s : State) (said : Answer) (then : CoreState M)
+    → Began maps spare limit core s 0 → (told : Told maps spare limit s 0 act.Clean said then) → ((rs : Records) → records_after s 0 act.Clean said told.effects rs ≡ rs) → Gave maps spare limit has area medium leaves s 0 act.Clean said core journal then journal
+gave_none maps spare limit has area medium leaves core journal s said then began told quiet =
+    gave_all maps spare limit has area medium leaves core journal s 0 act.Clean said then began told journal (λ rs mine. subst (has journal) (sym (quiet rs)) mine) refl refl tt

@@ -39,7 +39,7 @@ use Rattle.txn_machine.proofs.Reached.{stored_law}
 use Rattle.txn_machine.proofs.Seats.{session_or, nobody_open}
 use Rattle.txn_machine.proofs.Shapes.{stored_row_law}
 use Rattle.txn_book.specs.Holding as book
-use Rattle.data_store.specs.Contents.{contents_of, pays_on}
+use Rattle.data_store.specs.Contents.{pays_on}
 use Rattle.data_store.specs.Held.{IsHeld}
 use Rattle.data_changes.specs.Effects.{without_ghost}
 use Rattle.data_changes.specs.Ghosts.{HasGhost}

@@ -123,8 +123,8 @@ fn clean_at<M: SortedMaps, J: Journal>(
 ) -> Answer
     requires { (q : CanGive M.maps M.spare M.limit J.has J.limit core.old journal.old 0 act.Clean) × IsFirstCleanable q.state.store (view, group.now) }
     ensures gives { (s : State) → Began M.maps M.spare M.limit core.old s 0 → IsFirstCleanable s.store (view, group.now)
-        → Gave M.maps M.spare M.limit J.has J.limit s 0 act.Clean (answer_of result) core.old journal.old core.new journal.new }
-    ensures faults { J.faults journal.new ≡ J.faults journal.old }
+        → Gave M.maps M.spare M.limit J.has J.limit J.medium J.leaves s 0 act.Clean (answer_of result) core.old journal.old core.new journal.new }
+    ensures medium { J.medium journal.new ≡ J.medium journal.old }
 {
     short_law();
     let number = core.next;
@@ -152,8 +152,8 @@ fn key_of(bytes: &[u8]) -> [u8; MOST_KEY_WIDTH as usize]
 /// for the record. Takes no memory.
 pub fn clean<M: SortedMaps, J: Journal>(core: &mut CoreState<M>, journal: &mut J) -> Answer
     requires { CanGive M.maps M.spare M.limit J.has J.limit core.old journal.old 0 act.Clean }
-    ensures gives { Gives M.maps M.spare M.limit J.has J.limit core.old journal.old 0 act.Clean (answer_of result) core.new journal.new }
-    ensures faults { J.faults journal.new ≡ J.faults journal.old }
+    ensures gives { Gives M.maps M.spare M.limit J.has J.limit J.medium J.leaves core.old journal.old 0 act.Clean (answer_of result) core.new journal.new }
+    ensures medium { J.medium journal.new ≡ J.medium journal.old }
 {
     let (view, width, key) = match first_cleanable(core) {
         Some((view, group)) => (view, group.len(), key_of(group)),

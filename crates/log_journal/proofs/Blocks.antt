@@ -1,8 +1,8 @@
 -- The first block of an area, and blocks behind it.
 use Rattle.std.specs.Prelude.{reverse}
-use Rattle.std.proofs.Common.{◌≡◌, Bool, ℕ, zero, suc, ◌+◌, ◌-◌, ◌^◌, ◌<◌, ◌≤◌, List, [], ◌∷◌, ◌++◌, length, get_or, take, drop, Option, Some, None, refl, sym, ◌∙◌, ap, subst, arith, length-append}
+use Rattle.std.proofs.Common.{◌≡◌, Bool, ℕ, zero, suc, ◌+◌, ◌-◌, ◌^◌, ◌<◌, ◌≤◌, List, [], ◌∷◌, ◌++◌, length, get_or, take, drop, Option, Some, None, refl, sym, ◌∙◌, ap, subst, arith, length-append, length-take, length-drop, append-nil}
 use Rattle.std.specs.List.{AllByRecursion}
-use Rattle.std.proofs.lemmas.List.{take-take, reverse-reverse, get_or-append_right}
+use Rattle.std.proofs.lemmas.List.{take-take, take_at, take-append-drop, reverse-reverse, get_or-append_right, get_or-take, get_or-drop}
 use Rattle.byteorder.specs.Endian.{big_bytes}
 use Rattle.byteorder.specs.Numbers.{big_number-reads_back}
 use Rattle.disk_io.specs.Disk.{part}
@@ -10,14 +10,14 @@ use Rattle.page_store.specs.declared.facts.HeaderFacts.{HeaderFacts}
 use Rattle.page_store.specs.Image as page
 use Rattle.page_store.specs.Image.{Image, image, image_at, image_by, live}
 use Rattle.page_store.specs.Publish.{IsFirstBlock, IsNew}
-use Rattle.log_records.specs.Area.{Entry, group, block, IsSmall, FitsBlock}
+use Rattle.log_records.specs.Area.{Entry, group, block, Begins, IsSmall, FitsBlock}
 use Rattle.wal_log.specs.Log.{LogState, area_at, after_flush, Holds, BegunHolds}
 use Rattle.wal_log.proofs.KeptLaws.{block_is}
 use Rattle.txn_log.proofs.Groups.{one_group_more}
 use Rattle.log_journal.specs.Standing.{HasBlocks}
 use Rattle.log_journal.specs.Saved.{first_block}
 
-all_push : {X : Type 0} (P : X → Type 0) (xs : List X) (y : X) → AllByRecursion P xs → P y → AllByRecursion P (xs ++ y ∷ [])
+pub all_push : {X : Type 0} (P : X → Type 0) (xs : List X) (y : X) → AllByRecursion P xs → P y → AllByRecursion P (xs ++ y ∷ [])
 all_push P [] y h k = (k, tt)
 all_push P (x ∷ xs) y h k = (h.0, all_push P xs y h.1 k)
 
@@ -60,6 +60,33 @@ first_is log short = record {
   shut = λ is. absurd (let e = gate_behind (block log.first) (length (first_block log) - 1) (omega (arith, length-append (block log.first) (0 ∷ []))) in omega (arith, e, is));
 }
 
+-- behind the records stands a closed gate
+pub block_end : (log : LogState) (es : List Entry) → log.first ≡ group es → length (first_block log) - 1 ≡ length (block (group es))
+block_end log es is = (let more = length-append (block log.first) (0 ∷ []) in let e : length (first_block log) - 1 ≡ length (block log.first) = omega (arith, more) in e) ∙ ap (λ (bs : List ℕ). length (block bs)) is
+
+-- an area that begins with the first block begins with its records
+pub first_begins : (log : LogState) (es : List Entry) (area : List ℕ) → log.first ≡ group es → take (length (first_block log)) area ≡ first_block log → Begins (es ∷ []) area
+first_begins log es area is begins = record {
+  tail = drop n area;
+  split = sym (take-append-drop n area) ∙ ap (λ (bs : List ℕ). bs ++ drop n area) (front ∙ ap block is ∙ sym (append-nil (block (group es))));
+  more = omega (arith, longer, ap length begins, length-take (length (first_block log)) area, length-drop n area);
+  shut = λ open_gate. absurd (
+      let e : 0 ≡ 165 = sym shut ∙ ap (λ k. get_or area k 0) (let f : n ≡ n + 0 = omega arith in f) ∙ sym (get_or-drop n area 0 0) ∙ open_gate in
+      omega (arith, e));
+}
+  where
+    n : ℕ
+    n = length (block log.first)
+
+    longer : length (first_block log) ≡ n + 1
+    longer = length-append (block log.first) (0 ∷ [])
+
+    front : take n area ≡ block log.first
+    front = sym (take-take n (length (first_block log)) area (omega (arith, longer))) ∙ ap (take n) begins ∙ take_at (block log.first) (0 ∷ []) n refl
+
+    shut : get_or area n 0 ≡ 0
+    shut = sym (get_or-take (length (first_block log)) area n 0 (omega (arith, longer))) ∙ ap (λ (bs : List ℕ). get_or bs n 0) begins ∙ gate_behind (block log.first) n refl
+
 -- ---- a log area behind a new header
 
 some_image : {x y : Image} → Some x ≡ Some y → x ≡ y
@@ -70,14 +97,14 @@ unfolding image_at
 log_at room count k c = refl
 
 -- the log of an image stands in the area that it names
-log_of : (room count : ℕ) (c : List ℕ) (here : Image) → image room count c ≡ Some here → here.log ≡ part (page.area_at room here.area) room c
+pub log_of : (room count : ℕ) (c : List ℕ) (here : Image) → image room count c ≡ Some here → here.log ≡ part (page.area_at room here.area) room c
 log_of room count c here means = by_live (live c) means
   where
     by_live : (o : Option ℕ) → image_by room count o c ≡ Some here → here.log ≡ part (page.area_at room here.area) room c
     by_live None is = absurd (let e : None ≡ Some here = is in cc)
     by_live (Some k) is = subst (λ (x : Image). x.log ≡ part (page.area_at room x.area) room c) (some_image is) (log_at room count k c)
 
-same_area : (size a : ℕ) → area_at size a ≡ page.area_at size a
+pub same_area : (size a : ℕ) → area_at size a ≡ page.area_at size a
 same_area size zero = refl
 same_area size (suc a) = refl
 

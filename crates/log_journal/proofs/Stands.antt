@@ -1,4 +1,5 @@
 -- How a journal stands after a call.
+use Rattle.std.specs.Prelude.{reverse}
 use Rattle.std.proofs.Common.{◌≡◌, ◌≢◌, Bool, ℕ, zero, suc, ◌+◌, ◌-◌, ◌*◌, ◌^◌, ◌<◌, ◌≤◌, List, [], ◌∷◌, ◌++◌, length, Some, refl, sym, ◌∙◌, subst, arith}
 use Rattle.iv_types.specs.Definitions.{Definitions}
 use Rattle.disk_io.specs.Disk.{part, Only, LeavesOnly}
@@ -10,6 +11,7 @@ use Rattle.page_store.specs.Publish.{next_number, OtherArea, LiveFits, IsNew, ne
 use Rattle.ordered_index.specs.Drawn.{IsDrawn}
 use Rattle.ordered_index.specs.Tree.{Tree, map_of}
 use Rattle.log_records.specs.Area.{Entry, group}
+use Rattle.log_records.specs.Area.{block as block_of}
 use Rattle.wal_log.specs.Log.{LogState, area_at, after_flush, restarted as log_restarted, Holds, BegunHolds, IsOutside, FlushLeaves}
 use Rattle.log_disk.proofs.Areas.{log_alone}
 use Rattle.core_journal.specs.Records.{Records, Saved, flushed_all, restarted}
@@ -17,14 +19,14 @@ use Rattle.log_journal.specs.declared.journal.LogJournal.{LogJournal}
 use Rattle.log_journal.specs.Standing.{maps_limit, HasParts, HasHeader, IsKept, Has, Carries}
 use Rattle.log_journal.specs.Saved.{MarksSaved, HasSaved, next_header, first_block}
 use Rattle.log_journal.proofs.Headers.{same_number, same_other, same_fits}
-use Rattle.log_journal.proofs.Blocks.{flushed_blocks, begun_blocks}
+use Rattle.log_journal.proofs.Blocks.{block_end, flushed_blocks, begun_blocks}
 
 -- the areas lie behind the headers
-area_low : (size a : ℕ) → 278528 ≤ area_at size a
+pub area_low : (size a : ℕ) → 278528 ≤ area_at size a
 area_low size zero = omega arith
 area_low size (suc a) = omega arith
 
-area_high : (size a : ℕ) → area_at size a ≤ 278528 + size
+pub area_high : (size a : ℕ) → area_at size a ≤ 278528 + size
 area_high size zero = omega arith
 area_high size (suc a) = omega arith
 
@@ -53,7 +55,7 @@ flush_left moment left_since old new log mid bytes groups rs is =
     (λ c f. record { others = f.others; area = f.area }))
 
 -- and it leaves what was saved
-image_stays : (room count start : ℕ) (s c : List ℕ) (saved : Saved) → length s ≡ 278528 + 2 * room + 16384 * count → count ≤ 131072 → 278528 ≤ start → start + room ≤ 278528 + 2 * room → IsOutside start room s c
+abbrev pub image_stays : (room count start : ℕ) (s c : List ℕ) (saved : Saved) → length s ≡ 278528 + 2 * room + 16384 * count → count ≤ 131072 → 278528 ≤ start → start + room ≤ 278528 + 2 * room → IsOutside start room s c
     → HasSaved room count s saved → HasSaved room count c saved
 image_stays room count start s c saved size few low high out has = record {
   here = record has.here { log = part (page.area_at room has.here.area) room c };
@@ -65,16 +67,17 @@ image_stays room count start s c saved size few low high out has = record {
   low_map = has.low_map;
   commit_number = has.commit_number;
   next_number = has.next_number;
+  redo = has.redo;
   kept = has.kept;
   marks = has.marks;
   entries = has.entries;
 }
 
 -- a new image has what is saved with it
-saved_image : (room count : ℕ) (facts : HeaderFacts) (block : List ℕ) (flags : List Bool) (bytes c : List ℕ) (t : Tree) → t.pages ≡ count → IsDrawn t flags bytes → (definitions : Definitions) → MarksSaved definitions t.kept
-    → (commits next : ℕ) (es : List Entry) → facts.format ≡ 1 → facts.commits ≡ commits → facts.next_entry ≡ next → facts.area ≤ 1 → IsNew room facts block flags bytes c
+abbrev pub saved_image : (room count : ℕ) (facts : HeaderFacts) (block : List ℕ) (flags : List Bool) (bytes c : List ℕ) (t : Tree) → t.pages ≡ count → IsDrawn t flags bytes → (definitions : Definitions) → MarksSaved definitions t.kept
+    → (commits next : ℕ) (es : List Entry) → facts.format ≡ 1 → facts.commits ≡ commits → facts.next_entry ≡ next → facts.area ≤ 1 → length block - 1 ≡ length (block_of (group (reverse es))) → IsNew room facts block flags bytes c
     → HasSaved room count c (record { maps = map_of t; definitions = definitions; commits = commits; next = next; carried = es })
-saved_image room count facts block flags bytes c t pages drawn definitions marks commits next es format commits_are next_is low new =
+saved_image room count facts block flags bytes c t pages drawn definitions marks commits next es format commits_are next_is low redo new =
     let many : length flags ≡ count = drawn.count ∙ pages in
     record {
       here = new_image room facts block flags bytes new.map new.log;
@@ -86,6 +89,7 @@ saved_image room count facts block flags bytes c t pages drawn definitions marks
       low_map = λ p lt. new.low p (omega (arith, lt, many));
       commit_number = commits_are;
       next_number = next_is;
+      redo = redo;
       kept = t.kept;
       marks = marks;
       entries = drawn.holds;
@@ -192,5 +196,5 @@ module _ {D : Type 0} (is_told : Type 0) (size_of : D → ℕ) (seen : D → Lis
         begun_blocks old.log (next_header old commits) flags bytes (seen disk) es has.in_area has.first has.small has.gate short (omega (arith, has.room, has.used_is))
         (omega (arith, sized told, size, has.kept.parts.whole, has.in_area, area_high old.log.size (1 - old.area))) begins (new told);
     image = λ told.
-        saved_image old.log.size old.pages (next_header old commits) (first_block old.log) flags bytes (seen disk) t pages drawn definitions marks commits next es refl refl has.next_is (omega arith) (new told);
+        saved_image old.log.size old.pages (next_header old commits) (first_block old.log) flags bytes (seen disk) t pages drawn definitions marks commits next es refl refl has.next_is (omega arith) (block_end old.log (reverse es) has.first) (new told);
   }

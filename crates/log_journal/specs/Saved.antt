@@ -1,7 +1,7 @@
 -- No clause of `run` rests on this module: it serves contracts between crates.
 --
 -- What a checkpoint saves: which entries, with which header, and the records that its log begins with.
-use Rattle.std.specs.Prelude.{◌≡◌, ℕ, zero, suc, ◌+◌, ◌-◌, ◌<◌, ◌≤◌, Bool, true, false, List, [], ◌∷◌, ◌++◌, length, get_or, Option, Some}
+use Rattle.std.specs.Prelude.{◌≡◌, ℕ, zero, suc, ◌+◌, ◌-◌, ◌<◌, ◌≤◌, Bool, true, false, List, [], ◌∷◌, ◌++◌, length, reverse, get_or, Option, Some}
 use Rattle.iv_types.specs.Maps.{last_index}
 use Rattle.iv_types.specs.declared.catalog.Definition.{Definition}
 use Rattle.iv_types.specs.declared.catalog.Definition.TheVariants.{Table, View}
@@ -10,7 +10,7 @@ use Rattle.page_store.specs.declared.facts.HeaderFacts.{HeaderFacts}
 use Rattle.page_store.specs.Image as page
 use Rattle.page_store.specs.Image.{image}
 use Rattle.ordered_index.specs.Drawn.{HoldsJust}
-use Rattle.log_records.specs.Area.{block}
+use Rattle.log_records.specs.Area.{group, block}
 use Rattle.wal_log.specs.Log.{LogState}
 use Rattle.core_journal.specs.Records.{Saved}
 use Rattle.log_journal.specs.declared.journal.LogJournal.{LogJournal}
@@ -27,8 +27,9 @@ is_saved definitions zero = true
 is_saved definitions (suc n) = has_saved (numbered definitions (suc n))
 
 -- just those of all indexes are marked whose entries are saved
-abbrev pub MarksSaved : Definitions → List Bool → Type 0
-MarksSaved definitions kept = (index : ℕ) → index ≤ last_index → get_or kept index false ≡ is_saved definitions index
+pub record MarksSaved (definitions : Definitions) (kept : List Bool) : Type 0 where
+  pub many : length kept ≡ last_index + 1
+  pub each : (index : ℕ) → index ≤ last_index → get_or kept index false ≡ is_saved definitions index
 
 -- The live header among these bytes, of a disk with so many pages and areas of so many bytes, is that of a checkpoint that saved this: its
 -- pages hold just the entries of the saved indexes.
@@ -42,6 +43,7 @@ pub record HasSaved (room count : ℕ) (bytes : List ℕ) (saved : Saved) : Type
   pub low_map : (p : ℕ) → p < count → get_or here.map p 0 ≤ 2
   pub commit_number : here.commits ≡ saved.commits
   pub next_number : here.next_entry ≡ saved.next
+  pub redo : here.redo ≡ length (block (group (reverse saved.carried)))
   pub kept : List Bool
   pub marks : MarksSaved saved.definitions kept
   pub entries : HoldsJust kept saved.maps here.stored

@@ -10,8 +10,10 @@ ghost use Rattle.ordered_index.specs.Tree.{map_of, spare_of, limit_of, data_limi
 ghost use Rattle.log_records.specs.Area.{Entry};
 ghost use Rattle.wal_log.specs.Log.{area_at, used_by, FlushLeaves};
 ghost use Rattle.core_journal.specs.Records.{Records, Saved, begun, flushed_all, restarted};
-ghost use Rattle.log_journal.specs.Standing.{HasParts, HasHeader, HasBlocks, Has, Carries, disk_of, area_limit, maps_limit};
-ghost use Rattle.log_journal.specs.Saved.{MarksSaved, HasSaved, next_header, first_block};
+ghost use Rattle.core_journal.specs.Cuts.{Cut};
+ghost use Rattle.log_journal.specs.Standing.{HasParts, HasHeader, Has, Carries, disk_of, area_limit, maps_limit};
+ghost use Rattle.log_journal.specs.Saved.{MarksSaved, next_header, first_block};
+ghost use Rattle.log_journal.specs.Cuts.{Medium, medium_of, StandsOn, Leaves, ImageOrCut};
 
 use crate::marking::mark_saved;
 use core_journal::{Checkpoints, Journal};
@@ -51,32 +53,6 @@ pub struct LogJournal<D: Disk> {
 }
 
 impl<D: Disk> LogJournal<D> {
-    /// A journal that goes on behind a log without waiting records, in the area that the live header names. That header has the
-    /// number `saved`, and the disk so many pages.
-    pub fn new(log: Log, disk: D, pages: u32, saved: u64, area: u8) -> LogJournal<D>
-        requires parts { HasParts log.size pages (D.size_of disk) }
-        requires low_area { area ≤ 1 }
-        requires in_area { log.start ≡ area_at log.size area }
-        requires free { log.reserved ≡ 0 }
-        requires none_waits { log.waiting ≡ [] }
-        requires few { saved ≤ 2 ^ 62 }
-        requires header { D.is_told → HasHeader (D.size_of disk) pages saved area (D.seen disk) (D.may_leave disk) }
-        requires image { (image : Saved) × (D.is_told → HasSaved log.size pages (D.seen disk) image) × (D.is_told → HasBlocks log (D.seen disk) image.carried []) }
-        ensures has { (image : Saved) → (D.is_told → HasSaved log.size pages (D.seen disk) image) → (D.is_told → HasBlocks log (D.seen disk) image.carried [])
-            → Has D.is_told D.size_of D.seen D.may_leave result (begun (maps_limit result) image (used_by log)) }
-        ensures disk { disk_of result ≡ disk }
-        ensures limit { area_limit result ≡ Some log.size }
-        ensures maps_limit { maps_limit result ≡ Some (data_limit pages) }
-    {
-        LogJournal {
-            log,
-            disk,
-            pages,
-            saved,
-            area,
-        }
-    }
-
     /// A journal that begins a checkpoint behind whatever records stand on a disk, which the checkpoint takes over: those of an image
     /// that was read. The live header has the number `saved` and names this log area, and the disk so many pages. No record is carried
     /// yet, and the next record is to have this number.
@@ -129,9 +105,9 @@ impl<D: Disk> LogJournal<D> {
         ensures has { OnOk result ((definitions : Definitions) (records : Records) (next : ℕ) (carried : List Entry) (used : ℕ) → MarksSaved definitions maps.old.kept → Carries D.is_told D.size_of D.seen D.may_leave self.old records next carried used
             → Has D.is_told D.size_of D.seen D.may_leave self.new (restarted records (record { maps = map_of maps.old; definitions = definitions; commits = commits; next = next; carried = carried }) used)) }
         ensures cause { CountsFault result (D.faults self.old.disk) (D.faults self.new.disk) }
-        ensures image { (flags : List Bool) × (bytes : List ℕ) × IsDrawn maps.old flags bytes
-            × (D.is_told → OnOk result (IsNew self.old.log.size (next_header self.old commits) (first_block self.old.log) flags bytes (D.seen self.new.disk)))
-            × (D.is_told → LeavesOnly D.moment D.left_since self.old.disk self.new.disk (OldOrNew self.old.log.size (next_header self.old commits) (first_block self.old.log) flags bytes (D.seen self.old.disk))) }
+        // Whatever image stood there, a crash leaves it or the checkpoint.
+        ensures image { D.is_told → (definitions : Definitions) (records : Records) (next : ℕ) (carried : List Entry) (used : ℕ) → MarksSaved definitions maps.old.kept → Carries D.is_told D.size_of D.seen D.may_leave self.old records next carried used
+            → LeavesOnly D.moment D.left_since self.old.disk self.new.disk (ImageOrCut self.old.log.size self.old.pages (D.seen self.old.disk) (record { saved = record { maps = map_of maps.old; definitions = definitions; commits = commits; next = next; carried = carried }; records = [] })) }
         ensures maps { maps.new ≡ maps.old }
         ensures log { self.new.log ≡ self.old.log }
     {
@@ -160,9 +136,17 @@ impl<D: Disk> Journal for LogJournal<D> {
 
     ghost limit = { area_limit };
 
-    ghost faults = { λ journal. D.faults journal.disk };
+    ghost Medium = { Medium D };
 
-    ghost counts_in = { λ journal. D.counts_in journal.disk };
+    ghost medium = { medium_of };
+
+    ghost faults = { λ medium. D.faults medium.disk };
+
+    ghost stands_on = { StandsOn D.is_told D.seen };
+
+    ghost leaves = { Leaves D.is_told D.moment D.left_since };
+
+    ghost counts_in = { λ medium. D.counts_in medium.disk };
 
     fn append(&mut self, number: u64, lent: LentRecord<'_>) {
         self.log.number_from(number);
@@ -170,15 +154,7 @@ impl<D: Disk> Journal for LogJournal<D> {
         self.log.append(lent);
     }
 
-    fn flush(&mut self) -> Result<(), DiskFault>
-        requires { (records : Records) × Has D.is_told D.size_of D.seen D.may_leave self.old records × (records.used + block_bytes ≤ self.old.log.size) }
-        ensures ok { OnOk result (((records : Records) → Has D.is_told D.size_of D.seen D.may_leave self.old records → Has D.is_told D.size_of D.seen D.may_leave self.new (flushed_all records)) × (D.faults self.new.disk ≡ D.faults self.old.disk)) }
-        ensures err { OnErr result (Rose (D.faults self.old.disk) (D.faults self.new.disk)) }
-        ensures limit { area_limit self.new ≡ area_limit self.old }
-        // A crash at any moment of the call leaves the blocks from before it, or one more with the records that waited.
-        ensures any_moment { D.is_told → (records : Records) → Has D.is_told D.size_of D.seen D.may_leave self.old records → (blocks : HasBlocks self.old.log (D.seen self.old.disk) records.saved.carried records.flushed)
-            → LeavesOnly D.moment D.left_since self.old.disk self.new.disk (FlushLeaves self.old.log (D.seen self.old.disk) (blocks.first ∷ blocks.others) (reverse records.waiting)) }
-    {
+    fn flush(&mut self) -> Result<(), DiskFault> {
         reserve(&mut self.log, BLOCK);
         match self.log.flush(&mut self.disk) {
             Ok(()) => Ok(()),
@@ -216,10 +192,11 @@ impl<D: Disk> Checkpoints<PageMaps> for LogJournal<D> {
         ensures spare { spare_of maps.new ≡ spare_of maps.old }
         ensures data_limit { limit_of maps.new ≡ limit_of maps.old }
         ensures limit { area_limit self.new ≡ area_limit self.old }
-        ensures marks { MarksSaved catalog.now maps.new.kept }
-        ensures image { (flags : List Bool) × (bytes : List ℕ) × IsDrawn maps.new flags bytes
-            × (D.is_told → OnOk result (IsNew self.old.log.size (next_header self.old commits) (first_block self.old.log) flags bytes (D.seen self.new.disk)))
-            × (D.is_told → LeavesOnly D.moment D.left_since self.old.disk self.new.disk (OldOrNew self.old.log.size (next_header self.old commits) (first_block self.old.log) flags bytes (D.seen self.old.disk))) }
+        ensures any_moment { (records : Records) (next : ℕ) (carried : List Entry) (used : ℕ) (x : Cut) → Carries D.is_told D.size_of D.seen D.may_leave self.old records next carried used → StandsOn D.is_told D.seen self.old x
+            → Leaves D.is_told D.moment D.left_since (medium_of self.old) (medium_of self.new) x (record { saved = record { maps = map_of maps.old; definitions = catalog.now; commits = commits; next = next; carried = carried }; records = [] }) }
+        // Whatever image stood there, a crash leaves it or the checkpoint.
+        ensures image { D.is_told → (records : Records) (next : ℕ) (carried : List Entry) (used : ℕ) → Carries D.is_told D.size_of D.seen D.may_leave self.old records next carried used
+            → LeavesOnly D.moment D.left_since self.old.disk self.new.disk (ImageOrCut self.old.log.size self.old.pages (D.seen self.old.disk) (record { saved = record { maps = map_of maps.old; definitions = catalog.now; commits = commits; next = next; carried = carried }; records = [] })) }
     {
         mark_saved(maps, catalog);
         self.publish(maps, commits)?;

@@ -1,8 +1,9 @@
 -- No clause of `run` rests on this module: it serves contracts between crates.
 --
--- What a crash during a step may recover.
-use Rattle.std.specs.Prelude.{◌≡◌, ◌⊎◌, ℕ, ◌≤◌, false, List, None}
+-- What a crash may recover: during a step, and since an engine was opened.
+use Rattle.std.specs.Prelude.{◌≡◌, ◌⊎◌, ℕ, ◌+◌, ◌≤◌, false, List, [], ◌∷◌, ◌++◌, None, IsSome}
 use Rattle.iv_meaning.specs.Database.{Database}
+use Rattle.iv_meaning.specs.History.{Entry, fold, state_at}
 use Rattle.txn_machine.specs.Answers.{Answer}
 use Rattle.txn_machine.specs.Store.{Effect, committed, run}
 use Rattle.txn_machine.specs.Ghosts.{the_views}
@@ -26,4 +27,9 @@ pub record MayCommit (s : State) (step : Step) (told : BookAnswer) (db : Databas
 pub record Elapses (May : Database → Type 0) (before now : ℕ) (past since : ℕ → Database → Type 0) : Type 0 where
   pub later : before ≤ now
   pub nothing_else : (t : ℕ) (db : Database) → t ≤ before → since t db → past t db ⊎ May db
-  pub keeps : (t : ℕ) (db : Database) → t ≤ before → past t db → since t db
+
+-- What was committed up to some number; or, behind all that was committed, the entry that a step was committing at which the disk failed,
+-- which stopped the engine.
+pub data IsPrefix (s : State) (db : Database) : Type 0 where
+  committed_to : (number : ℕ) → number ≤ (committed s.store).number → db ≡ state_at s.store.origin s.store.history number → IsPrefix s db
+  with_one_more : IsSome s.stop → (e : Entry) → e.number ≡ (committed s.store).number + 1 → db ≡ fold (s.store.history ++ e ∷ []) s.store.origin → IsPrefix s db

@@ -8,12 +8,15 @@ ghost use Rattle.txn_machine.specs.State.{State};
 ghost use Rattle.txn_machine.specs.Laws.{IsReached};
 ghost use Rattle.txn_book.specs.Acts.{last_refusal};
 ghost use Rattle.txn_book.specs.Moves.{IsAsked, IsAskable, Moves, CountsFault, kept_count};
-ghost use Rattle.txn_book.specs.Crashes.{MayCommit, Elapses};
+ghost use Rattle.txn_book.specs.Crashes.{MayCommit, Elapses, IsPrefix};
 
 use crate::step::{Answer, LastRefusal, Step};
 
-/// An engine that does steps, one at a time. What a crash may leave is told or untold, by the engine's type.
+/// An engine that does steps, one at a time. What a crash recovers is told or untold, by the engine's type.
 pub trait Stepper {
+    /// Holds where the engine tells what a crash recovers.
+    ghost is_told: { Type 0 };
+
     /// Which states the engine is in, by the step relation of many open transactions.
     ghost stands: { Self → State → Type 0 };
 
@@ -34,7 +37,7 @@ pub trait Stepper {
         requires { IsAskable (stands self.old) step.now }
         ensures moves { (s : State) → stands self.old s → IsAsked s step.now → Moves (stands self.new) (may_recover self.new) s step.now result }
         ensures cause { CountsFault result (faults self.old) (faults self.new) }
-        ensures time { (s : State) → stands self.old s → IsAsked s step.now → Elapses (MayCommit s step.now result) (moment self.old) (moment self.new) (recovered_since self.old) (recovered_since self.new) };
+        ensures time { is_told → (s : State) → stands self.old s → IsAsked s step.now → Elapses (MayCommit s step.now result) (moment self.old) (moment self.new) (recovered_since self.old) (recovered_since self.new) };
 
     /// How many steps were done.
     fn steps_done(&self) -> u64
@@ -71,6 +74,12 @@ pub trait Stepper {
     /// What a crash might have recovered since a moment, it might have since any earlier one.
     ghost longer: { (engine : Self) (t u : ℕ) (db : Database) → t ≤ u → recovered_since engine u db → recovered_since engine t db };
 
+    /// Where it tells what a crash recovers, this moment is none before that of its opening.
+    ghost opened_before: { is_told → (engine : Self) (s : State) → stands engine s → s.opening.moment ≤ moment engine };
+
+    /// And what a crash might have recovered at any moment since then is a prefix of what was committed.
+    ghost recovers_prefix: { is_told → (engine : Self) (s : State) (db : Database) → stands engine s → recovered_since engine s.opening.moment db → IsPrefix s db };
+
     /// The count of faults is a `u64`; with `cause` it never falls.
     ghost counts_in: { (engine : Self) → faults engine < 2 ^ 64 };
 }
@@ -80,7 +89,7 @@ pub fn do_step<S: Stepper>(engine: &mut S, step: Step) -> Answer
     requires { IsAskable (S.stands engine.old) step }
     ensures moves { (s : State) → S.stands engine.old s → IsAsked s step → Moves (S.stands engine.new) (S.may_recover engine.new) s step result }
     ensures cause { CountsFault result (S.faults engine.old) (S.faults engine.new) }
-    ensures time { (s : State) → S.stands engine.old s → IsAsked s step → Elapses (MayCommit s step result) (S.moment engine.old) (S.moment engine.new) (S.recovered_since engine.old) (S.recovered_since engine.new) }
+    ensures time { S.is_told → (s : State) → S.stands engine.old s → IsAsked s step → Elapses (MayCommit s step result) (S.moment engine.old) (S.moment engine.new) (S.recovered_since engine.old) (S.recovered_since engine.new) }
 {
     let answer = engine.step(&step);
     step.let_go();

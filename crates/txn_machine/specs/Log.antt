@@ -39,12 +39,13 @@ pub record Opening : Type 0 where
   pub definitions : List (List ℕ)
   -- the number of the first record
   pub next : ℕ
-  -- the disk's count of faults
+  -- the disk's count of faults, and its moment, a number that does not fall
   pub faults : ℕ
+  pub moment : ℕ
 
 -- without limits, on a database that defines nothing
 abbrev pub unlimited : Opening
-unlimited = record { log_limit = None; data_limit = None; definitions = []; next = 1; faults = 0 }
+unlimited = record { log_limit = None; data_limit = None; definitions = []; next = 1; faults = 0; moment = 0 }
 
 abbrev pub Within : Option ℕ → ℕ → Type 0
 Within None bytes = Unit {0}

@@ -21,8 +21,9 @@ loop-session-init g c = record {
   bytes = λ definitions can.
       let nothing : part (schema_of definitions) c.args.book.now.opens (done_at (replicate 65 0)) ≡ 0 = part_none (schema_of definitions) c.args.book.now.opens (done_at (replicate 65 0)) (none_done 65) in
       omega (arith, nothing);
+  stands = λ x stands. stands;
   limit = refl;
-  faults = refl;
+  medium = refl;
 }
 
 pub carry_next-more-requires : goal.carry_next-more-requires
@@ -88,8 +89,9 @@ loop-session-preserved g c =
           told_sum c.loop-session.bytes c.carry_next-more.result c.saturating_add-bytes.result (part objects opens (done_at done)) (record_bytes objects (record_of id e.step)) (part objects opens after) (c.loop-session.invariant.bytes definitions can)
           (c.carry_next-more.ensures.bytes definitions e.step e.there can_one.0) c.saturating_add-bytes.ensures
           (part_more objects opens (done_at done) after session id e.step e.of_session e.there (more_here done session inside) (others_still done session inside));
+      stands = λ x stands. c.carry_next-more.ensures.stands x (c.loop-session.invariant.stands x stands);
       limit = c.carry_next-more.ensures.limit ∙ c.loop-session.invariant.limit;
-      faults = c.carry_next-more.ensures.faults ∙ c.loop-session.invariant.faults;
+      medium = c.carry_next-more.ensures.medium ∙ c.loop-session.invariant.medium;
     }
 
 pub returns-clause-carries : goal.returns-clause-carries

@@ -1,8 +1,9 @@
-use Rattle.std.proofs.Common.{◌+◌, refl, sym, ap, subst, ◌∙◌}
+use Rattle.std.proofs.Common.{◌+◌, [], refl, sym, ap, subst, ◌∙◌}
 use Rattle.iv_types.specs.Faults.{Rose}
 use Rattle.txn_machine.specs.Counts.{told_need}
 use Rattle.txn_machine.specs.Log.{Within, block_bytes}
 use Rattle.core_journal.specs.Records.{Saved, restarted}
+use Rattle.core_journal.specs.Cuts.{cut_of}
 use Rattle.core_checkpoints.proofs.Carried.{can_carry, carried_here}
 use Rattle.core_checkpoints.proofs.Saved.{is_saved, within_empty, within_carried, same_tables}
 use Rattle.core_checkpoints.proofs.saving.write.Goals as goal
@@ -45,8 +46,10 @@ returns-in-Ok-clause-ok g c = (
         saved,
         is_saved g.M.SortedMaps.maps g.M.SortedMaps.spare g.M.SortedMaps.limit core s h (g.M.SortedMaps.maps c.maps_mut.result.now) (ap g.M.SortedMaps.maps c.maps_mut.ensures.value) c.args.number number_is t.0 t.1,
         subst (λ n. g.J.Journal.has c.save.new.self (restarted rs saved (block_bytes + 1 + n))) here (c.in-Ok.ensures.ok.0 rs core.next t.0 _ t.2),
+        subst (λ m. g.J.Journal.leaves m (g.J.Journal.medium c.save.new.self) (cut_of rs) (record { saved = saved; records = [] })) (c.carry_kept-bytes.ensures.medium ∙ c.begin_checkpoint.ensures.medium)
+            (c.in-Ok.ensures.any_moment rs core.next t.0 _ (cut_of rs) t.2 (c.carry_kept-bytes.ensures.stands (cut_of rs) (c.begin_checkpoint.ensures.stands rs behind.has_them))),
       ),
-  c.in-Ok.ensures.ok.1 ∙ (c.carry_kept-bytes.ensures.faults ∙ c.begin_checkpoint.ensures.faults),
+  c.in-Ok.ensures.ok.1 ∙ ap g.J.Journal.faults (c.carry_kept-bytes.ensures.medium ∙ c.begin_checkpoint.ensures.medium),
 )
 
 pub returns-in-Ok-clause-bytes : goal.returns-in-Ok-clause-bytes
@@ -69,7 +72,18 @@ pub returns-in-Err-clause-rest : goal.returns-in-Err-clause-rest
 returns-in-Err-clause-rest g c = refl
 
 pub returns-in-Err-clause-err : goal.returns-in-Err-clause-err
-returns-in-Err-clause-err g c = subst (λ n. Rose n (g.J.Journal.faults c.save.new.self)) (c.carry_kept-bytes.ensures.faults ∙ c.begin_checkpoint.ensures.faults) c.in-Err.ensures.err
+returns-in-Err-clause-err g c = subst (λ m. Rose (g.J.Journal.faults m) (g.J.Journal.faults (g.J.Journal.medium c.save.new.self))) (c.carry_kept-bytes.ensures.medium ∙ c.begin_checkpoint.ensures.medium) c.in-Err.ensures.err
+
+pub returns-in-Err-clause-left : goal.returns-in-Err-clause-left
+returns-in-Err-clause-left g c = λ s rs h behind number_is.
+    let core = c.args.core.now in
+    let t = c.carry_kept-bytes.ensures.carries core.store.catalog rs core.next (block_bytes + 1) (can_carry g.M.SortedMaps.maps g.M.SortedMaps.spare g.M.SortedMaps.limit core s h) (c.begin_checkpoint.ensures.carries rs behind.has_them) in
+    let saved : Saved = record { maps = g.M.SortedMaps.maps c.maps_mut.result.now; definitions = core.store.catalog; commits = c.args.number; next = core.next; carried = t.0 } in (
+      saved,
+      is_saved g.M.SortedMaps.maps g.M.SortedMaps.spare g.M.SortedMaps.limit core s h (g.M.SortedMaps.maps c.maps_mut.result.now) (ap g.M.SortedMaps.maps c.maps_mut.ensures.value) c.args.number number_is t.0 t.1,
+      subst (λ m. g.J.Journal.leaves m (g.J.Journal.medium c.save.new.self) (cut_of rs) (record { saved = saved; records = [] })) (c.carry_kept-bytes.ensures.medium ∙ c.begin_checkpoint.ensures.medium)
+          (c.in-Err.ensures.any_moment rs core.next t.0 _ (cut_of rs) t.2 (c.carry_kept-bytes.ensures.stands (cut_of rs) (c.begin_checkpoint.ensures.stands rs behind.has_them))),
+    )
 
 pub returns-in-Err-clause-limit : goal.returns-in-Err-clause-limit
 returns-in-Err-clause-limit g c = c.in-Err.ensures.limit ∙ (c.carry_kept-bytes.ensures.limit ∙ c.begin_checkpoint.ensures.limit)

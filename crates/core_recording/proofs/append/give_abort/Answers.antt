@@ -15,8 +15,8 @@ returns-then-not-wrote-clause-has g c = λ objects rs has.
 pub returns-then-not-wrote-clause-limit : goal.returns-then-not-wrote-clause-limit
 returns-then-not-wrote-clause-limit g c = refl
 
-pub returns-then-not-wrote-clause-faults : goal.returns-then-not-wrote-clause-faults
-returns-then-not-wrote-clause-faults g c = refl
+pub returns-then-not-wrote-clause-medium : goal.returns-then-not-wrote-clause-medium
+returns-then-not-wrote-clause-medium g c = refl
 
 pub returns-clause-has : goal.returns-clause-has
 returns-clause-has g c = λ objects rs has.
@@ -26,5 +26,5 @@ returns-clause-has g c = λ objects rs has.
 pub returns-clause-limit : goal.returns-clause-limit
 returns-clause-limit g c = c.give.ensures.limit
 
-pub returns-clause-faults : goal.returns-clause-faults
-returns-clause-faults g c = c.give.ensures.faults
+pub returns-clause-medium : goal.returns-clause-medium
+returns-clause-medium g c = c.give.ensures.medium

@@ -1,4 +1,4 @@
-use Rattle.std.proofs.Common.{◌≡◌, true, false, sym, ◌∙◌}
+use Rattle.std.proofs.Common.{◌≡◌, true, false, sym, ap, ◌∙◌}
 use mathlib.Core.Logic.{inl}
 use Rattle.core_state.proofs.Sessions.{is_there, open_to_commit, some_changes, no_changes}
 use Rattle.core_recording.proofs.ending.commit.Goals as goal
@@ -37,7 +37,7 @@ returns-clause-gives g c = λ s began may.
     inl (c.commit_none.ensures.gives s began may (no_changes g.M.SortedMaps.maps g.M.SortedMaps.spare g.M.SortedMaps.limit c.args.core.now s c.args.session began o c.open_of.result.now c.book_law.ensures c.open_of.ensures c.if-open_of-gt0.false))
 
 pub returns-clause-faults : goal.returns-clause-faults
-returns-clause-faults g c = λ fine. c.commit_none.ensures.faults
+returns-clause-faults g c = λ fine. ap g.J.Journal.faults c.commit_none.ensures.medium
 
 pub returns-clause-rose : goal.returns-clause-rose
 returns-clause-rose g c = λ bad. let no : true ≡ false = sym bad ∙ c.commit_none.ensures.fine in absurd cc

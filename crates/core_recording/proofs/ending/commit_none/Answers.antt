@@ -40,12 +40,12 @@ returns-clause-gives g c = λ s began may none.
     let txn = c.open_of-txn.result.now in
     let id = id_is g.M.SortedMaps.maps g.M.SortedMaps.spare g.M.SortedMaps.limit c.args.core.now s i began (open_to_commit g.M.SortedMaps.maps g.M.SortedMaps.spare g.M.SortedMaps.limit c.args.core.now s i began may) txn c.open_of-txn.ensures in
     let is = wrote_is g.M.SortedMaps.maps g.M.SortedMaps.spare g.M.SortedMaps.limit c.args.core.now s i began (open_to_commit g.M.SortedMaps.maps g.M.SortedMaps.spare g.M.SortedMaps.limit c.args.core.now s i began may) txn c.open_of-txn.ensures in
-    gave_perhaps g.M.SortedMaps.maps g.M.SortedMaps.spare g.M.SortedMaps.limit g.J.Journal.has g.J.Journal.limit c.args.core.now c.args.journal.now s i act.Commit (answer_of c.commit-said.result) c.commit-said.new.core
+    gave_perhaps g.M.SortedMaps.maps g.M.SortedMaps.spare g.M.SortedMaps.limit g.J.Journal.has g.J.Journal.limit g.J.Journal.medium g.J.Journal.leaves c.args.core.now c.args.journal.now s i act.Commit (answer_of c.commit-said.result) c.commit-said.new.core
     began told (cond txn.has_written (Some (Abort txn.id)) None) c.give_abort.new.journal
-    (λ rs. leave_told s i rs (answer_of c.commit-said.result) told.effects told.no_fault none told.says ∙ (λ x. with_perhaps (schema_of s.store) s.log.next (cond (sym is x) (Some (Abort (sym id x))) None) rs)) c.give_abort.ensures.has c.give_abort.ensures.limit tt
+    (λ rs. leave_told s i rs (answer_of c.commit-said.result) told.effects told.no_fault none told.says ∙ (λ x. with_perhaps (schema_of s.store) s.log.next (cond (sym is x) (Some (Abort (sym id x))) None) rs)) c.give_abort.ensures.has c.give_abort.ensures.limit c.give_abort.ensures.medium tt
 
-pub returns-clause-faults : goal.returns-clause-faults
-returns-clause-faults g c = c.give_abort.ensures.faults
+pub returns-clause-medium : goal.returns-clause-medium
+returns-clause-medium g c = c.give_abort.ensures.medium
 
 pub returns-clause-fine : goal.returns-clause-fine
 returns-clause-fine g c = (c.commit-said.ensures c.requires.0.state c.requires.0.began c.requires.0.may).no_fault

@@ -39,9 +39,9 @@ returns-clause-gives g c = λ s began may.
     let txn = c.open_of-txn.result.now in
     let id = id_is g.M.SortedMaps.maps g.M.SortedMaps.spare g.M.SortedMaps.limit c.args.core.now s i began may.0 txn c.open_of-txn.ensures in
     let is = wrote_is g.M.SortedMaps.maps g.M.SortedMaps.spare g.M.SortedMaps.limit c.args.core.now s i began may.0 txn c.open_of-txn.ensures in
-    gave_perhaps g.M.SortedMaps.maps g.M.SortedMaps.spare g.M.SortedMaps.limit g.J.Journal.has g.J.Journal.limit c.args.core.now c.args.journal.now s i act.End (answer_of c.end-said.result) c.end-said.new.core
+    gave_perhaps g.M.SortedMaps.maps g.M.SortedMaps.spare g.M.SortedMaps.limit g.J.Journal.has g.J.Journal.limit g.J.Journal.medium g.J.Journal.leaves c.args.core.now c.args.journal.now s i act.End (answer_of c.end-said.result) c.end-said.new.core
     began told (cond txn.has_written (Some (Abort txn.id)) None) c.give_abort.new.journal
-    (λ rs. end_told s i rs (answer_of c.end-said.result) told.effects told.says ∙ (λ x. with_perhaps (schema_of s.store) s.log.next (cond (sym is x) (Some (Abort (sym id x))) None) rs)) c.give_abort.ensures.has c.give_abort.ensures.limit tt
+    (λ rs. end_told s i rs (answer_of c.end-said.result) told.effects told.says ∙ (λ x. with_perhaps (schema_of s.store) s.log.next (cond (sym is x) (Some (Abort (sym id x))) None) rs)) c.give_abort.ensures.has c.give_abort.ensures.limit c.give_abort.ensures.medium tt
 
-pub returns-clause-faults : goal.returns-clause-faults
-returns-clause-faults g c = c.give_abort.ensures.faults
+pub returns-clause-medium : goal.returns-clause-medium
+returns-clause-medium g c = c.give_abort.ensures.medium

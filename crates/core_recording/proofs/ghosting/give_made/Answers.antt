@@ -58,8 +58,8 @@ returns-then-not-made-clause-gave g c = λ s may numbered was told rs has.
 pub returns-then-not-made-clause-limit : goal.returns-then-not-made-clause-limit
 returns-then-not-made-clause-limit g c = refl
 
-pub returns-then-not-made-clause-faults : goal.returns-then-not-made-clause-faults
-returns-then-not-made-clause-faults g c = refl
+pub returns-then-not-made-clause-medium : goal.returns-then-not-made-clause-medium
+returns-then-not-made-clause-medium g c = refl
 
 pub returns-clause-gave : goal.returns-clause-gave
 returns-clause-gave g c = λ s may numbered was told rs has.
@@ -76,5 +76,5 @@ returns-clause-gave g c = λ s may numbered was told rs has.
 pub returns-clause-limit : goal.returns-clause-limit
 returns-clause-limit g c = c.give.ensures.limit
 
-pub returns-clause-faults : goal.returns-clause-faults
-returns-clause-faults g c = c.give.ensures.faults
+pub returns-clause-medium : goal.returns-clause-medium
+returns-clause-medium g c = c.give.ensures.medium

@@ -48,11 +48,11 @@ returns-clause-gave g c = λ s a keeps may told rs has.
 pub returns-clause-limit : goal.returns-clause-limit
 returns-clause-limit g c = c.give_latest.ensures.limit
 
-pub returns-clause-faults : goal.returns-clause-faults
-returns-clause-faults g c = c.give_latest.ensures.faults
+pub returns-clause-medium : goal.returns-clause-medium
+returns-clause-medium g c = c.give_latest.ensures.medium
 
 pub returns-then-not-kept-clause-limit : goal.returns-then-not-kept-clause-limit
 returns-then-not-kept-clause-limit g c = refl
 
-pub returns-then-not-kept-clause-faults : goal.returns-then-not-kept-clause-faults
-returns-then-not-kept-clause-faults g c = refl
+pub returns-then-not-kept-clause-medium : goal.returns-then-not-kept-clause-medium
+returns-then-not-kept-clause-medium g c = refl

@@ -18,8 +18,8 @@ give_kept-requires-after_bounds g c κs within =
 pub returns-clause-gives : goal.returns-clause-gives
 returns-clause-gives g c = λ s began may.
     let told = c.pay-said.ensures s began may in
-    gave_all g.M.SortedMaps.maps g.M.SortedMaps.spare g.M.SortedMaps.limit g.J.Journal.has g.J.Journal.limit c.args.core.now c.args.journal.now s c.args.session act.Pay (answer_of c.pay-said.result) c.pay-said.new.core
-    began told c.give_kept.new.journal (λ rs has. c.give_kept.ensures.gave s act.Pay tt may told rs has) c.give_kept.ensures.limit tt
+    gave_all g.M.SortedMaps.maps g.M.SortedMaps.spare g.M.SortedMaps.limit g.J.Journal.has g.J.Journal.limit g.J.Journal.medium g.J.Journal.leaves c.args.core.now c.args.journal.now s c.args.session act.Pay (answer_of c.pay-said.result) c.pay-said.new.core
+    began told c.give_kept.new.journal (λ rs has. c.give_kept.ensures.gave s act.Pay tt may told rs has) c.give_kept.ensures.limit c.give_kept.ensures.medium tt
 
-pub returns-clause-faults : goal.returns-clause-faults
-returns-clause-faults g c = c.give_kept.ensures.faults
+pub returns-clause-medium : goal.returns-clause-medium
+returns-clause-medium g c = c.give_kept.ensures.medium

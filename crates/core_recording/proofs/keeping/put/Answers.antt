@@ -25,8 +25,8 @@ pub returns-clause-gives : goal.returns-clause-gives
 returns-clause-gives g c = λ s began may.
     let told = c.in_ok-said.ensures.told s began may in
     let a : Act = act.Put c.args.table c.args.key.now c.args.new.now in
-    gave_all g.M.SortedMaps.maps g.M.SortedMaps.spare g.M.SortedMaps.limit g.J.Journal.has g.J.Journal.limit c.args.core.now c.args.journal.now s c.args.session a (answer_of c.in_ok-said.said) c.put.new.core
-    began told c.give_kept.new.journal (λ rs has. c.give_kept.ensures.gave s a tt may told rs has) c.give_kept.ensures.limit tt
+    gave_all g.M.SortedMaps.maps g.M.SortedMaps.spare g.M.SortedMaps.limit g.J.Journal.has g.J.Journal.limit g.J.Journal.medium g.J.Journal.leaves c.args.core.now c.args.journal.now s c.args.session a (answer_of c.in_ok-said.said) c.put.new.core
+    began told c.give_kept.new.journal (λ rs has. c.give_kept.ensures.gave s a tt may told rs has) c.give_kept.ensures.limit c.give_kept.ensures.medium tt
 
 pub returns-clause-err : goal.returns-clause-err
 returns-clause-err g c = tt
@@ -34,8 +34,8 @@ returns-clause-err g c = tt
 pub returns-clause-ungiven : goal.returns-clause-ungiven
 returns-clause-ungiven g c = tt
 
-pub returns-clause-faults : goal.returns-clause-faults
-returns-clause-faults g c = c.give_kept.ensures.faults
+pub returns-clause-medium : goal.returns-clause-medium
+returns-clause-medium g c = c.give_kept.ensures.medium
 
 pub returns-in_err-said-clause-gives : goal.returns-in_err-said-clause-gives
 returns-in_err-said-clause-gives g c = let p = err_from_is_err_and c.from_residual.result c.from_residual.ensures.1 in if_ok_at _ c.from_residual.result _ p.1
@@ -46,5 +46,5 @@ returns-in_err-said-clause-err g c = on_err_of c.from_residual.result c.in_err-s
 pub returns-in_err-said-clause-ungiven : goal.returns-in_err-said-clause-ungiven
 returns-in_err-said-clause-ungiven g c = on_err_of c.from_residual.result refl
 
-pub returns-in_err-said-clause-faults : goal.returns-in_err-said-clause-faults
-returns-in_err-said-clause-faults g c = refl
+pub returns-in_err-said-clause-medium : goal.returns-in_err-said-clause-medium
+returns-in_err-said-clause-medium g c = refl

@@ -34,9 +34,9 @@ returns-clause-gives g c = λ s began may.
     let i = c.args.session in
     let u = c.undo_of_latest-undone.ensures s began may in
     let told = c.undo_one-said.ensures s began may in
-    gave_one g.M.SortedMaps.maps g.M.SortedMaps.spare g.M.SortedMaps.limit g.J.Journal.has g.J.Journal.limit c.args.core.now c.args.journal.now s i act.UndoOne (answer_of c.undo_one-said.result) c.undo_one-said.new.core
+    gave_one g.M.SortedMaps.maps g.M.SortedMaps.spare g.M.SortedMaps.limit g.J.Journal.has g.J.Journal.limit g.J.Journal.medium g.J.Journal.leaves c.args.core.now c.args.journal.now s i act.UndoOne (answer_of c.undo_one-said.result) c.undo_one-said.new.core
     began told (Undo (s.log.logged i).transaction u.0) (stands_for c.undo_of_latest-undone.result) c.give.new.journal
-    (λ rs. undo_told s i rs (answer_of c.undo_one-said.result) told.effects u.0 u.1 told.says u.2) (u.3 (schema_of s.store)) c.give.ensures.has c.give.ensures.limit tt
+    (λ rs. undo_told s i rs (answer_of c.undo_one-said.result) told.effects u.0 u.1 told.says u.2) (u.3 (schema_of s.store)) c.give.ensures.has c.give.ensures.limit c.give.ensures.medium tt
 
-pub returns-clause-faults : goal.returns-clause-faults
-returns-clause-faults g c = c.give.ensures.faults
+pub returns-clause-medium : goal.returns-clause-medium
+returns-clause-medium g c = c.give.ensures.medium

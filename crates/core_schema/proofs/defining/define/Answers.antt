@@ -29,7 +29,7 @@ pub returns-in-Err-clause-gives : goal.returns-in-Err-clause-gives
 returns-in-Err-clause-gives g c = denied_as c.in-Err.refusal c.denied.result _ c.denied.ensures (λ other s h may.
     elim c.in-Err.ensures [
       | inl e ↦ absurd (other e)
-      | inr e ↦ left_alone g.M.SortedMaps.maps g.M.SortedMaps.spare g.M.SortedMaps.limit g.J.Journal.has g.J.Journal.limit c.args.core.now c.args.journal.now s c.args.session (statement_tree c.args.statement.now) (answer.Denied c.in-Err.refusal) tt (unbound_told g.M.SortedMaps.maps g.M.SortedMaps.spare g.M.SortedMaps.limit c.args.core.now s c.args.session h (statement_tree c.args.statement.now) c.in-Err.refusal e)
+      | inr e ↦ left_alone g.M.SortedMaps.maps g.M.SortedMaps.spare g.M.SortedMaps.limit g.J.Journal.has g.J.Journal.limit g.J.Journal.medium g.J.Journal.leaves c.args.core.now c.args.journal.now s c.args.session (statement_tree c.args.statement.now) (answer.Denied c.in-Err.refusal) tt (unbound_told g.M.SortedMaps.maps g.M.SortedMaps.spare g.M.SortedMaps.limit c.args.core.now s c.args.session h (statement_tree c.args.statement.now) c.in-Err.refusal e)
     ])
 
 pub returns-in-Err-clause-err : goal.returns-in-Err-clause-err

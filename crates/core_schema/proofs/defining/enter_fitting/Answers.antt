@@ -21,7 +21,7 @@ enter_logged-requires-after_bounds g c κs within =
 pub returns-in-Some-clause-did : goal.returns-in-Some-clause-did
 returns-in-Some-clause-did g c = λ s statement f.
     let is = c.in-Some.ensures.some s.store s.log f.may.began.reserves.log_room in
-    left_alone g.M.SortedMaps.maps g.M.SortedMaps.spare g.M.SortedMaps.limit g.J.Journal.has g.J.Journal.limit c.args.core.now c.args.journal.now s c.args.session statement (answer.Refused c.in-Some.why) tt
+    left_alone g.M.SortedMaps.maps g.M.SortedMaps.spare g.M.SortedMaps.limit g.J.Journal.has g.J.Journal.limit g.J.Journal.medium g.J.Journal.leaves c.args.core.now c.args.journal.now s c.args.session statement (answer.Refused c.in-Some.why) tt
     (no_log g.M.SortedMaps.maps g.M.SortedMaps.spare g.M.SortedMaps.limit s c.args.core.now c.args.session statement c.args.definition c.args.first c.args.text f c.definition_need.result c.as_slice.result.now c.as_slice.ensures c.definition_need.ensures c.in-Some.why is.0 is.1)
 
 pub returns-in-None-clause-did : goal.returns-in-None-clause-did

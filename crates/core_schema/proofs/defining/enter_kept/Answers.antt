@@ -24,6 +24,6 @@ returns-then-fits-clause-did g c = IfOk-weaker c.enter.result _ _
 
 pub returns-clause-did : goal.returns-clause-did
 returns-clause-did g c = λ s statement f.
-    left_alone g.M.SortedMaps.maps g.M.SortedMaps.spare g.M.SortedMaps.limit g.J.Journal.has g.J.Journal.limit c.args.core.now c.args.journal.now s c.args.session statement (answer.Refused (HistoryFull c.history_bytes-kept.result c.entry_need-need.result)) tt
+    left_alone g.M.SortedMaps.maps g.M.SortedMaps.spare g.M.SortedMaps.limit g.J.Journal.has g.J.Journal.limit g.J.Journal.medium g.J.Journal.leaves c.args.core.now c.args.journal.now s c.args.session statement (answer.Refused (HistoryFull c.history_bytes-kept.result c.entry_need-need.result)) tt
     (too_full g.M.SortedMaps.maps g.M.SortedMaps.spare g.M.SortedMaps.limit s c.args.core.now c.args.session statement c.args.definition c.args.first c.args.text f c.book_law.ensures c.history_bytes-kept.result c.entry_need-need.result c.as_slice.result.now c.history_bytes-kept.ensures c.as_slice.ensures c.entry_need-need.ensures
     (λ room. let t = subst IsTrue c.if-fits.false (c.fits.ensures.1 room) in absurd (cc)))

@@ -16,7 +16,7 @@ enter_kept-requires-after_bounds g c κs within =
 
 pub returns-in-Some-clause-did : goal.returns-in-Some-clause-did
 returns-in-Some-clause-did g c = λ s statement f.
-    left_alone g.M.SortedMaps.maps g.M.SortedMaps.spare g.M.SortedMaps.limit g.J.Journal.has g.J.Journal.limit c.args.core.now c.args.journal.now s c.args.session statement (answer.Refused (DataFull c.in-Some.used c.data_need-need.result)) tt
+    left_alone g.M.SortedMaps.maps g.M.SortedMaps.spare g.M.SortedMaps.limit g.J.Journal.has g.J.Journal.limit g.J.Journal.medium g.J.Journal.leaves c.args.core.now c.args.journal.now s c.args.session statement (answer.Refused (DataFull c.in-Some.used c.data_need-need.result)) tt
     (no_data g.M.SortedMaps.maps g.M.SortedMaps.spare g.M.SortedMaps.limit s c.args.core.now c.args.session statement c.args.definition c.args.first c.args.text f c.data_need-need.result c.as_slice.result.now c.as_slice-2.result.now c.as_slice.ensures c.as_slice-2.ensures c.data_need-need.ensures c.in-Some.used c.in-Some.ensures.used c.in-Some.ensures.passes)
 
 pub returns-in-None-clause-did : goal.returns-in-None-clause-did

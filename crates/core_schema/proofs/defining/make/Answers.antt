@@ -8,7 +8,7 @@ use Rattle.core_schema.proofs.defining.make.Goals as goal
 
 pub returns-in-Some-clause-did : goal.returns-in-Some-clause-did
 returns-in-Some-clause-did g c = λ s m.
-    left_alone g.M.SortedMaps.maps g.M.SortedMaps.spare g.M.SortedMaps.limit g.J.Journal.has g.J.Journal.limit c.args.core.now c.args.journal.now s c.args.session (statement_tree c.args.statement.now) (answer.Refused (SchemaBusy c.in-Some.least)) tt
+    left_alone g.M.SortedMaps.maps g.M.SortedMaps.spare g.M.SortedMaps.limit g.J.Journal.has g.J.Journal.limit g.J.Journal.medium g.J.Journal.leaves c.args.core.now c.args.journal.now s c.args.session (statement_tree c.args.statement.now) (answer.Refused (SchemaBusy c.in-Some.least)) tt
     (busy_told g.M.SortedMaps.maps g.M.SortedMaps.spare g.M.SortedMaps.limit c.args.core.now s c.args.session m.began (statement_tree c.args.statement.now) c.in-Some.least _ m.makes c.in-Some.ensures)
 
 pub make_alone-requires-after_bounds : goal.make_alone-requires-after_bounds

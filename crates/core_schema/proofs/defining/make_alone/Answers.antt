@@ -29,7 +29,7 @@ returns-in-Err-clause-did g c = denied_as c.in-Err.refusal c.denied.result _ c.d
     elim (c.in-Err.ensures.refused (contents_of s.store) (committed s.store) (can_evaluate g.M.SortedMaps.maps g.M.SortedMaps.spare g.M.SortedMaps.limit c.args.core.now s c.args.session (statement_tree c.args.statement.now) c.args.definition m) refl
     (sym (rows_stay g.M.SortedMaps.maps g.M.SortedMaps.spare g.M.SortedMaps.limit c.args.core.now s c.args.session (statement_tree c.args.statement.now) c.args.definition m))) [
       | inl e ↦ absurd (other e)
-      | inr e ↦ left_alone g.M.SortedMaps.maps g.M.SortedMaps.spare g.M.SortedMaps.limit g.J.Journal.has g.J.Journal.limit c.args.core.now c.args.journal.now s c.args.session (statement_tree c.args.statement.now) (answer.Denied c.in-Err.refusal) tt (refused_told g.M.SortedMaps.maps g.M.SortedMaps.spare g.M.SortedMaps.limit c.args.core.now s c.args.session m.began (statement_tree c.args.statement.now) c.in-Err.refusal _ m.makes m.none e)
+      | inr e ↦ left_alone g.M.SortedMaps.maps g.M.SortedMaps.spare g.M.SortedMaps.limit g.J.Journal.has g.J.Journal.limit g.J.Journal.medium g.J.Journal.leaves c.args.core.now c.args.journal.now s c.args.session (statement_tree c.args.statement.now) (answer.Denied c.in-Err.refusal) tt (refused_told g.M.SortedMaps.maps g.M.SortedMaps.spare g.M.SortedMaps.limit c.args.core.now s c.args.session m.began (statement_tree c.args.statement.now) c.in-Err.refusal _ m.makes m.none e)
     ])
 
 pub returns-in-Err-clause-err : goal.returns-in-Err-clause-err

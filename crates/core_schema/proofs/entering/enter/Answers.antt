@@ -1,8 +1,9 @@
 use Rattle.std.proofs.Common.{◌≡◌, ◌+◌, true, false, sym, subst, ◌∙◌}
 use mathlib.Core.Logic.{inl, inr}
 use Rattle.iv_types.specs.Printing.{statement_text}
-use Rattle.txn_machine.specs.Records.{Definition}
+use Rattle.txn_machine.specs.Records.{Record, Definition}
 use Rattle.txn_machine.specs.Store.{schema_of, committed}
+use Rattle.log_records.specs.Lent.{stands_for}
 use Rattle.log_disk.specs.Spelled.{in_bytes}
 use Rattle.definition_parts.specs.Parts.{part_entries, IsShort}
 use Rattle.core_state.specs.Stands.{Began}
@@ -66,11 +67,12 @@ returns-in-Ok-clause-did g c = λ s statement m.
     let r = c.in_ok-changes.ensures.ready s i statement c.args.need m c.in_ok-parts.parts (c.in_ok-parts.ensures ∙ (λ x. part_entries (c.number-number.ensures x) (c.as_slice.ensures x))) in
     let number = c.next_commit-commit.ensures s i m.may.began in
     let text = c.text_of.ensures r.text r.texts ∙ r.may.text_is in
-    inl (gave_definition g.M.SortedMaps.maps g.M.SortedMaps.spare g.M.SortedMaps.limit g.J.Journal.has g.J.Journal.limit c.args.core.now c.args.journal.now s i statement c.args.definition c.args.first c.args.text c.args.need m
+    let it : Record = Definition ((committed s.store).number + 1) i (statement_text statement) in
+    let is : stands_for c.definition_of-lent.result ≡ in_bytes (schema_of s.store) it = c.definition_of-lent.ensures (schema_of s.store) ∙ (λ x. in_bytes (schema_of s.store) (Definition (number x) i (text x))) in
+    inl (gave_definition g.M.SortedMaps.maps g.M.SortedMaps.spare g.M.SortedMaps.limit g.J.Journal.has g.J.Journal.limit g.J.Journal.medium g.J.Journal.leaves c.args.core.now c.args.journal.now s i statement c.args.definition c.args.first c.args.text c.args.need m
     c.enter_flushed-entered.result c.enter_flushed-entered.new.core c.give_and_flush.new.journal
     (c.enter_flushed-entered.ensures s statement (at_number g.M.SortedMaps.maps g.M.SortedMaps.spare g.M.SortedMaps.limit c.number-number.ensures r))
-    (λ rs has. c.in-Ok.ensures.ok.0 (schema_of s.store) (Definition ((committed s.store).number + 1) i (statement_text statement)) rs (c.definition_of-lent.ensures (schema_of s.store) ∙ (λ x. in_bytes (schema_of s.store) (Definition (number x) i (text x)))) has)
-    c.in-Ok.ensures.limit)
+    (λ rs has. c.in-Ok.ensures.ok.0 (schema_of s.store) it rs is has) (λ rs has. c.in-Ok.ensures.any_moment (schema_of s.store) it rs is has) c.in-Ok.ensures.limit)
 
 pub returns-in-Ok-clause-faults : goal.returns-in-Ok-clause-faults
 returns-in-Ok-clause-faults g c = λ fine. c.in-Ok.ensures.ok.1
@@ -82,10 +84,14 @@ pub returns-in-Err-clause-did : goal.returns-in-Err-clause-did
 returns-in-Err-clause-did g c = λ s statement m.
     let i = c.args.session in
     let r = c.in_ok-changes.ensures.ready s i statement c.args.need m c.in_ok-parts.parts (c.in_ok-parts.ensures ∙ (λ x. part_entries (c.number-number.ensures x) (c.as_slice.ensures x))) in
-    inr (gave_up g.M.SortedMaps.maps g.M.SortedMaps.spare g.M.SortedMaps.limit g.J.Journal.has g.J.Journal.limit c.args.core.now c.args.journal.now s i statement c.args.definition c.args.first c.args.text c.args.need m
+    let number = c.next_commit-commit.ensures s i m.may.began in
+    let text = c.text_of.ensures r.text r.texts ∙ r.may.text_is in
+    let it : Record = Definition ((committed s.store).number + 1) i (statement_text statement) in
+    let is : stands_for c.definition_of-lent.result ≡ in_bytes (schema_of s.store) it = c.definition_of-lent.ensures (schema_of s.store) ∙ (λ x. in_bytes (schema_of s.store) (Definition (number x) i (text x))) in
+    inr (gave_up g.M.SortedMaps.maps g.M.SortedMaps.spare g.M.SortedMaps.limit g.J.Journal.has g.J.Journal.limit g.J.Journal.medium g.J.Journal.leaves c.args.core.now c.args.journal.now s i statement c.args.definition c.args.first c.args.text c.args.need m
     c.take_back.new.core c.give_and_flush.new.journal
     (subst (λ (x : CoreState g.row.M.Denot). Began g.M.SortedMaps.maps g.M.SortedMaps.spare g.M.SortedMaps.limit x s i) (sym (c.take_back.ensures r.before r.definition r.last.are)) r.may.may.began)
-    c.in-Err.ensures.limit)
+    (λ rs has. c.in-Err.ensures.any_moment (schema_of s.store) it rs is has) c.in-Err.ensures.limit)
 
 pub returns-in-Err-clause-faults : goal.returns-in-Err-clause-faults
 returns-in-Err-clause-faults g c = λ fine. absurd (let no : true ≡ false = fine in cc)

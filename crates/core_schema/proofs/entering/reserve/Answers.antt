@@ -1,4 +1,4 @@
-use Rattle.std.proofs.Common.{◌≡◌, ◌≤◌, ◌+◌, length, arith}
+use Rattle.std.proofs.Common.{arith}
 use mathlib.Core.Path.{sym, ap, subst, ◌∙◌}
 use Rattle.core_state.specs.Stands.{Began}
 use Rattle.data_store.specs.declared.store.DataStore.{DataStore}

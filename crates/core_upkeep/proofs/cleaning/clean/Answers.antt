@@ -22,14 +22,14 @@ pub returns-clause-gives : goal.returns-clause-gives
 returns-clause-gives g c = λ s h may.
     c.clean_at.ensures.gives s h (subst (λ (key : List ℕ). IsFirstCleanable s.store (c.in-Some.view, key)) (sym c.key_of.ensures) (c.in-Some.ensures.some s h))
 
-pub returns-clause-faults : goal.returns-clause-faults
-returns-clause-faults g c = c.clean_at.ensures.faults
+pub returns-clause-medium : goal.returns-clause-medium
+returns-clause-medium g c = c.clean_at.ensures.medium
 
 pub returns-in-None-clause-gives : goal.returns-in-None-clause-gives
 returns-in-None-clause-gives g c = λ s h may.
     let core = c.args.core.now in
     let told = none_told g.M.SortedMaps.maps g.M.SortedMaps.spare g.M.SortedMaps.limit core s h (c.in-None.ensures.none refl s h) in
-    gave_none g.M.SortedMaps.maps g.M.SortedMaps.spare g.M.SortedMaps.limit g.J.Journal.has g.J.Journal.limit core c.args.journal.now s (Cleaned 0) core h told (λ rs. none_gives s rs told.effects told.says)
+    gave_none g.M.SortedMaps.maps g.M.SortedMaps.spare g.M.SortedMaps.limit g.J.Journal.has g.J.Journal.limit g.J.Journal.medium g.J.Journal.leaves core c.args.journal.now s (Cleaned 0) core h told (λ rs. none_gives s rs told.effects told.says)
 
-pub returns-in-None-clause-faults : goal.returns-in-None-clause-faults
-returns-in-None-clause-faults g c = refl
+pub returns-in-None-clause-medium : goal.returns-in-None-clause-medium
+returns-in-None-clause-medium g c = refl

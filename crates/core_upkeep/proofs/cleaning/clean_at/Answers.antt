@@ -34,18 +34,18 @@ pub returns-in-Ok-clause-gives : goal.returns-in-Ok-clause-gives
 returns-in-Ok-clause-gives g c = λ s h first.
     let place : Place = (c.args.view, c.args.group.now) in
     let done = c.in-Ok.ensures.ok s h first in
-    gave_one g.M.SortedMaps.maps g.M.SortedMaps.spare g.M.SortedMaps.limit g.J.Journal.has g.J.Journal.limit c.args.core.now c.args.journal.now s 0 act.Clean (Cleaned 1) c.remove_first.new.core
+    gave_one g.M.SortedMaps.maps g.M.SortedMaps.spare g.M.SortedMaps.limit g.J.Journal.has g.J.Journal.limit g.J.Journal.medium g.J.Journal.leaves c.args.core.now c.args.journal.now s 0 act.Clean (Cleaned 1) c.remove_first.new.core
     h done.0 (Clean place) (stands_for c.clean_of.result) c.give.new.journal
-    (λ rs. clean_gives s rs place done.0.effects done.1) (c.clean_of.ensures (schema_of s.store)) c.give.ensures.has c.give.ensures.limit tt
+    (λ rs. clean_gives s rs place done.0.effects done.1) (c.clean_of.ensures (schema_of s.store)) c.give.ensures.has c.give.ensures.limit c.give.ensures.medium tt
 
-pub returns-in-Ok-clause-faults : goal.returns-in-Ok-clause-faults
-returns-in-Ok-clause-faults g c = c.give.ensures.faults
+pub returns-in-Ok-clause-medium : goal.returns-in-Ok-clause-medium
+returns-in-Ok-clause-medium g c = c.give.ensures.medium
 
 pub returns-in-Err-clause-gives : goal.returns-in-Err-clause-gives
 returns-in-Err-clause-gives g c = λ s h first.
     let told = c.in-Err.ensures.err s h first in
-    gave_none g.M.SortedMaps.maps g.M.SortedMaps.spare g.M.SortedMaps.limit g.J.Journal.has g.J.Journal.limit c.args.core.now c.args.journal.now s (Refused c.in-Err.why) c.remove_first.new.core
+    gave_none g.M.SortedMaps.maps g.M.SortedMaps.spare g.M.SortedMaps.limit g.J.Journal.has g.J.Journal.limit g.J.Journal.medium g.J.Journal.leaves c.args.core.now c.args.journal.now s (Refused c.in-Err.why) c.remove_first.new.core
     h told (λ rs. refused_gives s rs c.in-Err.why told.effects told.says)
 
-pub returns-in-Err-clause-faults : goal.returns-in-Err-clause-faults
-returns-in-Err-clause-faults g c = refl
+pub returns-in-Err-clause-medium : goal.returns-in-Err-clause-medium
+returns-in-Err-clause-medium g c = refl
