@@ -1,0 +1,5 @@
+pub mod Entries
+pub mod Texts
+pub mod Few
+pub mod Standing
+pub mod Bearing
