@@ -68,8 +68,8 @@ module _ (r : Recovered) (sound : HasSound r) (past : HasNoPast r.replay.store) 
   }
 
   -- what the data use is what the entries count
-  data_are : (faults : ℕ) → used_data (opened_state (opening_of r.header texts next faults) (opened p.db p.view)) ≡ used maps
-  data_are faults =
+  data_are : (faults moment : ℕ) → used_data (opened_state (opening_of r.header texts next faults moment) (opened p.db p.view)) ≡ used maps
+  data_are faults moment =
       let all = used_is r.replay.store.catalog maps r.replay.store.views (contents_of (opened p.db p.view)) is.has.closed.held is.has.sound is.has.stored limited in
       let parts : map_size (maps 0) ≡ sum (map definition_entries texts) = ap map_size is.has.texts.has.are ∙ sizes_are texts is.has.texts.has.short is.has.texts.has.few in
       let nothing : sum_over 64 (λ session. room_kept p.db.schema None false) ≡ 0 = refl in
@@ -79,7 +79,8 @@ module _ (r : Recovered) (sound : HasSound r) (past : HasNoPast r.replay.store) 
   pub can_begin : CanBegin new r.header r.replay.commits next p
   can_begin = record {
     texts = texts;
-    opens = λ faults. record {
+    create = is.has.texts.create;
+    opens = λ faults moment. record {
       log_is = refl;
       data_is = refl;
       next_is = refl;
@@ -88,7 +89,7 @@ module _ (r : Recovered) (sound : HasSound r) (past : HasNoPast r.replay.store) 
       limited = limited;
       has = has_database;
       maps_limit = limit;
-      within = let same_bytes = data_are faults in let within = sound.within in omega (arith, same_bytes, within);
+      within = let same_bytes = data_are faults moment in let within = sound.within in omega (arith, same_bytes, within);
       least = let least = fits.areas.0 in omega (arith, least);
       few = sound.few;
       early = early;
@@ -100,8 +101,9 @@ pub same_entries : (store : DataStore Tree) (tables : Tree) (h : LiveHeader) (co
     → CanBegin store h commits next p → CanBegin (record store { tables = tables }) h commits next p
 same_entries store tables h commits next p maps limit can = record {
   texts = can.texts;
-  opens = λ faults.
-      let o = can.opens faults in record {
+  create = can.create;
+  opens = λ faults moment.
+      let o = can.opens faults moment in record {
         log_is = o.log_is;
         data_is = o.data_is;
         next_is = o.next_is;

@@ -1,3 +1,4 @@
 pub mod Headers
 pub mod Beginning
 pub mod Saving
+pub mod Refusing

@@ -12,7 +12,7 @@ ghost use Rattle.ordered_index.specs.Tree.{limit_of};
 ghost use Rattle.image_finding.specs.Headers.{as_header};
 ghost use Rattle.image_opening.specs.Telling.{HasNoPast, HasSound, Refuses};
 ghost use Rattle.image_opening.specs.declared.fault.OpenFault.TheVariants as why;
-ghost use Rattle.database_opening.specs.Opened.{CanBegin, HasBegun, IsOf, IsOpenOn, OpenCounts, OpensAs};
+ghost use Rattle.database_opening.specs.Opened.{CanBegin, HasBegun, IsOf, IsOpenOn, IsRefusal, OpenCounts, OpensAs};
 ghost use Rattle.database_opening.specs.Pages.{IsSameOver};
 
 use crate::pages::on_pages;
@@ -49,7 +49,7 @@ fn begin<D: Disk>(
     requires area { header.now.area_bytes ≤ 268435456 }
     requires has { HasBegun D.is_told D.size_of D.seen D.may_leave D.faults journal store header.now commits next }
     requires can { (p : Pages) × CanBegin store header.now commits next p }
-    ensures opened { IfOk result (λ core. (p : Pages) → CanBegin store header.now commits next p → IsOpenOn D.is_told D.size_of D.seen D.may_leave D.faults core p) }
+    ensures opened { IfOk result (λ core. (p : Pages) → CanBegin store header.now commits next p → IsOpenOn D.is_told D.size_of D.seen D.may_leave D.moment D.left_since D.faults core p) }
     ensures refused { IfErr result (λ refused. refused.fault ≡ why.NoMemory) }
     ensures disk { MatchResult result (λ core. disk_of core.journal ≡ disk_of journal) (λ refused. refused.disk ≡ disk_of journal) }
 {
@@ -79,8 +79,8 @@ fn save<D: Disk>(
     requires header { D.is_told → HasHeader (D.size_of disk) header.now.pages header.now.number header.now.area (D.seen disk) (D.may_leave disk) }
     requires limit { limit_of store.tables ≡ Some (data_limit header.now.pages) }
     requires can { (p : Pages) × CanBegin store header.now commits next p }
-    ensures opened { IfOk result (λ core. (p : Pages) → CanBegin store header.now commits next p → IsOpenOn D.is_told D.size_of D.seen D.may_leave D.faults core p) }
-    ensures refused { IfErr result (λ refused. (c : List ℕ) → Refuses c refused.fault) }
+    ensures opened { IfOk result (λ core. (p : Pages) → CanBegin store header.now commits next p → IsOpenOn D.is_told D.size_of D.seen D.may_leave D.moment D.left_since D.faults core p) }
+    ensures refused { IfErr result (λ refused. IsRefusal refused.fault → ⊥) }
     ensures cause { OpenCounts D.faults (D.faults disk) result }
 {
     let mut journal = LogJournal::restarting(
@@ -133,8 +133,8 @@ fn open_recovered<D: Disk>(
     requires header { D.is_told → HasHeader (D.size_of disk) recovered.header.pages recovered.header.number recovered.header.area (D.seen disk) (D.may_leave disk) }
     requires sound { HasSound recovered }
     requires no_past { HasNoPast recovered.replay.store }
-    ensures opened { IfOk result (λ core. (p : Pages) → IsOf recovered p → IsOpenOn D.is_told D.size_of D.seen D.may_leave D.faults core p) }
-    ensures refused { IfErr result (λ refused. (c : List ℕ) → Refuses c refused.fault) }
+    ensures opened { IfOk result (λ core. (p : Pages) → IsOf recovered p → IsOpenOn D.is_told D.size_of D.seen D.may_leave D.moment D.left_since D.faults core p) }
+    ensures refused { IfErr result (λ refused. IsRefusal refused.fault → ⊥) }
     ensures cause { OpenCounts D.faults (D.faults disk) result }
 {
     let Recovered { header, replay } = recovered;
@@ -167,9 +167,10 @@ fn open_settled<D: Disk>(
     mut disk: D,
 ) -> Result<Core<PageMaps, LogJournal<D>>, OpenRefused<D>>
     requires settled { D.is_told → Only (D.seen disk) (D.may_leave disk) }
-    ensures opened { IfOk result (λ core. (p : Pages) × IsOpenOn D.is_told D.size_of D.seen D.may_leave D.faults core p) }
-    ensures recovered { D.is_told → IfOk result (OpensAs D.is_told D.size_of D.seen D.may_leave D.faults (D.seen disk)) }
+    ensures opened { IfOk result (λ core. (p : Pages) × IsOpenOn D.is_told D.size_of D.seen D.may_leave D.moment D.left_since D.faults core p) }
+    ensures recovered { D.is_told → IfOk result (OpensAs D.is_told D.size_of D.seen D.may_leave D.moment D.left_since D.faults (D.seen disk)) }
     ensures refused { D.is_told → IfErr result (λ refused. Refuses (D.seen disk) refused.fault) }
+    ensures untouched { D.is_told → IfErr result (λ refused. IsRefusal refused.fault → D.seen refused.disk ≡ D.seen disk) }
     ensures cause { OpenCounts D.faults (D.faults disk) result }
 {
     match read_image(alloc, &mut disk) {
@@ -192,11 +193,13 @@ pub fn open_database<D: Disk>(
     disk: D,
 ) -> Result<Core<PageMaps, LogJournal<D>>, OpenRefused<D>>
     // The core stands where steps begin, on a database that is sound, whatever the disk is.
-    ensures opened { IfOk result (λ core. (p : Pages) × IsOpenOn D.is_told D.size_of D.seen D.may_leave D.faults core p) }
+    ensures opened { IfOk result (λ core. (p : Pages) × IsOpenOn D.is_told D.size_of D.seen D.may_leave D.moment D.left_since D.faults core p) }
     // The database is what the image recovers to that stands there, which is refused for nothing.
-    ensures recovered { D.is_told → IfOk result (OpensAs D.is_told D.size_of D.seen D.may_leave D.faults (D.seen disk)) }
+    ensures recovered { D.is_told → IfOk result (OpensAs D.is_told D.size_of D.seen D.may_leave D.moment D.left_since D.faults (D.seen disk)) }
     // It is refused for what is told.
     ensures refused { D.is_told → IfErr result (λ refused. Refuses (D.seen disk) refused.fault) }
+    // The disk of an image that is refused reads as before.
+    ensures untouched { D.is_told → IfErr result (λ refused. IsRefusal refused.fault → D.seen refused.disk ≡ D.seen disk) }
     ensures cause { OpenCounts D.faults (D.faults disk) result }
 {
     let mut disk = disk;

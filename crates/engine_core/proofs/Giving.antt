@@ -15,7 +15,8 @@ use Rattle.txn_book.specs.Moves.{CountsFault}
 use Rattle.txn_book.specs.declared.step.Act.{Act as BookAct}
 use Rattle.txn_book.specs.declared.step.Answer.{Answer as BookAnswer}
 use Rattle.core_journal.specs.Records.{Records, records_after}
-use Rattle.core_recording.specs.Giving.{IsSaved, CanGive, Gives, MayGiveUp}
+use Rattle.core_journal.specs.Cuts.{Cut, cut_of}
+use Rattle.core_recording.specs.Giving.{IsSaved, CanGive, LeavesOne, Gives, MayGiveUp}
 use Rattle.core_recording.proofs.Plain.{plain_gives, other_gives}
 use Rattle.core_state.specs.Stands.{Began, Told}
 use Rattle.core_state.specs.declared.state.CoreState.{CoreState}
@@ -31,29 +32,45 @@ pub both_ok : {A E : Type 0} {P Q R : A → Type 0} (r : Result A E) → ((a : A
 both_ok (Ok a) f p q = f a p q
 both_ok (Err e) f p q = tt
 
-module _ {M J : Type 0} (maps : M → ℕ → Map) (spare : M → ℕ → ℕ) (limit : M → Option ℕ) (has : J → Records → Type 0) (area : J → Option ℕ) (core : CoreState M) (journal : J) (i : ℕ) where
-  -- what an act needs, where it is this one
-  pub can_give : (x y : BookAct) → x ≡ y → CanGive maps spare limit has area core journal i (act_of x) → CanGive maps spare limit has area core journal i (act_of y)
-  can_give x y e h = subst (λ (a : BookAct). CanGive maps spare limit has area core journal i (act_of a)) e h
+-- what an act needs, where it is this one
+pub can_give : {M J : Type 0} (maps : M → ℕ → Map) (spare : M → ℕ → ℕ) (limit : M → Option ℕ) (has : J → Records → Type 0) (area : J → Option ℕ) (core : CoreState M) (journal : J) (i : ℕ) (x y : BookAct) → x ≡ y → CanGive maps spare limit has area core journal i (act_of x)
+    → CanGive maps spare limit has area core journal i (act_of y)
+can_give maps spare limit has area core journal i x y e h = subst (λ (a : BookAct). CanGive maps spare limit has area core journal i (act_of a)) e h
+
+module _ {M J X : Type 0} (maps : M → ℕ → Map) (spare : M → ℕ → ℕ) (limit : M → Option ℕ) (has : J → Records → Type 0) (area : J → Option ℕ) (medium : J → X) (leaves : X → X → Cut → Cut → Type 0) (core : CoreState M) (journal : J) (i : ℕ) where
+  -- the journal has these, and nothing was written
+  abbrev Still : Records → Records → Type 0
+  Still rs xs = has journal xs × LeavesOne medium leaves journal journal (cut_of rs) (cut_of xs)
+
+  still : (rs xs : Records) → xs ≡ rs → has journal rs → Still rs xs
+  still rs xs same h = (subst (has journal) (sym same) h, inl refl)
 
   -- an act that gives nothing
   pub quiet_did : (a : Act) (said : Answer) (then : CoreState M) → IsQuiet a → ((s : State) → Began maps spare limit core s i → MayAct s.store i a → Told maps spare limit s i a said then)
-      → MayGiveUp maps spare limit has area core journal i a said then journal
+      → MayGiveUp maps spare limit has area medium leaves core journal i a said then journal
   quiet_did a said then quiet tells s began may =
       let told : Told maps spare limit s i a said then = tells s began may in
-      inl (record { told = told; gave = λ rs behind. plain_gives (has journal) (IsSaved s) a said _ (quiet_plain a quiet) (subst (has journal) (sym (quiet_records s i rs a said told.effects quiet told.says)) behind.has_them); same_limit = refl })
+      inl (record {
+        told = told;
+        gave = λ rs behind.
+            let given : Records = records_after s i a said told.effects rs in
+            plain_gives (Still rs) (IsSaved s) a said given (quiet_plain a quiet) (still rs given (quiet_records s i rs a said told.effects quiet told.says) behind.has_them);
+        same_limit = refl;
+      })
 
   -- one for which there was no memory
   pub lacks_did : (a : Act) (then : CoreState M) → TakesMemory a → ((s : State) → Began maps spare limit core s i → MayAct s.store i a → Began maps spare limit then s i)
-      → MayGiveUp maps spare limit has area core journal i a (answer.Refused NoMemory) then journal
-  lacks_did a then takes still s began may =
-      let told : Told maps spare limit s i a (answer.Refused NoMemory) then = no_memory_told maps spare limit then s i a takes (still s began may) in
+      → MayGiveUp maps spare limit has area medium leaves core journal i a (answer.Refused NoMemory) then journal
+  lacks_did a then takes still_began s began may =
+      let told : Told maps spare limit s i a (answer.Refused NoMemory) then = no_memory_told maps spare limit then s i a takes (still_began s began may) in
       inl (record {
         told = told;
-        gave = λ rs behind. other_gives (has journal) (IsSaved s) a (answer.Refused NoMemory) _ (λ x. x) (subst (has journal) (sym (ap (λ es. records_after s i a (answer.Refused NoMemory) es rs) told.says.1 ∙ unmade_records s i rs a)) behind.has_them);
+        gave = λ rs behind.
+            let given : Records = records_after s i a (answer.Refused NoMemory) told.effects rs in
+            other_gives (Still rs) (IsSaved s) a (answer.Refused NoMemory) given (λ x. x) (still rs given (ap (λ es. records_after s i a (answer.Refused NoMemory) es rs) told.says.1 ∙ unmade_records s i rs a) behind.has_them);
         same_limit = refl;
       })
 
   -- one that gives
-  pub gives_did : (a : Act) (said : Answer) (then : CoreState M) (after : J) → Gives maps spare limit has area core journal i a said then after → MayGiveUp maps spare limit has area core journal i a said then after
+  pub gives_did : (a : Act) (said : Answer) (then : CoreState M) (after : J) → Gives maps spare limit has area medium leaves core journal i a said then after → MayGiveUp maps spare limit has area medium leaves core journal i a said then after
   gives_did a said then after gives s began may = inl (gives s began may)

@@ -6,3 +6,11 @@ pub mod Recording
 pub mod Seats
 pub mod Steps
 pub mod Stopping
+pub mod Carrying
+pub mod Keeping
+pub mod Saving
+pub mod Creating
+pub mod Once
+pub mod Crashing
+pub mod Lasting
+pub mod OnDisk

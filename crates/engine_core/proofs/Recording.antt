@@ -16,9 +16,11 @@ use Rattle.txn_machine.specs.Records.{Record}
 use Rattle.txn_machine.specs.State.{State, Stop, Seat, Cleaner, is_fault, most_steps}
 use Rattle.txn_machine.specs.Steps.{Step}
 use Rattle.txn_machine.specs.Store.{Store, Effect, Commits, Defines, schema_of, does}
+use Rattle.txn_machine.proofs.Stepping.{some_not_none}
 use Rattle.txn_log.specs.Appended.{Numbered}
 use Rattle.core_journal.specs.Records.{Records, with_one, with_perhaps, flushed_all, flushed_after, recorded, recorded_all, records_after, Saved, with_saved, GivesTo}
-use Rattle.core_recording.specs.Giving.{IsSaved, Did, IsBehind}
+use Rattle.core_journal.specs.Cuts.{Cut, cut_of, MayHave}
+use Rattle.core_recording.specs.Giving.{IsSaved, Did, IsBehind, LeavesOne}
 use Rattle.core_recording.proofs.Used.{used_after}
 use Rattle.core_state.specs.Seats.{seat_at}
 use Rattle.core_state.specs.Stands.{Began, Counts, Failed, Moved, Stands, Told}
@@ -113,7 +115,7 @@ few_after : (s : State) (i : ℕ) (a : Act) (said : Answer) (es : List Effect) (
 few_after s i a said es rs after runs step few = let one = saves_after s i a said es rs in let more = steps_more s i a said after runs step in omega (arith, one, more, few)
 
 -- a fault stops the core
-fault_stops : (s : State) (i : ℕ) (a : Act) (after : State) → s.stop ≡ None → Step s i a (answer.Refused refusal.DiskFault) after → after.stop ≡ None → ⊥
+pub fault_stops : (s : State) (i : ℕ) (a : Act) (after : State) → s.stop ≡ None → Step s i a (answer.Refused refusal.DiskFault) after → after.stop ≡ None → ⊥
 fault_stops s i a after runs step none =
     elim step.does [
       | inl d ↦ let bad : Some (record { step = s.steps + 1; act = a }) ≡ None = sym (ap (λ (x : State). x.stop) d.left) ∙ none in cc
@@ -158,20 +160,20 @@ module _ {M : Type 0} (maps : M → ℕ → Map) (spare : M → ℕ → ℕ) (li
 
 -- ---- what was done
 
-module _ {M J : Type 0} (maps : M → ℕ → Map) (spare : M → ℕ → ℕ) (limit : M → Option ℕ) (has : J → Records → Type 0) (area : J → Option ℕ) (s : State) (i : ℕ) (a : Act) (said : Answer) where
+module _ {M J X : Type 0} (maps : M → ℕ → Map) (spare : M → ℕ → ℕ) (limit : M → Option ℕ) (has : J → Records → Type 0) (area : J → Option ℕ) (medium : J → X) (leaves : X → X → Cut → Cut → Type 0) (s : State) (i : ℕ) (a : Act) (said : Answer) where
   module _ (core : CoreState M) (journal : J) (then : CoreState M) (after : J) where
     -- it was told, where the disk did not fail
-    pub told_of : Did maps spare limit has area s i a said core journal then after → is_fault said ≡ false → Told maps spare limit s i a said then
+    pub told_of : Did maps spare limit has area medium leaves s i a said core journal then after → is_fault said ≡ false → Told maps spare limit s i a said then
     told_of (inl gave) fine = gave.told
     told_of (inr up) fine = absurd (let no : false ≡ true = sym fine ∙ ap is_fault up.said_is in cc)
 
-    pub failed_of : Did maps spare limit has area s i a said core journal then after → is_fault said ≡ true → Failed maps spare limit s i a then
+    pub failed_of : Did maps spare limit has area medium leaves s i a said core journal then after → is_fault said ≡ true → Failed maps spare limit s i a then
     failed_of (inl gave) bad = absurd (let no : true ≡ false = sym bad ∙ gave.told.no_fault in cc)
     failed_of (inr up) bad = up.failed
 
     module _ (rs : Records) (behind : IsBehind maps spare limit has area core journal s.log rs) (began : Began maps spare limit core s i) (new : CoreState M) where
-      pub recorded_told : (did : Did maps spare limit has area s i a said core journal then after) → is_fault said ≡ false → ((told : Told maps spare limit s i a said then) → Moved maps spare limit s i a said told.effects new)
-          → Recorded maps spare limit has area s i a said rs new after
+      pub recorded_told : (did : Did maps spare limit has area medium leaves s i a said core journal then after) → is_fault said ≡ false → ((told : Told maps spare limit s i a said then) → Moved maps spare limit s i a said told.effects new)
+          → Recorded maps spare limit has area medium leaves s i a said rs journal new after
       recorded_told (inl gave) fine closes =
           let moved : Moved maps spare limit s i a said gave.told.effects new = closes gave.told in
           record {
@@ -183,32 +185,38 @@ module _ {M J : Type 0} (maps : M → ℕ → Map) (spare : M → ℕ → ℕ) (
                 let used_now = used_after s i a said gave.told.effects rs behind.used ∙ sym (ap (λ (l : Log). l.used) moved.logged) in
                 let limit_now = gave.same_limit ∙ (behind.same_limit ∙ moved_limit maps spare limit s i a said gave.told.effects new core.log_room.limit began.opening.log_is moved) in
                 let image_now = image_after s i a said gave.told.effects rs ∙ (behind.same_image ∙ moved_image maps spare limit s i a said gave.told.effects new core.data_room.limit began.opening.data_is moved) in
-                gives_more (has after) (IsBehind maps spare limit has area new after moved.after.log) (IsSaved s) a said given
-                (λ saved have. record { has_them = have; used = used_now; same_limit = limit_now; same_image = image_now })
-                (λ have. record { has_them = have; used = used_now; same_limit = limit_now; same_image = image_now }) (gave.gave rs behind);
+                gives_more (λ xs. has after xs × LeavesOne medium leaves journal after (cut_of rs) (cut_of xs)) (IsBehind maps spare limit has area new after moved.after.log) (IsSaved s) a said given
+                (λ saved have. record { has_them = have.0; used = used_now; same_limit = limit_now; same_image = image_now })
+                (λ have. record { has_them = have.0; used = used_now; same_limit = limit_now; same_image = image_now }) (gave.gave rs behind);
             few = few_after s i a said gave.told.effects rs moved.after began.runs moved.does;
+            untouched = λ stopped. absurd (some_not_none s.stop stopped began.runs);
+            left = λ runs fine. gave.gave rs behind;
+            left_behind = λ runs bad. absurd (let no : false ≡ true = sym fine ∙ bad in cc);
           }
       recorded_told (inr up) fine closes = absurd (let no : false ≡ true = sym fine ∙ ap is_fault up.said_is in cc)
 
-      pub recorded_fault : (did : Did maps spare limit has area s i a said core journal then after) → is_fault said ≡ true → (Failed maps spare limit s i a then → Moved maps spare limit s i a (answer.Refused refusal.DiskFault) [] new)
-          → Recorded maps spare limit has area s i a said rs new after
+      pub recorded_fault : (did : Did maps spare limit has area medium leaves s i a said core journal then after) → is_fault said ≡ true → (Failed maps spare limit s i a then → Moved maps spare limit s i a (answer.Refused refusal.DiskFault) [] new)
+          → Recorded maps spare limit has area medium leaves s i a said rs journal new after
       recorded_fault (inl gave) bad closes = absurd (let no : true ≡ false = sym bad ∙ gave.told.no_fault in cc)
       recorded_fault (inr up) bad closes =
           let moved : Moved maps spare limit s i a (answer.Refused refusal.DiskFault) [] new = closes up.failed in
-          subst (λ m. Recorded maps spare limit has area s i a m rs new after) (sym up.said_is)
+          subst (λ m. Recorded maps spare limit has area medium leaves s i a m rs journal new after) (sym up.said_is)
           (record {
             effects = [];
             says = inl up.failed.says;
             moved = moved;
             behind = λ none. absurd (fault_stops s i a moved.after began.runs moved.does none);
             few = few_after s i a (answer.Refused refusal.DiskFault) [] rs moved.after began.runs moved.does;
+            untouched = λ stopped. absurd (some_not_none s.stop stopped began.runs);
+            left = λ runs fine. absurd (let no : true ≡ false = fine in cc);
+            left_behind = λ runs bad_now. subst (λ m. MayHave (LeavesOne medium leaves journal after (cut_of rs)) (IsSaved s) a (records_after s i a m [] rs)) up.said_is (up.left rs behind);
           })
 
 -- a session is told of a stop
-pub recorded_stop : {M J : Type 0} (maps : M → ℕ → Map) (spare : M → ℕ → ℕ) (limit : M → Option ℕ) (has : J → Records → Type 0) (area : J → Option ℕ) (s : State) (i : ℕ) (a : Act) (stop : Stop) (core : CoreState M) (journal : J) (rs : Records)
+pub recorded_stop : {M J X : Type 0} (maps : M → ℕ → Map) (spare : M → ℕ → ℕ) (limit : M → Option ℕ) (has : J → Records → Type 0) (area : J → Option ℕ) (medium : J → X) (leaves : X → X → Cut → Cut → Type 0) (s : State) (i : ℕ) (a : Act) (stop : Stop) (core : CoreState M) (journal : J) (rs : Records)
     → s.stop ≡ Some stop → (new : CoreState M) → Moved maps spare limit s i a (answer.Refused (refusal.Stopped stop.step)) [] new
-    → Recorded maps spare limit has area s i a (answer.Refused (refusal.Stopped stop.step)) rs new journal
-recorded_stop maps spare limit has area s i a stop core journal rs stopped new moved = record {
+    → Recorded maps spare limit has area medium leaves s i a (answer.Refused (refusal.Stopped stop.step)) rs journal new journal
+recorded_stop maps spare limit has area medium leaves s i a stop core journal rs stopped new moved = record {
   effects = [];
   says = inr (subst IsSome (sym stopped) refl, refl);
   moved = moved;
@@ -217,6 +225,9 @@ recorded_stop maps spare limit has area s i a stop core journal rs stopped new m
       let same : (records_after s i a (answer.Refused (refusal.Stopped stop.step)) [] rs).saves ≡ rs.saves = ap (λ (x : Records). x.saves) (stopped_records s i rs a stop.step) in
       let still = (stays moved).1 in
       omega (arith, few, same, still);
+  untouched = λ _. refl;
+  left = λ runs fine. absurd (let bad : Some stop ≡ None = sym stopped ∙ runs in cc);
+  left_behind = λ runs bad. absurd (let no : false ≡ true = bad in cc);
 }
   where
     stays : (m : Moved maps spare limit s i a (answer.Refused (refusal.Stopped stop.step)) [] new) → (m.after.stop ≡ Some stop) × (m.after.steps ≡ s.steps)

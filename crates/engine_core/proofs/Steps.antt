@@ -23,8 +23,9 @@ use Rattle.txn_book.specs.declared.step.Answer as told
 use Rattle.ordered_index.specs.Tree.{Tree, map_of, spare_of, limit_of}
 use Rattle.core_journal.specs.NoJournal as no_journal
 use Rattle.core_journal.specs.Records.{Records, records_after}
+use Rattle.core_journal.specs.Cuts.{Cut}
 use Rattle.core_journal.specs.declared.none.NoJournal.{NoJournal}
-use Rattle.log_journal.specs.Standing.{Has, area_limit, disk_of}
+use Rattle.log_journal.specs.Standing.{Has, area_limit}
 use Rattle.log_journal.specs.declared.journal.LogJournal.{LogJournal}
 use Rattle.core_recording.specs.Giving.{IsSaved, IsBehind}
 use Rattle.core_state.specs.Stands.{Stands}
@@ -35,7 +36,7 @@ use Rattle.engine_core.specs.declared.engine.Core.{Core}
 use Rattle.engine_core.proofs.Recording.{gives_some, opening_stays, stays_stopped}
 
 -- a step after which a core is not stopped was not told of a fault, nor was the core stopped before it
-runs_still : (s : State) (i : ℕ) (a : Act) (said : Answer) (after : State) → Step s i a said after → after.stop ≡ None → (s.stop ≡ None) × (is_fault said ≡ false)
+pub runs_still : (s : State) (i : ℕ) (a : Act) (said : Answer) (after : State) → Step s i a said after → after.stop ≡ None → (s.stop ≡ None) × (is_fault said ≡ false)
 runs_still s i a said after step none = by s.stop refl
   where
     not_told : (told : Bool) → is_fault said ≡ told → s.stop ≡ None → is_fault said ≡ false
@@ -53,9 +54,9 @@ runs_still s i a said after step none = by s.stop refl
 
 module _ {M J : Type 0} (maps : M → ℕ → Map) (spare : M → ℕ → ℕ) (limit : M → Option ℕ) (has : J → Records → Type 0) (area : J → Option ℕ) (faults : J → ℕ) where
   -- a core moves as its state does
-  pub moves_as : (old : J) (core : Core M J) (s : State) (step : asked.Step) (said : told.Answer) (rs : Records) → rs.saves ≤ s.steps + 1 → (s.stop ≡ None → faults old ≡ s.opening.faults) → CountsFault said (faults old) (faults core.journal)
-      → Recorded maps spare limit has area s step.session (act_of step.act) (answer_of said) rs core.state core.journal → Moves (IsIn maps spare limit has area faults core) (λ db. ⊥) s step said
-  moves_as old core s step said rs few well counts r = record {
+  pub moves_as : {X : Type 0} (medium : J → X) (leaves : X → X → Cut → Cut → Type 0) (old : J) (core : Core M J) (s : State) (step : asked.Step) (said : told.Answer) (rs : Records) → rs.saves ≤ s.steps + 1 → (s.stop ≡ None → faults old ≡ s.opening.faults) → CountsFault said (faults old) (faults core.journal)
+      → Recorded maps spare limit has area medium leaves s step.session (act_of step.act) (answer_of said) rs old core.state core.journal → Moves (IsIn maps spare limit has area faults core) (λ db. ⊥) s step said
+  moves_as medium leaves old core s step said rs few well counts r = record {
     after = r.moved.after;
     does = r.moved.does;
     stands = by r.moved.after.stop refl;
@@ -93,9 +94,11 @@ pub done_in_memory : (core : Core Tree NoJournal) (step : asked.Step) → IsAska
     → (s : State) × (rs : Records) × Stands map_of spare_of limit_of core.state s × (s.stop ≡ None → IsBehind map_of spare_of limit_of no_journal.has_any no_journal.limit_of core.state core.journal s.log rs) × IsAsked s step × (rs.saves ≤ s.steps + 1)
 done_in_memory = may_be_done map_of spare_of limit_of no_journal.has_any no_journal.limit_of (λ journal. 0)
 
-pub done_on_disk : {D : Type 0} (is_told : Type 0) (size_of : D → ℕ) (seen : D → List ℕ) (may_leave : D → List ℕ → Type 0) (faults : D → ℕ) (core : Core Tree (LogJournal D)) (step : asked.Step) → IsAskable (IsOnDisk is_told size_of seen may_leave faults core) step
+pub done_on_disk : {D : Type 0} (is_told : Type 0) (size_of : D → ℕ) (seen : D → List ℕ) (may_leave : D → List ℕ → Type 0) (moment : D → ℕ) (left_since : D → ℕ → List ℕ → Type 0) (faults : D → ℕ) (core : Core Tree (LogJournal D)) (step : asked.Step)
+    → IsAskable (IsOnDisk is_told size_of seen may_leave moment left_since faults core) step
     → (s : State) × (rs : Records) × Stands map_of spare_of limit_of core.state s × (s.stop ≡ None → IsBehind map_of spare_of limit_of (Has is_told size_of seen may_leave) area_limit core.state core.journal s.log rs) × IsAsked s step × (rs.saves ≤ s.steps + 1)
-done_on_disk is_told size_of seen may_leave faults = may_be_done map_of spare_of limit_of (Has is_told size_of seen may_leave) area_limit (λ journal. faults (disk_of journal))
+done_on_disk is_told size_of seen may_leave moment left_since faults core step q =
+    let h = q.stands.is_in in (q.state, h.records, h.stands, h.behind, q.asked, h.few)
 
 -- as many are kept in the book
 pub kept_as : (objects : Schema) (o : Option BookOpen) (m : Option Open) (l : Logged) → IsSame objects o m l → option_map (λ (t : BookOpen). length t.kept.items) o ≡ option_map kept_count m

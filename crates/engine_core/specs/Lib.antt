@@ -1,3 +1,5 @@
+pub mod Crashes
 pub mod Standing
+pub mod CrashLaws
 pub mod Acting
 pub mod Laws

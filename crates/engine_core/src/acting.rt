@@ -27,8 +27,8 @@ fn act<M: SortedMaps, J: Checkpoints<M>>(
     act: &Act,
 ) -> Result<Answer, NoMemory>
     requires { CanGive M.maps M.spare M.limit J.has J.limit core.old journal.old session (act_of act.now) }
-    ensures gives { IfOk result (λ said. MayGiveUp M.maps M.spare M.limit J.has J.limit core.old journal.old session (act_of act.now) (answer_of said) core.new journal.new) }
-    ensures faults { IfOk result (λ said. CountsFault said (J.faults journal.old) (J.faults journal.new)) }
+    ensures gives { IfOk result (λ said. MayGiveUp M.maps M.spare M.limit J.has J.limit J.medium J.leaves core.old journal.old session (act_of act.now) (answer_of said) core.new journal.new) }
+    ensures faults { IfOk result (λ said. CountsFault said (J.faults (J.medium journal.old)) (J.faults (J.medium journal.new))) }
     ensures err { OnErr result (LacksMemory M.maps M.spare M.limit core.old session (act_of act.now) core.new) }
     ensures ungiven { OnErr result (journal.new ≡ journal.old) }
 {
@@ -63,8 +63,8 @@ fn answer<M: SortedMaps, J: Checkpoints<M>>(
     asked: &Act,
 ) -> Answer
     requires { CanGive M.maps M.spare M.limit J.has J.limit core.old journal.old session (act_of asked.now) }
-    ensures gives { MayGiveUp M.maps M.spare M.limit J.has J.limit core.old journal.old session (act_of asked.now) (answer_of result) core.new journal.new }
-    ensures faults { CountsFault result (J.faults journal.old) (J.faults journal.new) }
+    ensures gives { MayGiveUp M.maps M.spare M.limit J.has J.limit J.medium J.leaves core.old journal.old session (act_of asked.now) (answer_of result) core.new journal.new }
+    ensures faults { CountsFault result (J.faults (J.medium journal.old)) (J.faults (J.medium journal.new)) }
 {
     match act(core, journal, session, asked) {
         Ok(said) => said,
@@ -99,8 +99,8 @@ fn run<M: SortedMaps, J: Checkpoints<M>>(
 ) -> Answer
     requires { (s : State) × (rs : Records) × Stands M.maps M.spare M.limit core.old s × IsBehind M.maps M.spare M.limit J.has J.limit core.old journal.old s.log rs × (s.stop ≡ None) × IsAsked s step.now × (rs.saves ≤ s.steps + 1) }
     ensures recorded { (s : State) (rs : Records) → Stands M.maps M.spare M.limit core.old s → IsBehind M.maps M.spare M.limit J.has J.limit core.old journal.old s.log rs → s.stop ≡ None → IsAsked s step.now
-        → Recorded M.maps M.spare M.limit J.has J.limit s step.now.session (act_of step.now.act) (answer_of result) rs core.new journal.new }
-    ensures faults { CountsFault result (J.faults journal.old) (J.faults journal.new) }
+        → Recorded M.maps M.spare M.limit J.has J.limit J.medium J.leaves s step.now.session (act_of step.now.act) (answer_of result) rs journal.old core.new journal.new }
+    ensures faults { CountsFault result (J.faults (J.medium journal.old)) (J.faults (J.medium journal.new)) }
 {
     core.open_step(step.session);
     let said = answer(core, journal, step.session, &step.act);
@@ -120,8 +120,8 @@ pub fn do_one<M: SortedMaps, J: Checkpoints<M>>(
 ) -> Answer
     requires { (s : State) × (rs : Records) × Stands M.maps M.spare M.limit core.old s × (s.stop ≡ None → IsBehind M.maps M.spare M.limit J.has J.limit core.old journal.old s.log rs) × IsAsked s step.now × (rs.saves ≤ s.steps + 1) }
     ensures recorded { (s : State) (rs : Records) → Stands M.maps M.spare M.limit core.old s → (s.stop ≡ None → IsBehind M.maps M.spare M.limit J.has J.limit core.old journal.old s.log rs) → IsAsked s step.now
-        → Recorded M.maps M.spare M.limit J.has J.limit s step.now.session (act_of step.now.act) (answer_of result) rs core.new journal.new }
-    ensures faults { CountsFault result (J.faults journal.old) (J.faults journal.new) }
+        → Recorded M.maps M.spare M.limit J.has J.limit J.medium J.leaves s step.now.session (act_of step.now.act) (answer_of result) rs journal.old core.new journal.new }
+    ensures faults { CountsFault result (J.faults (J.medium journal.old)) (J.faults (J.medium journal.new)) }
 {
     match core.stop {
         Some(number) => {

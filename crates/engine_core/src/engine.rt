@@ -14,6 +14,8 @@ ghost use Rattle.std.specs.Option.{option_map};
 ghost use Rattle.txn_book.specs.Acts.{last_refusal};
 ghost use Rattle.txn_book.specs.Moves.{kept_count};
 ghost use Rattle.engine_core.specs.Standing.{IsIn, IsInMemory, IsOnDisk, none_below, nothing_saved};
+ghost use Rattle.engine_core.specs.Crashes.{MayRecover, RecoveredSince};
+ghost use Rattle.engine_core.specs.CrashLaws.{below, no_later, keeps_committed, keeps_prefix};
 
 use crate::acting::do_one;
 use core_journal::{Journal, NoJournal};
@@ -55,8 +57,8 @@ impl<M: SortedMaps, J: Journal + Drop> Core<M, J> {
         requires least { Within log (block_bytes + 1) }
         requires data { M.limit maps ≡ Some most }
         requires number { number < 2 ^ 63 }
-        requires well { J.faults journal ≡ 0 }
-        ensures { IfOk result (λ core. IsIn M.maps M.spare M.limit J.has J.limit J.faults core (opened_state (limited log (Some most)) (opened (record { number = number; schema = []; rows = empty }) empty))) }
+        requires well { J.faults (J.medium journal) ≡ 0 }
+        ensures { IfOk result (λ core. IsIn M.maps M.spare M.limit J.has J.limit (λ journal. J.faults (J.medium journal)) core (opened_state (limited log (Some most)) (opened (record { number = number; schema = []; rows = empty }) empty))) }
     {
         Ok(Core {
             state: CoreState::new(alloc, maps, log, most, number)?,
@@ -64,11 +66,9 @@ impl<M: SortedMaps, J: Journal + Drop> Core<M, J> {
         })
     }
 
-    /// A core that holds this, with a journal that has the records of the log as it is.
+    /// A core that holds this, with this journal.
     pub fn on(state: CoreState<M>, journal: J) -> Self
-        ensures stands { (s : State) (rs : Records) → Stands M.maps M.spare M.limit state s → IsBehind M.maps M.spare M.limit J.has J.limit state journal s.log rs → rs.saves ≤ s.steps + 1 → J.faults journal ≡ s.opening.faults
-            → IsIn M.maps M.spare M.limit J.has J.limit J.faults result s }
-        ensures journal { result.journal ≡ journal }
+        ensures { result ≡ record { state = state; journal = journal } }
     {
         Core { state, journal }
     }
@@ -111,6 +111,8 @@ fn kept_in<M: SortedMaps>(state: &CoreState<M>, session: u32) -> Option<u64>
 
 // A core without a disk. What a crash leaves is not told.
 impl Stepper for Core<PageMaps, NoJournal> {
+    ghost is_told = { ⊥ };
+
     ghost stands = { IsInMemory };
 
     ghost faults = { λ _. 0 };
@@ -132,6 +134,10 @@ impl Stepper for Core<PageMaps, NoJournal> {
     ghost only_now = { λ _ _ no. no };
 
     ghost longer = { λ _ _ _ _ _ no. no };
+
+    ghost opened_before = { λ no. absurd no };
+
+    ghost recovers_prefix = { λ no. absurd no };
 
     ghost counts_in = { λ core. none_below };
 
@@ -157,29 +163,35 @@ impl Stepper for Core<PageMaps, NoJournal> {
     }
 }
 
-// A core on a disk. What a crash leaves is not told.
+// A core on a disk.
 impl<D: Disk> Stepper for Core<PageMaps, LogJournal<D>> {
-    ghost stands = { IsOnDisk D.is_told D.size_of D.seen D.may_leave D.faults };
+    ghost is_told = { D.is_told };
+
+    ghost stands = { IsOnDisk D.is_told D.size_of D.seen D.may_leave D.moment D.left_since D.faults };
 
     ghost faults = { λ core. D.faults (disk_of core.journal) };
 
-    ghost may_recover = { λ _ _. ⊥ };
+    ghost may_recover = { MayRecover D.is_told D.left_since D.may_leave };
 
-    ghost moment = { λ _. 0 };
+    ghost moment = { λ core. D.moment (disk_of core.journal) };
 
-    ghost recovered_since = { λ _ _ _. ⊥ };
+    ghost recovered_since = { RecoveredSince D.is_told D.left_since };
 
-    ghost is_reached = { λ _ _ stands. stands.stands.reached };
+    ghost is_reached = { λ _ _ h. h.is_in.stands.reached };
 
-    ghost runs_well = { λ _ _ stands. stands.well };
+    ghost runs_well = { λ _ _ h. h.is_in.well };
 
-    ghost keeps_all = { λ _ _ _ _ _ no. absurd no };
+    ghost keeps_all = { keeps_committed D.is_told D.size_of D.seen D.may_leave D.moment D.left_since D.faults };
 
-    ghost counts_now = { λ _ _ _ _ no. no };
+    ghost counts_now = { λ core t db le may. (may.0, (may.1.0, (λ u less. D.counts_now (disk_of core.journal) u may.1.0 (below u t (D.moment (disk_of core.journal)) less le) may.1.1), may.1.2)) };
 
-    ghost only_now = { λ _ _ no. no };
+    ghost only_now = { λ core db since. (since.0, (since.1.0, D.only_now (disk_of core.journal) since.1.0 (since.1.1 (D.moment (disk_of core.journal)) (no_later (D.moment (disk_of core.journal)))), since.1.2)) };
 
-    ghost longer = { λ _ _ _ _ _ no. no };
+    ghost longer = { λ core t u db le since. (since.0, (since.1.0, (λ v less. since.1.1 v (below v t u less le)), since.1.2)) };
+
+    ghost opened_before = { λ told core s h. h.lasts.later told };
+
+    ghost recovers_prefix = { keeps_prefix D.is_told D.size_of D.seen D.may_leave D.moment D.left_since D.faults };
 
     ghost counts_in = { λ core. D.counts_in (disk_of core.journal) };
 

@@ -15,5 +15,5 @@ use iv_types::SortedMaps;
 
 /// The laws of the machine hold in every state in which a core stands.
 pub fn standing_laws<M: SortedMaps, J: Journal>()
-    ensures { StandingLaws M.maps M.spare M.limit J.has J.limit J.faults }
+    ensures { StandingLaws M.maps M.spare M.limit J.has J.limit (λ journal. J.faults (J.medium journal)) }
 {}

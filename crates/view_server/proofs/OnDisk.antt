@@ -17,16 +17,16 @@ use Rattle.view_server.specs.OnDisk.{EndsWith, EndsSo, FaultsOnDisk, IsOfLines, 
 
 -- ---- a core that was opened
 
-module _ {D : Type 0} (is_told : Type 0) (size_of : D → ℕ) (seen : D → List ℕ) (may_leave : D → List ℕ → Type 0) (faults : D → ℕ) (core : DiskCore D) where
-  abbrev pub was_opened : (p : Pages) → IsOpenOn is_told size_of seen may_leave faults core p → WasOpened (IsOnDisk is_told size_of seen may_leave faults core)
+module _ {D : Type 0} (is_told : Type 0) (size_of : D → ℕ) (seen : D → List ℕ) (may_leave : D → List ℕ → Type 0) (moment : D → ℕ) (left_since : D → ℕ → List ℕ → Type 0) (faults : D → ℕ) (core : DiskCore D) where
+  abbrev pub was_opened : (p : Pages) → IsOpenOn is_told size_of seen may_leave moment left_since faults core p → WasOpened (IsOnDisk is_told size_of seen may_leave moment left_since faults core)
   was_opened p h = record { db = p.db; stored = p.view; opening = h.opening; is_opened = h.was_opened; stands = h.stands }
 
   -- the output of its lines is that on the database which is there
-  pub ran_lines : (There : List ℕ → Type 0) → ((c : List ℕ) → There c → OpensAs is_told size_of seen may_leave faults c core) → (p : Pages) → IsOpenOn is_told size_of seen may_leave faults core p
+  pub ran_lines : (There : List ℕ → Type 0) → ((c : List ℕ) → There c → OpensAs is_told size_of seen may_leave moment left_since faults c core) → (p : Pages) → IsOpenOn is_told size_of seen may_leave moment left_since faults core p
       → (of status : Status) → EndsWith of status → (input before : List ℕ) (left written : Option (List ℕ)) → Taken of input left
-      → ((q : Pages) → IsOpenOn is_told size_of seen may_leave faults core q → Output q.db of input before left written) → RanOn There status input before left written
+      → ((q : Pages) → IsOpenOn is_told size_of seen may_leave moment left_since faults core q → Output q.db of input before left written) → RanOn There status input before left written
   ran_lines There opens p here of status ends input before left written taken out =
-      lines of ends taken p.db (out p here) (λ c there i im. let o = opens c there i im in (o.0, (o.1.0, o.1.1, out (recovered o.1.0) o.1.2)))
+      lines of ends taken p.db (out p here) (λ c there. let found = opens c there in (found.0, (λ i im. let o = found.1 i im in (o.0, (o.1.0, o.1.1, out (recovered o.1.0) o.1.2)))))
 
 -- ---- what was told
 

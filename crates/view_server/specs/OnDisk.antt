@@ -7,6 +7,7 @@ use Rattle.iv_meaning.specs.Objects.{schema_of}
 use Rattle.line_wire.specs.Wire.{WroteFront}
 use Rattle.txn_log.specs.Replay.{Reading, recovered}
 use Rattle.txn_log.specs.Refused.{PlacedImage, ReversesAs, IsFine}
+use Rattle.image_finding.specs.Rules.{PassesUpTo}
 use Rattle.image_opening.specs.Images.{IsImageIn}
 use Rattle.image_opening.specs.Telling.{Refuses}
 use Rattle.image_opening.specs.declared.fault.OpenFault.{OpenFault}
@@ -63,9 +64,10 @@ pub record IsOfLines (status : Status) : Type 0 where
 
 -- what a run on the disk with these bytes has done
 pub data RanOn (There : List ℕ → Type 0) (status : Status) (input before : List ℕ) (left written : Option (List ℕ)) : Type 0 where
-  -- The lines were run on some database: on that which the image of the bytes recovers to, which is refused for nothing.
+  -- The lines were run on some database: the bytes fail no rule up to 12, so that an image stands there, and it was that which the image
+  -- recovers to, which is refused for nothing.
   lines : (of : Status) → EndsWith of status → Taken of input left → (db : Database) → Output db of input before left written
-      → ((c : List ℕ) → There c → (i : PlacedImage) → IsImageIn c i → IsFine i × ((r : Reading) × ReversesAs i r × Output (recovered r).db of input before left written))
+      → ((c : List ℕ) → There c → PassesUpTo 12 c × ((i : PlacedImage) → IsImageIn c i → IsFine i × ((r : Reading) × ReversesAs i r × Output (recovered r).db of input before left written)))
       → RanOn There status input before left written
   -- The bytes bear no database, for what was told; no line was read.
   refused : (fault : OpenFault) → ((c : List ℕ) → There c → Refuses c fault) → (line : List ℕ) → IsTold fault line → left ≡ Some input → ToldBad status line before written

@@ -83,8 +83,8 @@ fn run_core<D: Disk, S: Source, K: Sink>(
     source: &mut S,
     sink: &mut K,
 ) -> (Status, D)
-    requires opened { (p : Pages) × IsOpenOn D.is_told D.size_of D.seen D.may_leave D.faults core p }
-    ensures output { (p : Pages) → IsOpenOn D.is_told D.size_of D.seen D.may_leave D.faults core p → (input before : List ℕ) → S.left source.old ≡ Some input → K.written sink.old ≡ Some before → Output p.db result.0 input before (S.left source.new) (K.written sink.new) }
+    requires opened { (p : Pages) × IsOpenOn D.is_told D.size_of D.seen D.may_leave D.moment D.left_since D.faults core p }
+    ensures output { (p : Pages) → IsOpenOn D.is_told D.size_of D.seen D.may_leave D.moment D.left_since D.faults core p → (input before : List ℕ) → S.left source.old ≡ Some input → K.written sink.old ≡ Some before → Output p.db result.0 input before (S.left source.new) (K.written sink.new) }
     ensures taken { (input : List ℕ) → S.left source.old ≡ Some input → Taken result.0 input (S.left source.new) }
     ensures lines { IsOfLines result.0 }
     ensures source_faults { SourceFaults result.0 (S.faults source.old) (S.faults source.new) }

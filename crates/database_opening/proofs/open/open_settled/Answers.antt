@@ -5,6 +5,7 @@ use Rattle.txn_log.specs.Replay.{recovered}
 use Rattle.log_journal.specs.Standing.{HasHeader}
 use Rattle.image_finding.specs.Headers.{as_header, StandsUpTo}
 use Rattle.database_opening.proofs.Headers.{live_header}
+use Rattle.database_opening.proofs.Refusing.{no_refusal}
 use Rattle.database_opening.proofs.open.open_settled.Goals as goal
 
 pub open_recovered-requires-clause-header : goal.open_recovered-requires-clause-header
@@ -24,9 +25,18 @@ returns-in-Ok-clause-opened g c =
 
 pub returns-in-Ok-clause-recovered : goal.returns-in-Ok-clause-recovered
 returns-in-Ok-clause-recovered g c = λ told.
-    IfOk-weaker c.open_recovered.result _ _ (λ core f i im.
-    let o = (c.in-Ok.ensures.opened told).1 i im in
-    (o.0, (o.1.reading, o.1.reverses, f (recovered o.1.reading) (record { has = o.1.has; commits = o.1.commits })))) c.open_recovered.ensures.opened
+    IfOk-weaker c.open_recovered.result _ _ (λ core f. (
+      (c.in-Ok.ensures.opened told).0.passes,
+      (λ i im.
+          let o = (c.in-Ok.ensures.opened told).1 i im in
+          (o.0, (o.1.reading, o.1.reverses, f (recovered o.1.reading) (record { has = o.1.has; commits = o.1.commits })))),
+    )) c.open_recovered.ensures.opened
 
 pub returns-in-Ok-clause-refused : goal.returns-in-Ok-clause-refused
-returns-in-Ok-clause-refused g c = λ told. MatchResult-weaker c.open_recovered.result c.open_recovered.ensures.refused (λ core u. u) (λ refused f. f (g.D.Disk.seen c.args.disk))
+returns-in-Ok-clause-refused g c = λ told. MatchResult-weaker c.open_recovered.result c.open_recovered.ensures.refused (λ core u. u) (λ refused other. no_refusal refused.fault other (g.D.Disk.seen c.args.disk))
+
+pub returns-in-Ok-clause-untouched : goal.returns-in-Ok-clause-untouched
+returns-in-Ok-clause-untouched g c = λ told. MatchResult-weaker c.open_recovered.result c.open_recovered.ensures.refused (λ core u. u) (λ refused other is. absurd (other is))
+
+pub returns-in-Err-clause-untouched : goal.returns-in-Err-clause-untouched
+returns-in-Err-clause-untouched g c = λ told is. c.in-Err.ensures.only_read.same_bytes told

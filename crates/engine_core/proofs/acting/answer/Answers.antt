@@ -8,8 +8,8 @@ use Rattle.engine_core.proofs.acting.answer.Goals as goal
 
 pub returns-in-Err-clause-gives : goal.returns-in-Err-clause-gives
 returns-in-Err-clause-gives g c =
-    subst (λ j. MayGiveUp g.M.SortedMaps.maps g.M.SortedMaps.spare g.M.SortedMaps.limit g.J.Journal.has g.J.Journal.limit c.args.core.now c.args.journal.now c.args.session (act_of c.args.asked.now) (Refused NoMemory) c.act.new.core j) (sym c.in-Err.ensures.ungiven)
-    (lacks_did g.M.SortedMaps.maps g.M.SortedMaps.spare g.M.SortedMaps.limit g.J.Journal.has g.J.Journal.limit c.args.core.now c.args.journal.now c.args.session (act_of c.args.asked.now) c.act.new.core c.in-Err.ensures.err.0 c.in-Err.ensures.err.1)
+    subst (λ j. MayGiveUp g.M.SortedMaps.maps g.M.SortedMaps.spare g.M.SortedMaps.limit g.J.Journal.has g.J.Journal.limit g.J.Journal.medium g.J.Journal.leaves c.args.core.now c.args.journal.now c.args.session (act_of c.args.asked.now) (Refused NoMemory) c.act.new.core j) (sym c.in-Err.ensures.ungiven)
+    (lacks_did g.M.SortedMaps.maps g.M.SortedMaps.spare g.M.SortedMaps.limit g.J.Journal.has g.J.Journal.limit g.J.Journal.medium g.J.Journal.leaves c.args.core.now c.args.journal.now c.args.session (act_of c.args.asked.now) c.act.new.core c.in-Err.ensures.err.0 c.in-Err.ensures.err.1)
 
 pub returns-in-Err-clause-faults : goal.returns-in-Err-clause-faults
-returns-in-Err-clause-faults g c = fine_counts _ _ _ refl (ap g.J.Journal.faults c.in-Err.ensures.ungiven)
+returns-in-Err-clause-faults g c = fine_counts _ _ _ refl (ap (λ j. g.J.Journal.faults (g.J.Journal.medium j)) c.in-Err.ensures.ungiven)

@@ -19,8 +19,8 @@ returns-in-Some-clause-recorded g c = λ s rs h behind asked.
     let i = c.args.step.now.session in
     let a = act_of c.args.step.now.act in
     let x = stopped_by s.stop c.in-Some.number (sym c.in-Some.is ∙ h.counts.stop) in
-    subst (λ n. Recorded g.M.SortedMaps.maps g.M.SortedMaps.spare g.M.SortedMaps.limit g.J.Journal.has g.J.Journal.limit s i a (Refused (Stopped n)) rs c.tell_of_stop.new.self c.args.journal.now) (sym x.number_is)
-    (recorded_stop g.M.SortedMaps.maps g.M.SortedMaps.spare g.M.SortedMaps.limit g.J.Journal.has g.J.Journal.limit s i a x.by c.args.core.now c.args.journal.now rs x.is c.tell_of_stop.new.self (c.tell_of_stop.ensures s x.by a asked h x.is))
+    subst (λ n. Recorded g.M.SortedMaps.maps g.M.SortedMaps.spare g.M.SortedMaps.limit g.J.Journal.has g.J.Journal.limit g.J.Journal.medium g.J.Journal.leaves s i a (Refused (Stopped n)) rs c.args.journal.now c.tell_of_stop.new.self c.args.journal.now) (sym x.number_is)
+    (recorded_stop g.M.SortedMaps.maps g.M.SortedMaps.spare g.M.SortedMaps.limit g.J.Journal.has g.J.Journal.limit g.J.Journal.medium g.J.Journal.leaves s i a x.by c.args.core.now c.args.journal.now rs x.is c.tell_of_stop.new.self (c.tell_of_stop.ensures s x.by a asked h x.is))
 
 pub returns-in-Some-clause-faults : goal.returns-in-Some-clause-faults
 returns-in-Some-clause-faults g c = fine_counts _ _ _ refl refl

@@ -29,7 +29,7 @@ fail_step-requires-clause-session g c κs within =
     let s = q.0 in
     let i = c.args.step.now.session in
     let a = act_of c.args.step.now.act in
-    let did : Did g.M.SortedMaps.maps g.M.SortedMaps.spare g.M.SortedMaps.limit g.J.Journal.has g.J.Journal.limit s i a (answer_of c.answer-said.result) c.open_step.new.self c.args.journal.now c.answer-said.new.core c.answer-said.new.journal = c.answer-said.ensures.gives s (c.open_step.ensures s q.2 q.4) (may_of s i a q.4 q.5.1) in
+    let did : Did g.M.SortedMaps.maps g.M.SortedMaps.spare g.M.SortedMaps.limit g.J.Journal.has g.J.Journal.limit g.J.Journal.medium g.J.Journal.leaves s i a (answer_of c.answer-said.result) c.open_step.new.self c.args.journal.now c.answer-said.new.core c.answer-said.new.journal = c.answer-said.ensures.gives s (c.open_step.ensures s q.2 q.4) (may_of s i a q.4 q.5.1) in
     few_ask i a q.5.0
 
 pub fail_step-requires-clause-steps : goal.fail_step-requires-clause-steps
@@ -38,8 +38,8 @@ fail_step-requires-clause-steps g c κs within =
     let s = q.0 in
     let i = c.args.step.now.session in
     let a = act_of c.args.step.now.act in
-    let did : Did g.M.SortedMaps.maps g.M.SortedMaps.spare g.M.SortedMaps.limit g.J.Journal.has g.J.Journal.limit s i a (answer_of c.answer-said.result) c.open_step.new.self c.args.journal.now c.answer-said.new.core c.answer-said.new.journal = c.answer-said.ensures.gives s (c.open_step.ensures s q.2 q.4) (may_of s i a q.4 q.5.1) in
-    let f : Failed g.M.SortedMaps.maps g.M.SortedMaps.spare g.M.SortedMaps.limit s i a c.answer-said.new.core = failed_of g.M.SortedMaps.maps g.M.SortedMaps.spare g.M.SortedMaps.limit g.J.Journal.has g.J.Journal.limit s i a (answer_of c.answer-said.result) c.open_step.new.self c.args.journal.now c.answer-said.new.core c.answer-said.new.journal did (sym c.tells_fault.ensures ∙ c.if-tells_fault.true) in
+    let did : Did g.M.SortedMaps.maps g.M.SortedMaps.spare g.M.SortedMaps.limit g.J.Journal.has g.J.Journal.limit g.J.Journal.medium g.J.Journal.leaves s i a (answer_of c.answer-said.result) c.open_step.new.self c.args.journal.now c.answer-said.new.core c.answer-said.new.journal = c.answer-said.ensures.gives s (c.open_step.ensures s q.2 q.4) (may_of s i a q.4 q.5.1) in
+    let f : Failed g.M.SortedMaps.maps g.M.SortedMaps.spare g.M.SortedMaps.limit s i a c.answer-said.new.core = failed_of g.M.SortedMaps.maps g.M.SortedMaps.spare g.M.SortedMaps.limit g.J.Journal.has g.J.Journal.limit g.J.Journal.medium g.J.Journal.leaves s i a (answer_of c.answer-said.result) c.open_step.new.self c.args.journal.now c.answer-said.new.core c.answer-said.new.journal did (sym c.tells_fault.ensures ∙ c.if-tells_fault.true) in
     few_steps g.M.SortedMaps.maps g.M.SortedMaps.spare g.M.SortedMaps.limit c.answer-said.new.core s f.began.counts f.began.runs
 
 pub fail_step-requires-clause-next : goal.fail_step-requires-clause-next
@@ -48,8 +48,8 @@ fail_step-requires-clause-next g c κs within =
     let s = q.0 in
     let i = c.args.step.now.session in
     let a = act_of c.args.step.now.act in
-    let did : Did g.M.SortedMaps.maps g.M.SortedMaps.spare g.M.SortedMaps.limit g.J.Journal.has g.J.Journal.limit s i a (answer_of c.answer-said.result) c.open_step.new.self c.args.journal.now c.answer-said.new.core c.answer-said.new.journal = c.answer-said.ensures.gives s (c.open_step.ensures s q.2 q.4) (may_of s i a q.4 q.5.1) in
-    let f : Failed g.M.SortedMaps.maps g.M.SortedMaps.spare g.M.SortedMaps.limit s i a c.answer-said.new.core = failed_of g.M.SortedMaps.maps g.M.SortedMaps.spare g.M.SortedMaps.limit g.J.Journal.has g.J.Journal.limit s i a (answer_of c.answer-said.result) c.open_step.new.self c.args.journal.now c.answer-said.new.core c.answer-said.new.journal did (sym c.tells_fault.ensures ∙ c.if-tells_fault.true) in
+    let did : Did g.M.SortedMaps.maps g.M.SortedMaps.spare g.M.SortedMaps.limit g.J.Journal.has g.J.Journal.limit g.J.Journal.medium g.J.Journal.leaves s i a (answer_of c.answer-said.result) c.open_step.new.self c.args.journal.now c.answer-said.new.core c.answer-said.new.journal = c.answer-said.ensures.gives s (c.open_step.ensures s q.2 q.4) (may_of s i a q.4 q.5.1) in
+    let f : Failed g.M.SortedMaps.maps g.M.SortedMaps.spare g.M.SortedMaps.limit s i a c.answer-said.new.core = failed_of g.M.SortedMaps.maps g.M.SortedMaps.spare g.M.SortedMaps.limit g.J.Journal.has g.J.Journal.limit g.J.Journal.medium g.J.Journal.leaves s i a (answer_of c.answer-said.result) c.open_step.new.self c.args.journal.now c.answer-said.new.core c.answer-said.new.journal did (sym c.tells_fault.ensures ∙ c.if-tells_fault.true) in
     few_records g.M.SortedMaps.maps g.M.SortedMaps.spare g.M.SortedMaps.limit c.answer-said.new.core s f.began.counts f.began.runs f.began.holds.next f.began.opening.early
 
 pub fail_step-requires-clause-one : goal.fail_step-requires-clause-one
@@ -61,8 +61,8 @@ fail_step-requires-clause-few g c κs within =
     let s = q.0 in
     let i = c.args.step.now.session in
     let a = act_of c.args.step.now.act in
-    let did : Did g.M.SortedMaps.maps g.M.SortedMaps.spare g.M.SortedMaps.limit g.J.Journal.has g.J.Journal.limit s i a (answer_of c.answer-said.result) c.open_step.new.self c.args.journal.now c.answer-said.new.core c.answer-said.new.journal = c.answer-said.ensures.gives s (c.open_step.ensures s q.2 q.4) (may_of s i a q.4 q.5.1) in
-    let f : Failed g.M.SortedMaps.maps g.M.SortedMaps.spare g.M.SortedMaps.limit s i a c.answer-said.new.core = failed_of g.M.SortedMaps.maps g.M.SortedMaps.spare g.M.SortedMaps.limit g.J.Journal.has g.J.Journal.limit s i a (answer_of c.answer-said.result) c.open_step.new.self c.args.journal.now c.answer-said.new.core c.answer-said.new.journal did (sym c.tells_fault.ensures ∙ c.if-tells_fault.true) in
+    let did : Did g.M.SortedMaps.maps g.M.SortedMaps.spare g.M.SortedMaps.limit g.J.Journal.has g.J.Journal.limit g.J.Journal.medium g.J.Journal.leaves s i a (answer_of c.answer-said.result) c.open_step.new.self c.args.journal.now c.answer-said.new.core c.answer-said.new.journal = c.answer-said.ensures.gives s (c.open_step.ensures s q.2 q.4) (may_of s i a q.4 q.5.1) in
+    let f : Failed g.M.SortedMaps.maps g.M.SortedMaps.spare g.M.SortedMaps.limit s i a c.answer-said.new.core = failed_of g.M.SortedMaps.maps g.M.SortedMaps.spare g.M.SortedMaps.limit g.J.Journal.has g.J.Journal.limit g.J.Journal.medium g.J.Journal.leaves s i a (answer_of c.answer-said.result) c.open_step.new.self c.args.journal.now c.answer-said.new.core c.answer-said.new.journal did (sym c.tells_fault.ensures ∙ c.if-tells_fault.true) in
     few_own g.M.SortedMaps.maps g.M.SortedMaps.spare g.M.SortedMaps.limit c.answer-said.new.core s f.began.counts f.began.runs i (few_ask i a q.5.0)
 
 pub close_step-requires-clause-session : goal.close_step-requires-clause-session
@@ -71,7 +71,7 @@ close_step-requires-clause-session g c κs within =
     let s = q.0 in
     let i = c.args.step.now.session in
     let a = act_of c.args.step.now.act in
-    let did : Did g.M.SortedMaps.maps g.M.SortedMaps.spare g.M.SortedMaps.limit g.J.Journal.has g.J.Journal.limit s i a (answer_of c.answer-said.result) c.open_step.new.self c.args.journal.now c.answer-said.new.core c.answer-said.new.journal = c.answer-said.ensures.gives s (c.open_step.ensures s q.2 q.4) (may_of s i a q.4 q.5.1) in
+    let did : Did g.M.SortedMaps.maps g.M.SortedMaps.spare g.M.SortedMaps.limit g.J.Journal.has g.J.Journal.limit g.J.Journal.medium g.J.Journal.leaves s i a (answer_of c.answer-said.result) c.open_step.new.self c.args.journal.now c.answer-said.new.core c.answer-said.new.journal = c.answer-said.ensures.gives s (c.open_step.ensures s q.2 q.4) (may_of s i a q.4 q.5.1) in
     few_ask i a q.5.0
 
 pub close_step-requires-clause-steps : goal.close_step-requires-clause-steps
@@ -80,8 +80,8 @@ close_step-requires-clause-steps g c κs within =
     let s = q.0 in
     let i = c.args.step.now.session in
     let a = act_of c.args.step.now.act in
-    let did : Did g.M.SortedMaps.maps g.M.SortedMaps.spare g.M.SortedMaps.limit g.J.Journal.has g.J.Journal.limit s i a (answer_of c.answer-said.result) c.open_step.new.self c.args.journal.now c.answer-said.new.core c.answer-said.new.journal = c.answer-said.ensures.gives s (c.open_step.ensures s q.2 q.4) (may_of s i a q.4 q.5.1) in
-    let t : Told g.M.SortedMaps.maps g.M.SortedMaps.spare g.M.SortedMaps.limit s i a (answer_of c.answer-said.result) c.answer-said.new.core = told_of g.M.SortedMaps.maps g.M.SortedMaps.spare g.M.SortedMaps.limit g.J.Journal.has g.J.Journal.limit s i a (answer_of c.answer-said.result) c.open_step.new.self c.args.journal.now c.answer-said.new.core c.answer-said.new.journal did (sym c.tells_fault.ensures ∙ c.if-tells_fault.false) in
+    let did : Did g.M.SortedMaps.maps g.M.SortedMaps.spare g.M.SortedMaps.limit g.J.Journal.has g.J.Journal.limit g.J.Journal.medium g.J.Journal.leaves s i a (answer_of c.answer-said.result) c.open_step.new.self c.args.journal.now c.answer-said.new.core c.answer-said.new.journal = c.answer-said.ensures.gives s (c.open_step.ensures s q.2 q.4) (may_of s i a q.4 q.5.1) in
+    let t : Told g.M.SortedMaps.maps g.M.SortedMaps.spare g.M.SortedMaps.limit s i a (answer_of c.answer-said.result) c.answer-said.new.core = told_of g.M.SortedMaps.maps g.M.SortedMaps.spare g.M.SortedMaps.limit g.J.Journal.has g.J.Journal.limit g.J.Journal.medium g.J.Journal.leaves s i a (answer_of c.answer-said.result) c.open_step.new.self c.args.journal.now c.answer-said.new.core c.answer-said.new.journal did (sym c.tells_fault.ensures ∙ c.if-tells_fault.false) in
     few_steps g.M.SortedMaps.maps g.M.SortedMaps.spare g.M.SortedMaps.limit c.answer-said.new.core s t.counts t.runs
 
 pub close_step-requires-clause-few : goal.close_step-requires-clause-few
@@ -90,8 +90,8 @@ close_step-requires-clause-few g c κs within =
     let s = q.0 in
     let i = c.args.step.now.session in
     let a = act_of c.args.step.now.act in
-    let did : Did g.M.SortedMaps.maps g.M.SortedMaps.spare g.M.SortedMaps.limit g.J.Journal.has g.J.Journal.limit s i a (answer_of c.answer-said.result) c.open_step.new.self c.args.journal.now c.answer-said.new.core c.answer-said.new.journal = c.answer-said.ensures.gives s (c.open_step.ensures s q.2 q.4) (may_of s i a q.4 q.5.1) in
-    let t : Told g.M.SortedMaps.maps g.M.SortedMaps.spare g.M.SortedMaps.limit s i a (answer_of c.answer-said.result) c.answer-said.new.core = told_of g.M.SortedMaps.maps g.M.SortedMaps.spare g.M.SortedMaps.limit g.J.Journal.has g.J.Journal.limit s i a (answer_of c.answer-said.result) c.open_step.new.self c.args.journal.now c.answer-said.new.core c.answer-said.new.journal did (sym c.tells_fault.ensures ∙ c.if-tells_fault.false) in
+    let did : Did g.M.SortedMaps.maps g.M.SortedMaps.spare g.M.SortedMaps.limit g.J.Journal.has g.J.Journal.limit g.J.Journal.medium g.J.Journal.leaves s i a (answer_of c.answer-said.result) c.open_step.new.self c.args.journal.now c.answer-said.new.core c.answer-said.new.journal = c.answer-said.ensures.gives s (c.open_step.ensures s q.2 q.4) (may_of s i a q.4 q.5.1) in
+    let t : Told g.M.SortedMaps.maps g.M.SortedMaps.spare g.M.SortedMaps.limit s i a (answer_of c.answer-said.result) c.answer-said.new.core = told_of g.M.SortedMaps.maps g.M.SortedMaps.spare g.M.SortedMaps.limit g.J.Journal.has g.J.Journal.limit g.J.Journal.medium g.J.Journal.leaves s i a (answer_of c.answer-said.result) c.open_step.new.self c.args.journal.now c.answer-said.new.core c.answer-said.new.journal did (sym c.tells_fault.ensures ∙ c.if-tells_fault.false) in
     few_own g.M.SortedMaps.maps g.M.SortedMaps.spare g.M.SortedMaps.limit c.answer-said.new.core s t.counts t.runs i (few_ask i a q.5.0)
 
 pub close_step-requires-clause-removed : goal.close_step-requires-clause-removed
@@ -100,8 +100,8 @@ close_step-requires-clause-removed g c κs within =
     let s = q.0 in
     let i = c.args.step.now.session in
     let a = act_of c.args.step.now.act in
-    let did : Did g.M.SortedMaps.maps g.M.SortedMaps.spare g.M.SortedMaps.limit g.J.Journal.has g.J.Journal.limit s i a (answer_of c.answer-said.result) c.open_step.new.self c.args.journal.now c.answer-said.new.core c.answer-said.new.journal = c.answer-said.ensures.gives s (c.open_step.ensures s q.2 q.4) (may_of s i a q.4 q.5.1) in
-    let t : Told g.M.SortedMaps.maps g.M.SortedMaps.spare g.M.SortedMaps.limit s i a (answer_of c.answer-said.result) c.answer-said.new.core = told_of g.M.SortedMaps.maps g.M.SortedMaps.spare g.M.SortedMaps.limit g.J.Journal.has g.J.Journal.limit s i a (answer_of c.answer-said.result) c.open_step.new.self c.args.journal.now c.answer-said.new.core c.answer-said.new.journal did (sym c.tells_fault.ensures ∙ c.if-tells_fault.false) in
+    let did : Did g.M.SortedMaps.maps g.M.SortedMaps.spare g.M.SortedMaps.limit g.J.Journal.has g.J.Journal.limit g.J.Journal.medium g.J.Journal.leaves s i a (answer_of c.answer-said.result) c.open_step.new.self c.args.journal.now c.answer-said.new.core c.answer-said.new.journal = c.answer-said.ensures.gives s (c.open_step.ensures s q.2 q.4) (may_of s i a q.4 q.5.1) in
+    let t : Told g.M.SortedMaps.maps g.M.SortedMaps.spare g.M.SortedMaps.limit s i a (answer_of c.answer-said.result) c.answer-said.new.core = told_of g.M.SortedMaps.maps g.M.SortedMaps.spare g.M.SortedMaps.limit g.J.Journal.has g.J.Journal.limit g.J.Journal.medium g.J.Journal.leaves s i a (answer_of c.answer-said.result) c.open_step.new.self c.args.journal.now c.answer-said.new.core c.answer-said.new.journal did (sym c.tells_fault.ensures ∙ c.if-tells_fault.false) in
     few_removed g.M.SortedMaps.maps g.M.SortedMaps.spare g.M.SortedMaps.limit c.answer-said.new.core s t.counts t.runs
 
 pub returns-then-tells_fault-clause-recorded : goal.returns-then-tells_fault-clause-recorded
@@ -109,15 +109,15 @@ returns-then-tells_fault-clause-recorded g c = λ s rs stands behind runs asked.
     let i = c.args.step.now.session in
     let a = act_of c.args.step.now.act in
     let began = c.open_step.ensures s stands runs in
-    let did : Did g.M.SortedMaps.maps g.M.SortedMaps.spare g.M.SortedMaps.limit g.J.Journal.has g.J.Journal.limit s i a (answer_of c.answer-said.result) c.open_step.new.self c.args.journal.now c.answer-said.new.core c.answer-said.new.journal = c.answer-said.ensures.gives s began (may_of s i a runs asked.1) in
+    let did : Did g.M.SortedMaps.maps g.M.SortedMaps.spare g.M.SortedMaps.limit g.J.Journal.has g.J.Journal.limit g.J.Journal.medium g.J.Journal.leaves s i a (answer_of c.answer-said.result) c.open_step.new.self c.args.journal.now c.answer-said.new.core c.answer-said.new.journal = c.answer-said.ensures.gives s began (may_of s i a runs asked.1) in
     let behind_then : IsBehind g.M.SortedMaps.maps g.M.SortedMaps.spare g.M.SortedMaps.limit g.J.Journal.has g.J.Journal.limit c.open_step.new.self c.args.journal.now s.log rs = behind_begun g.M.SortedMaps.maps g.M.SortedMaps.spare g.M.SortedMaps.limit s i g.J.Journal.has g.J.Journal.limit c.args.core.now c.open_step.new.self c.args.journal.now rs stands began behind in
-    recorded_fault g.M.SortedMaps.maps g.M.SortedMaps.spare g.M.SortedMaps.limit g.J.Journal.has g.J.Journal.limit s i a (answer_of c.answer-said.result) c.open_step.new.self c.args.journal.now c.answer-said.new.core c.answer-said.new.journal rs behind_then began c.fail_step.new.self did (sym c.tells_fault.ensures ∙ c.if-tells_fault.true) (λ failed. c.fail_step.ensures s a asked c.waiting_of.ensures.counts failed)
+    recorded_fault g.M.SortedMaps.maps g.M.SortedMaps.spare g.M.SortedMaps.limit g.J.Journal.has g.J.Journal.limit g.J.Journal.medium g.J.Journal.leaves s i a (answer_of c.answer-said.result) c.open_step.new.self c.args.journal.now c.answer-said.new.core c.answer-said.new.journal rs behind_then began c.fail_step.new.self did (sym c.tells_fault.ensures ∙ c.if-tells_fault.true) (λ failed. c.fail_step.ensures s a asked c.waiting_of.ensures.counts failed)
 
 pub returns-else-tells_fault-clause-recorded : goal.returns-else-tells_fault-clause-recorded
 returns-else-tells_fault-clause-recorded g c = λ s rs stands behind runs asked.
     let i = c.args.step.now.session in
     let a = act_of c.args.step.now.act in
     let began = c.open_step.ensures s stands runs in
-    let did : Did g.M.SortedMaps.maps g.M.SortedMaps.spare g.M.SortedMaps.limit g.J.Journal.has g.J.Journal.limit s i a (answer_of c.answer-said.result) c.open_step.new.self c.args.journal.now c.answer-said.new.core c.answer-said.new.journal = c.answer-said.ensures.gives s began (may_of s i a runs asked.1) in
+    let did : Did g.M.SortedMaps.maps g.M.SortedMaps.spare g.M.SortedMaps.limit g.J.Journal.has g.J.Journal.limit g.J.Journal.medium g.J.Journal.leaves s i a (answer_of c.answer-said.result) c.open_step.new.self c.args.journal.now c.answer-said.new.core c.answer-said.new.journal = c.answer-said.ensures.gives s began (may_of s i a runs asked.1) in
     let behind_then : IsBehind g.M.SortedMaps.maps g.M.SortedMaps.spare g.M.SortedMaps.limit g.J.Journal.has g.J.Journal.limit c.open_step.new.self c.args.journal.now s.log rs = behind_begun g.M.SortedMaps.maps g.M.SortedMaps.spare g.M.SortedMaps.limit s i g.J.Journal.has g.J.Journal.limit c.args.core.now c.open_step.new.self c.args.journal.now rs stands began behind in
-    recorded_told g.M.SortedMaps.maps g.M.SortedMaps.spare g.M.SortedMaps.limit g.J.Journal.has g.J.Journal.limit s i a (answer_of c.answer-said.result) c.open_step.new.self c.args.journal.now c.answer-said.new.core c.answer-said.new.journal rs behind_then began c.close_step.new.self did (sym c.tells_fault.ensures ∙ c.if-tells_fault.false) (λ told. c.close_step.ensures s a asked told)
+    recorded_told g.M.SortedMaps.maps g.M.SortedMaps.spare g.M.SortedMaps.limit g.J.Journal.has g.J.Journal.limit g.J.Journal.medium g.J.Journal.leaves s i a (answer_of c.answer-said.result) c.open_step.new.self c.args.journal.now c.answer-said.new.core c.answer-said.new.journal rs behind_then began c.close_step.new.self did (sym c.tells_fault.ensures ∙ c.if-tells_fault.false) (λ told. c.close_step.ensures s a asked told)

@@ -6,9 +6,9 @@ use Rattle.view_server.proofs.on_disk.run_on_disk.Goals as goal
 
 pub returns-in-Ok-clause-ran : goal.returns-in-Ok-clause-ran
 returns-in-Ok-clause-ran g c = λ input before e w.
-    ran_lines g.O.Disk.Disk.is_told g.O.Disk.Disk.size_of g.O.Disk.Disk.seen g.O.Disk.Disk.may_leave g.O.Disk.Disk.faults c.in-Ok.core
+    ran_lines g.O.Disk.Disk.is_told g.O.Disk.Disk.size_of g.O.Disk.Disk.seen g.O.Disk.Disk.may_leave g.O.Disk.Disk.moment g.O.Disk.Disk.left_since g.O.Disk.Disk.faults c.in-Ok.core
     (λ bytes. g.O.Disk.Disk.is_told × (g.O.Disk.Disk.seen c.args.disk ≡ bytes))
-    (λ bytes there. subst (λ (x : List ℕ). OpensAs g.O.Disk.Disk.is_told g.O.Disk.Disk.size_of g.O.Disk.Disk.seen g.O.Disk.Disk.may_leave g.O.Disk.Disk.faults x c.in-Ok.core) there.1 (c.in-Ok.ensures.recovered there.0))
+    (λ bytes there. subst (λ (x : List ℕ). OpensAs g.O.Disk.Disk.is_told g.O.Disk.Disk.size_of g.O.Disk.Disk.seen g.O.Disk.Disk.may_leave g.O.Disk.Disk.moment g.O.Disk.Disk.left_since g.O.Disk.Disk.faults x c.in-Ok.core) there.1 (c.in-Ok.ensures.recovered there.0))
     c.in-Ok.ensures.opened.0 c.in-Ok.ensures.opened.1 c.run_core-lines.result.0 c.ended.result (ends_with c.run_core-lines.result.0 c.close_disk.result c.ended.result c.ended.ensures)
     input before _ _ (c.run_core-lines.ensures.taken input e) (λ q here. c.run_core-lines.ensures.output q here input before e w)
 

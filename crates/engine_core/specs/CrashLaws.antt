@@ -1,0 +1,57 @@
+-- No clause of `run` rests on this module: it serves contracts between crates.
+--
+-- What a crash recovers of a core on a disk is what was committed.
+use Rattle.std.specs.Prelude.{◌≡◌, ℕ, ◌≤◌, List, None}
+use Rattle.std.proofs.Common.{sym, subst, ◌∙◌, arith}
+use Rattle.iv_meaning.specs.Database.{Database}
+use Rattle.txn_machine.specs.Laws.{IsOpened}
+use Rattle.txn_machine.specs.Log.{Opening}
+use Rattle.txn_machine.specs.State.{State}
+use Rattle.txn_machine.specs.Store.{committed}
+use Rattle.txn_log.specs.Replay.{Pages}
+use Rattle.txn_log.specs.Moments.{left_by}
+use Rattle.txn_book.specs.Crashes.{IsPrefix}
+use Rattle.ordered_index.specs.Tree.{Tree}
+use Rattle.core_journal.specs.Records.{Records}
+use Rattle.core_journal.specs.Cuts.{Cut, cut_of}
+use Rattle.log_journal.specs.Cuts.{IsBorne}
+use Rattle.log_journal.specs.Standing.{Has, disk_of}
+use Rattle.log_journal.specs.declared.journal.LogJournal.{LogJournal}
+use Rattle.log_journal.proofs.Cuts.{stands_now}
+use Rattle.record_worlds.specs.Pages.{HoldsPages}
+use Rattle.record_worlds.specs.Tied.{IsTied, Recovers}
+use Rattle.record_worlds.proofs.Stopping.{cut_recovers}
+use Rattle.saved_pages.proofs.Bearing.{bears}
+use Rattle.engine_core.specs.Crashes.{RecoverTo, MayRecover, RecoveredSince}
+use Rattle.engine_core.specs.Standing.{IsOnDisk}
+use Rattle.engine_core.specs.declared.engine.Core.{Core}
+
+pub below : (u t n : ℕ) → u ≤ t → t ≤ n → u ≤ n
+below u t n less le = omega (arith, less, le)
+
+pub no_later : (n : ℕ) → n ≤ n
+no_later n = omega arith
+
+-- bytes that have a cut recover to what it does
+pub only_to : (p : Pages) (o : Opening) (c : List ℕ) (x : Cut) (db other : Database) → IsBorne c x → Recovers HoldsPages p o x db → RecoverTo c other → other ≡ db
+only_to p o c x db other b r to =
+    let i = left_by r.world r.without in
+    sym (to b.0 b.1 i r.reading (bears b.0 b.1 c x b.2 i r.is) r.is_read) ∙ r.database
+
+module _ {D : Type 0} (is_told : Type 0) (size_of : D → ℕ) (seen : D → List ℕ) (may_leave : D → List ℕ → Type 0) (moment : D → ℕ) (left_since : D → ℕ → List ℕ → Type 0) (faults : D → ℕ) where
+  -- what a journal has of what is committed
+  pub recovers_now : (journal : LogJournal D) (p : Pages) → IsOpened p.db p.view → (s : State) (rs : Records) → Has is_told size_of seen may_leave journal rs → IsTied HoldsPages p s.opening s rs
+      → (db : Database) (c : List ℕ) → is_told → may_leave (disk_of journal) c → RecoverTo c db → db ≡ committed s.store
+  recovers_now journal p was s rs has tied db c told left to =
+      only_to p s.opening c (cut_of rs) (committed s.store) db
+      (subst (λ (bytes : List ℕ). IsBorne bytes (cut_of rs)) (sym ((has.kept.header told).durable c left)) (journal.log.size, journal.pages, stands_now is_told size_of seen may_leave journal rs has told))
+      (cut_recovers p was s.opening HoldsPages s rs tied) to
+
+  pub keeps_committed : (core : Core Tree (LogJournal D)) (s : State) (db : Database) → IsOnDisk is_told size_of seen may_leave moment left_since faults core s → s.stop ≡ None → MayRecover is_told left_since may_leave core db → db ≡ committed s.store
+  keeps_committed core s db h runs may =
+      recovers_now core.journal h.pages h.lasts.was_opened s h.is_in.records (h.is_in.behind runs).has_them (h.lasts.tied runs) db may.1.0 may.0 may.1.1 may.1.2
+
+  pub keeps_prefix : is_told → (core : Core Tree (LogJournal D)) (s : State) (db : Database) → IsOnDisk is_told size_of seen may_leave moment left_since faults core s → RecoveredSince is_told left_since core s.opening.moment db → IsPrefix s db
+  keeps_prefix told core s db h since =
+      let l = h.lasts.images told since.1.0 (since.1.1 s.opening.moment (omega arith)) in
+      subst (IsPrefix s) (sym (only_to h.pages s.opening since.1.0 l.cut l.db db l.borne l.recovers since.1.2)) l.prefix
