@@ -18,6 +18,8 @@ enum Sort {
     Calls,
     // They are run for each call of a disk, at which a crash comes.
     Crashes,
+    // The same, and the last part is run for each call of its own, at which a second crash comes.
+    CrashesTwice,
 }
 
 fn sort_of(name: &str) -> Sort {
@@ -29,6 +31,9 @@ fn sort_of(name: &str) -> Sort {
     }
     if name.starts_with("crashes: ") {
         return Sort::Crashes;
+    }
+    if name.starts_with("crashes twice: ") {
+        return Sort::CrashesTwice;
     }
     Sort::Once
 }
@@ -121,7 +126,8 @@ impl Cases {
         match sort_of(name) {
             Sort::Each => Ok(String::new(alloc)),
             Sort::Calls => self.outcomes.otherwise(alloc, &self.parts),
-            Sort::Crashes => crashes::otherwise(alloc, &self.outcomes, &self.parts),
+            Sort::Crashes => crashes::otherwise(alloc, &self.outcomes, &self.parts, false),
+            Sort::CrashesTwice => crashes::otherwise(alloc, &self.outcomes, &self.parts, true),
             Sort::Once => {
                 let disk = number_in(name, ", disk ")?;
                 let mut outside = new_outside(alloc, disk, number_in(name, ", outside ")?)?;

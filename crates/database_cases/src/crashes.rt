@@ -11,9 +11,6 @@ use std::alloc::Global;
 /// The name under which the disk of such a table lies.
 const NAME: &str = "x.iv";
 
-/// What a crash leaves of each range that was not synced.
-const FORMS: [Torn; 3] = [Torn::Before, Torn::After, Torn::Zeros];
-
 // An outside with what a crash now leaves of a disk, of which this call fails; 0 for none.
 fn left(
     alloc: Global,
@@ -88,62 +85,90 @@ struct Course {
     place: usize,
 }
 
-// Holds what comes of a crash at one call, where the runs have told this, against the outcomes, and tells what comes otherwise.
-fn held(
-    alloc: Global,
-    outcomes: &Outcomes,
-    parts: &Parts,
-    outside: &ListOutside,
-    told: &str,
-    course: &mut Course,
-) -> anyhow::Result<String> {
-    let last = told_behind(alloc, parts, outside, course.torn)?;
-    let found = format!(in alloc; "{told}{last}")?;
-    let Some(place) = outcomes.place_from(found.as_str(), course.place) else {
-        return difference(
-            alloc,
-            "behind a crash",
-            found.as_str(),
-            outcomes.at(course.place),
-        );
-    };
-    let is_new = place != course.place;
-    course.place = place;
-    if is_new && course.torn == Torn::After {
-        return otherwise_twice(alloc, parts, outside, course.torn, last.as_str());
+impl Course {
+    fn new(torn: Torn) -> Course {
+        Course { torn, place: 0 }
     }
-    Ok(String::new(alloc))
 }
 
-// The same for one form and each call of the disk.
-fn otherwise_so(
-    alloc: Global,
-    outcomes: &Outcomes,
-    parts: &Parts,
-    torn: Torn,
-) -> anyhow::Result<String> {
-    let mut course = Course { torn, place: 0 };
-    for call in 1..=MOST_CALLS {
-        let mut outside = new_outside(alloc, call, 0)?;
-        let told = parts.told_until_fault(alloc, &mut outside)?;
-        let has_failed = outside.faults() > 0;
-        let otherwise = held(alloc, outcomes, parts, &outside, told.as_str(), &mut course)?;
-        if !otherwise.is_empty() {
-            return Ok(format!(in alloc; "NOT call {call}, {torn:?}\n{otherwise}")?);
-        }
-        if !has_failed {
-            return end(alloc, outcomes, course.place);
-        }
-    }
-    Ok(format!(in alloc; "NOT so few calls\n")?)
+/// A table, and whether a second crash comes behind the first.
+#[derive(Clone, Copy)]
+struct Table<'a> {
+    outcomes: &'a Outcomes,
+    parts: &'a Parts,
+    is_twice: bool,
 }
 
-// What is told at the end of all calls.
-fn end(alloc: Global, outcomes: &Outcomes, place: usize) -> anyhow::Result<String> {
-    if place.saturating_add(1) == outcomes.count() {
-        return Ok(String::new(alloc));
+impl Table<'_> {
+    // Holds what comes of a crash at one call, where the runs have told this, against the outcomes, and tells what comes otherwise.
+    fn held(
+        &self,
+        alloc: Global,
+        outside: &ListOutside,
+        told: &str,
+        course: &mut Course,
+    ) -> anyhow::Result<String> {
+        let last = told_behind(alloc, self.parts, outside, course.torn)?;
+        let found = format!(in alloc; "{told}{last}")?;
+        let Some(place) = self.outcomes.place_from(found.as_str(), course.place) else {
+            return difference(
+                alloc,
+                "behind a crash",
+                found.as_str(),
+                self.outcomes.at(course.place),
+            );
+        };
+        let is_new = place != course.place;
+        course.place = place;
+        if self.is_twice && is_new && course.torn == Torn::After {
+            return otherwise_twice(alloc, self.parts, outside, course.torn, last.as_str());
+        }
+        Ok(String::new(alloc))
     }
-    Ok(format!(in alloc; "NOT the last outcome behind the last call\n")?)
+
+    // The same for each form.
+    fn all_held(
+        &self,
+        alloc: Global,
+        outside: &ListOutside,
+        told: &str,
+        courses: &mut [Course],
+    ) -> anyhow::Result<String> {
+        for course in courses {
+            let otherwise = self.held(alloc, outside, told, course)?;
+            if !otherwise.is_empty() {
+                let torn = course.torn;
+                return Ok(format!(in alloc; "{torn:?}\n{otherwise}")?);
+            }
+        }
+        Ok(String::new(alloc))
+    }
+
+    // What is told at the end of all calls.
+    fn end(&self, alloc: Global, courses: &[Course]) -> anyhow::Result<String> {
+        for course in courses {
+            if course.place.saturating_add(1) != self.outcomes.count() {
+                return Ok(format!(in alloc; "NOT the last outcome behind the last call\n")?);
+            }
+        }
+        Ok(String::new(alloc))
+    }
+
+    // What is told where something else comes of a crash at some call of the disk.
+    fn otherwise(&self, alloc: Global, courses: &mut [Course]) -> anyhow::Result<String> {
+        for call in 1..=MOST_CALLS {
+            let mut outside = new_outside(alloc, call, 0)?;
+            let told = self.parts.told_until_fault(alloc, &mut outside)?;
+            let otherwise = self.all_held(alloc, &outside, told.as_str(), courses)?;
+            if !otherwise.is_empty() {
+                return Ok(format!(in alloc; "NOT call {call}, {otherwise}")?);
+            }
+            if outside.faults() == 0 {
+                return self.end(alloc, courses);
+            }
+        }
+        Ok(format!(in alloc; "NOT so few calls\n")?)
+    }
 }
 
 /// What is told of a table in which something else comes of a crash.
@@ -151,12 +176,21 @@ fn end(alloc: Global, outcomes: &Outcomes, place: usize) -> anyhow::Result<Strin
 /// # Errors
 ///
 /// Where a change can't be made, or memory is wanting.
-pub fn otherwise(alloc: Global, outcomes: &Outcomes, parts: &Parts) -> anyhow::Result<String> {
-    for torn in FORMS {
-        let told = otherwise_so(alloc, outcomes, parts, torn)?;
-        if !told.is_empty() {
-            return Ok(told);
-        }
-    }
-    Ok(String::new(alloc))
+pub fn otherwise(
+    alloc: Global,
+    outcomes: &Outcomes,
+    parts: &Parts,
+    is_twice: bool,
+) -> anyhow::Result<String> {
+    let mut courses = [
+        Course::new(Torn::Before),
+        Course::new(Torn::After),
+        Course::new(Torn::Zeros),
+    ];
+    let table = Table {
+        outcomes,
+        parts,
+        is_twice,
+    };
+    table.otherwise(alloc, &mut courses)
 }

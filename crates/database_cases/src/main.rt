@@ -20,8 +20,8 @@
 //! A table whose name begins with `crashes: ` has one disk, `x.iv`, and is run for each number of a call of it: there a crash
 //! comes, with each of the forms in which it may leave what was not synced, and the last part runs on what is left. An outcome is
 //! what the parts have printed up to the crash and what the last one prints behind it; for one form they come in their order.
-//! Where a further outcome begins, with all that was written, the last part prints the same where a second crash comes at any
-//! call of its own before.
+//! Where the name begins with `crashes twice: ` and a further outcome begins, with all that was written, the last part prints
+//! the same where a second crash comes at any call of its own before.
 #![tactic(auto)]
 
 mod bytes;
