@@ -37,7 +37,7 @@ used_after s i (act.Schema statement) (answer.Refused refusal.DiskFault) es h f 
 used_after s i a said es h f n = refl
 
 -- a Checkpoint that no fault answers is saved
-saves : (s : State) (i : ℕ) (said : Answer) (es : List Effect) → Says s i act.Checkpoint said es → is_fault said ≡ false → (n : ℕ) × (said ≡ answer.Saved n) × (es ≡ [])
+pub saves : (s : State) (i : ℕ) (said : Answer) (es : List Effect) → Says s i act.Checkpoint said es → is_fault said ≡ false → (n : ℕ) × (said ≡ answer.Saved n) × (es ≡ [])
 saves s i (answer.Saved n) es h f = (n, refl, h.0)
 saves s i (answer.Blocked sessions) es h f = absurd h.0
 saves s i (answer.Refused refusal.DiskFault) es h f = absurd (false≢true (sym f))

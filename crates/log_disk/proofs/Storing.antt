@@ -91,7 +91,7 @@ pages_for (e ∷ es) fit =
 -- ---- entries that stand once
 
 -- a key of entries is that of one of them
-keyed : (es : List PageEntry) (k : Place) → Contains (map (λ f. f.0) es) k → (f : PageEntry) × Contains es f × (f.0 ≡ k)
+pub keyed : (es : List PageEntry) (k : Place) → Contains (map (λ f. f.0) es) k → (f : PageEntry) × Contains es f × (f.0 ≡ k)
 keyed [] k c = absurd (contains_none k c)
 keyed (e ∷ es) k c = in_rest e.0 k (map (λ f. f.0) es) c
     (λ same. (e, contains_here e es, same))
@@ -107,7 +107,7 @@ order_apart (e ∷ es) h = (
   order_apart es h.1,
 )
 
-once_both : (xs ys : List PageEntry) → StandOnce xs → StandOnce ys → ((e f : PageEntry) → Contains xs e → Contains ys f → e.0 ≡ f.0 → ⊥) → StandOnce (xs ++ ys)
+pub once_both : (xs ys : List PageEntry) → StandOnce xs → StandOnce ys → ((e f : PageEntry) → Contains xs e → Contains ys f → e.0 ≡ f.0 → ⊥) → StandOnce (xs ++ ys)
 once_both [] ys h k apart = k
 once_both (x ∷ xs) ys h k apart = (
   (λ c.

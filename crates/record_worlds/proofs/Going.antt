@@ -14,7 +14,7 @@ use Rattle.txn_machine.specs.Laws.{IsOpened}
 use Rattle.txn_machine.specs.May.{May}
 use Rattle.txn_machine.specs.Records.{Record}
 use Rattle.txn_machine.specs.State.{State, is_fault, opened_state}
-use Rattle.txn_machine.specs.Steps.{Does, Says}
+use Rattle.txn_machine.specs.Steps.{Does}
 use Rattle.txn_machine.specs.Store as stores
 use Rattle.txn_machine.specs.Store.{Store, Effect, Commits, Defines, Pays, Undoes, committed, now, opened, schema_of, does, paid_first, undone}
 use Rattle.txn_log.specs.Replay.{Pages}
@@ -25,6 +25,7 @@ use Rattle.txn_log.proofs.Lifting.{run_both, settled, is_saving}
 use Rattle.txn_log.proofs.Printed.{prints_again}
 use Rattle.log_disk.specs.Spelled.{IsSpellable, LeadTo}
 use Rattle.log_disk.proofs.Spelling.{said_leads, right_last}
+use Rattle.log_disk.proofs.Counted.{saves}
 use Rattle.core_journal.specs.Records.{Saved, Records, with_perhaps, with_saved, recorded, recorded_all, records_after}
 use Rattle.record_worlds.specs.Tied.{AreOf, IsTied, SavesAll, TiesTo}
 use Rattle.record_worlds.proofs.Keeping.{settled_by, opened_of, perhaps_more, settled_after, cut_saved}
@@ -64,17 +65,6 @@ settles_by : (e : Effect) (after : State) (i : ℕ) (a : Act) (s : Store) (l : L
 settles_by Commits after i a s l es d = settles after i a s l es d
 settles_by (Defines object) after i a s l es d = settles after i a s l es d
 settles_by e after i a s l es d = here (Amid after i a s l es d)
-
--- ---- the answers of a checkpoint
-
--- one that no fault answers is saved
-saves : (s : State) (i : ℕ) (said : Answer) (es : List Effect) → Says s i act.Checkpoint said es → is_fault said ≡ false → (n : ℕ) × (said ≡ answer.Saved n) × (es ≡ [])
-saves s i (answer.Saved n) es h f = (n, refl, h.0)
-saves s i (answer.Blocked sessions) es h f = absurd h.0
-saves s i (answer.Refused refusal.DiskFault) es h f = absurd (false≢true (sym f))
-saves s i (answer.Refused (refusal.Deadlock cycle)) es h f = absurd h.0
-saves s i (answer.Refused refusal.NoMemory) es h f = absurd h.0
-saves s i said es h f = absurd h
 
 module _ (p : Pages) (was : IsOpened p.db p.view) (opening : Opening) where
   abbrev begin : World

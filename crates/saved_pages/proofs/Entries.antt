@@ -1,5 +1,5 @@
 -- The entries of stored pages, and where each stands.
-use Rattle.std.proofs.Common.{◌≡◌, inl, inr, ℕ, zero, suc, ◌<◌, List, [], ◌∷◌, ◌++◌, map, length, get_or, Option, Some, None, refl, sym, ap, subst, ◌∙◌, arith}
+use Rattle.std.proofs.Common.{◌≡◌, inl, inr, ℕ, zero, suc, ◌<◌, List, [], ◌∷◌, map, length, get_or, Option, Some, None, refl, sym, ap, subst, ◌∙◌, arith}
 use Rattle.std.specs.List.{Contains}
 use Rattle.std.proofs.lemmas.Option.{none-some, same_Some}
 use Rattle.std.proofs.lemmas.List.Elements.{Contains-append_left, Contains-append_right, Contains-append_cases}
@@ -10,8 +10,9 @@ use Rattle.txn_log.specs.Stored.{PageEntry}
 use Rattle.log_disk.specs.Bears.{page_entries, all_entries, AreLeaves, StandOnce}
 use Rattle.ordered_index.specs.Drawn.{StandsIn}
 use Rattle.txn_machine.proofs.Basics.{contains_none}
-use Rattle.txn_machine.proofs.Holding.{contains_here, contains_next, contains_map}
+use Rattle.txn_machine.proofs.Holding.{contains_here, contains_next}
 use Rattle.txn_log.proofs.Placing.{in_rest}
+use Rattle.log_disk.proofs.Storing.{keyed, once_both}
 
 abbrev pub Stored : Type 0
 Stored = List (Option (List ℕ))
@@ -79,25 +80,6 @@ all_leaves (None ∷ rest) packed = all_leaves rest (λ p page there. packed (su
 all_leaves (Some page ∷ rest) packed = (page_leaf page (packed 0 page refl), all_leaves rest (λ p page there. packed (suc p) page there))
 
 -- ---- no two of one index and key
-
--- a key of entries is that of one of them
-keyed : (es : List PageEntry) (k : Place) → Contains (map (λ f. f.0) es) k → (f : PageEntry) × Contains es f × (f.0 ≡ k)
-keyed [] k c = absurd (contains_none k c)
-keyed (e ∷ es) k c = in_rest e.0 k (map (λ f. f.0) es) c
-    (λ same. (e, contains_here e es, same))
-    (λ d. let one = keyed es k d in (one.0, contains_next e es one.0 one.1, one.2))
-
-once_both : (xs ys : List PageEntry) → StandOnce xs → StandOnce ys → ((e f : PageEntry) → Contains xs e → Contains ys f → e.0 ≡ f.0 → ⊥) → StandOnce (xs ++ ys)
-once_both [] ys h k apart = k
-once_both (x ∷ xs) ys h k apart = (
-  (λ c.
-      let one = keyed (xs ++ ys) x.0 c in
-      elim (Contains-append_cases xs ys one.0 one.1) [
-        | inl among ↦ h.0 (subst (Contains (map (λ (f : PageEntry). f.0) xs)) one.2 (contains_map (λ (f : PageEntry). f.0) xs one.0 among))
-        | inr among ↦ apart x one.0 (contains_here x xs) among (sym one.2)
-      ]),
-  once_both xs ys h.1 k (λ e f c d. apart e f (contains_next x xs e c) d),
-)
 
 -- entries of one page whose keys differ
 keys_once : (of : ℕ) (es : List Entry) → ((i j : ℕ) → i < length es → j < length es → (get_or es i no_entry).0 ≡ (get_or es j no_entry).0 → i ≡ j) → StandOnce (map (as_entry of) es)
