@@ -21,7 +21,7 @@ use Rattle.txn_machine.proofs.Stepping.{some_not_none}
 use Rattle.txn_machine.proofs.Telling.{state_at_push}
 use Rattle.txn_log.specs.Replay.{Pages}
 use Rattle.txn_log.proofs.Living.{origin_all, fold_both}
-use Rattle.txn_book.specs.Crashes.{IsPrefix, committed_to, with_one_more}
+use Rattle.txn_book.specs.Crashes.{HasOneMore, IsWhole, IsPrefix, committed_to, with_one_more}
 use Rattle.core_journal.specs.Records.{Records, Saved, with_saved, flushed_all, GivesTo}
 use Rattle.core_journal.specs.Cuts.{Cut, cut_of, MayHave}
 use Rattle.log_journal.specs.Cuts.{IsBorne, Medium, medium_of, Leaves}
@@ -30,7 +30,7 @@ use Rattle.log_journal.specs.declared.journal.LogJournal.{LogJournal}
 use Rattle.core_recording.specs.Giving.{LeavesOne}
 use Rattle.record_worlds.specs.Pages.{HoldsPages}
 use Rattle.record_worlds.specs.Tied.{TiesTo, Recovers}
-use Rattle.engine_core.specs.Crashes.{IsLeft, IsLast, HasOneMore}
+use Rattle.engine_core.specs.Crashes.{IsLeft, IsLast}
 
 -- ---- prefixes of what was committed
 
@@ -65,6 +65,23 @@ number_more s t origin e history = (λ x. (fold (history x) (origin x)).number) 
 number_same : (s t : Store) → t.origin ≡ s.origin → t.history ≡ s.history → (committed t).number ≡ (committed s).number
 number_same s t origin history = λ x. (fold (history x) (origin x)).number
 
+same_more : (s after : State) → after.store ≡ s.store → after.stop ≡ s.stop → (db : Database) → HasOneMore s db → HasOneMore after db
+same_more s after store stop db h = record {
+  stopped = subst IsSome (sym stop) h.stopped;
+  entry = h.entry;
+  number = h.number ∙ (λ x. (committed (sym store x)).number + 1);
+  is = h.is ∙ (λ x. fold ((sym store x).history ++ h.entry ∷ []) (sym store x).origin);
+}
+
+stopped_with : (s after : State) (t : Store) → after.store ≡ s.store → IsSome after.stop → t.origin ≡ s.store.origin → (db : Database) → db ≡ committed t
+    → (e : Entry) → e.number ≡ (committed s.store).number + 1 → t.history ≡ s.store.history ++ e ∷ [] → HasOneMore after db
+stopped_with s after t store some origin db is e number history = record {
+  stopped = some;
+  entry = e;
+  number = number ∙ (λ x. (committed (sym store x)).number + 1);
+  is = is ∙ ((λ x. fold (history x) (origin x)) ∙ (λ x. fold ((sym store x).history ++ e ∷ []) (sym store x).origin));
+}
+
 -- a prefix stays one
 pub prefix_grows : (s after : State) → s.stop ≡ None → Enters s.store after.store → (db : Database) → IsPrefix s db → IsPrefix after db
 prefix_grows s after runs h db (committed_to n le is) = elim h.history [
@@ -76,13 +93,12 @@ prefix_grows s after runs h db (committed_to n le is) = elim h.history [
       committed_to n (omega (arith, number, next, le))
       (is ∙ (sym (state_at_push s.store.origin s.store.history more.0 n (omega (arith, next, le))) ∙ (λ x. state_at (sym h.origin x) (sym more.2 x) n)))
 ]
-prefix_grows s after runs h db (with_one_more some e number is) = absurd (some_not_none s.stop some runs)
+prefix_grows s after runs h db (with_one_more more) = absurd (some_not_none s.stop more.stopped runs)
 
 pub prefix_same : (s after : State) → after.store ≡ s.store → after.stop ≡ s.stop → (db : Database) → IsPrefix s db → IsPrefix after db
 prefix_same s after store stop db (committed_to n le is) =
     committed_to n (subst (λ (x : Store). n ≤ (committed x).number) (sym store) le) (subst (λ (x : Store). db ≡ state_at x.origin x.history n) (sym store) is)
-prefix_same s after store stop db (with_one_more some e number is) =
-    with_one_more (subst IsSome (sym stop) some) e (subst (λ (x : Store). e.number ≡ (committed x).number + 1) (sym store) number) (subst (λ (x : Store). db ≡ fold (x.history ++ e ∷ []) x.origin) (sym store) is)
+prefix_same s after store stop db (with_one_more more) = with_one_more (same_more s after store stop db more)
 
 -- and what a step was committing that stopped the engine is one
 pub prefix_stopped : (s after : State) (t : Store) → IsReached s → after.store ≡ s.store → IsSome after.stop → Enters s.store t → (db : Database) → db ≡ committed t → IsPrefix after db
@@ -91,37 +107,27 @@ prefix_stopped s after t r store some h db is = elim h.history [
       committed_to (committed s.store).number (subst (λ (x : Store). (committed s.store).number ≤ (committed x).number) (sym store) (omega arith))
       (is ∙ ((λ x. fold (same x) (h.origin x)) ∙ (sym (at_number s r) ∙ (λ x. state_at (sym store x).origin (sym store x).history (committed s.store).number))))
   | inr more ↦
-      with_one_more some more.0 (more.1 ∙ (λ x. (committed (sym store x)).number + 1)) (is ∙ ((λ x. fold (more.2 x) (h.origin x)) ∙ (λ x. fold ((sym store x).history ++ more.0 ∷ []) (sym store x).origin)))
+      with_one_more (stopped_with s after t store some h.origin db is more.0 more.1 more.2)
 ]
 
-pub all_stopped : (s after : State) (t : Store) → after.store ≡ s.store → IsSome after.stop → Enters s.store t → (db : Database) → db ≡ committed t → (db ≡ committed after.store) ⊎ HasOneMore after db
+pub all_stopped : (s after : State) (t : Store) → after.store ≡ s.store → IsSome after.stop → Enters s.store t → (db : Database) → db ≡ committed t → IsWhole after db
 all_stopped s after t store some h db is = elim h.history [
   | inl same ↦ inl (is ∙ ((λ x. fold (same x) (h.origin x)) ∙ ap committed (sym store)))
-  | inr more ↦ inr (record {
-    stopped = some;
-    entry = more.0;
-    number = more.1 ∙ (λ x. (committed (sym store x)).number + 1);
-    is = is ∙ ((λ x. fold (more.2 x) (h.origin x)) ∙ (λ x. fold ((sym store x).history ++ more.0 ∷ []) (sym store x).origin));
-  })
+  | inr more ↦ inr (stopped_with s after t store some h.origin db is more.0 more.1 more.2)
 ]
 
-pub all_same : (s after : State) → after.store ≡ s.store → after.stop ≡ s.stop → (db : Database) → (db ≡ committed s.store) ⊎ HasOneMore s db → (db ≡ committed after.store) ⊎ HasOneMore after db
+pub all_same : (s after : State) → after.store ≡ s.store → after.stop ≡ s.stop → (db : Database) → IsWhole s db → IsWhole after db
 all_same s after store stop db (inl is) = inl (is ∙ ap committed (sym store))
-all_same s after store stop db (inr h) = inr (record {
-  stopped = subst IsSome (sym stop) h.stopped;
-  entry = h.entry;
-  number = h.number ∙ (λ x. (committed (sym store x)).number + 1);
-  is = h.is ∙ (λ x. fold ((sym store x).history ++ h.entry ∷ []) (sym store x).origin);
-})
+all_same s after store stop db (inr h) = inr (same_more s after store stop db h)
 
 -- one that runs has all of it
-pub all_running : (s after : State) → s.stop ≡ None → after.store ≡ s.store → (db : Database) → (db ≡ committed s.store) ⊎ HasOneMore s db → (db ≡ committed after.store) ⊎ HasOneMore after db
+pub all_running : (s after : State) → s.stop ≡ None → after.store ≡ s.store → (db : Database) → IsWhole s db → IsWhole after db
 all_running s after runs store db (inl is) = inl (is ∙ ap committed (sym store))
 all_running s after runs store db (inr h) = absurd (some_not_none s.stop h.stopped runs)
 
 -- ---- what is left
 
-pub last_after : (p : Pages) (s after : State) (c : List ℕ) → after.opening ≡ s.opening → ((db : Database) → (db ≡ committed s.store) ⊎ HasOneMore s db → (db ≡ committed after.store) ⊎ HasOneMore after db) → IsLast p s c → IsLast p after c
+pub last_after : (p : Pages) (s after : State) (c : List ℕ) → after.opening ≡ s.opening → ((db : Database) → IsWhole s db → IsWhole after db) → IsLast p s c → IsLast p after c
 last_after p s after c same more l = record {
   cut = l.cut;
   borne = l.borne;

@@ -1,17 +1,16 @@
 -- No clause of `run` rests on this module: it serves contracts between crates.
 --
 -- What a crash recovers of a core on a disk.
-use Rattle.std.specs.Prelude.{◌≡◌, ◌⊎◌, ℕ, ◌+◌, ◌≤◌, List, [], ◌∷◌, ◌++◌, None, IsSome}
+use Rattle.std.specs.Prelude.{◌≡◌, ℕ, ◌≤◌, List, [], None}
 use Rattle.iv_meaning.specs.Database.{Database}
-use Rattle.iv_meaning.specs.History.{Entry, fold}
 use Rattle.txn_machine.specs.Laws.{IsOpened}
 use Rattle.txn_machine.specs.State.{State}
 use Rattle.txn_machine.specs.Steps.{texts_of}
-use Rattle.txn_machine.specs.Store.{committed, schema_of}
+use Rattle.txn_machine.specs.Store.{schema_of}
 use Rattle.txn_log.specs.Replay.{Pages, Reading, recovered}
 use Rattle.txn_log.specs.Appended.{Image, IsRead}
 use Rattle.txn_log.specs.Stored.{AllCreate}
-use Rattle.txn_book.specs.Crashes.{IsPrefix}
+use Rattle.txn_book.specs.Crashes.{IsWhole, IsPrefix}
 use Rattle.log_disk.specs.Bears.{Bears}
 use Rattle.ordered_index.specs.Tree.{Tree}
 use Rattle.core_journal.specs.Records.{Records}
@@ -27,6 +26,16 @@ use Rattle.engine_core.specs.declared.engine.Core.{Core}
 abbrev pub RecoverTo : List ℕ → Database → Type 0
 RecoverTo c db = (room count : ℕ) (i : Image) (r : Reading) → Bears room count c i → IsRead i r → (recovered r).db ≡ db
 
+-- bytes bear an image that recovers to a database of which this holds
+pub record ReadsBack (P : Database → Type 0) (c : List ℕ) : Type 0 where
+  pub room : ℕ
+  pub count : ℕ
+  pub image : Image
+  pub reading : Reading
+  pub bears : Bears room count c image
+  pub is_read : IsRead image reading
+  pub holds : P (recovered reading).db
+
 -- These bytes have what a checkpoint saved, and records behind it, of an engine that was opened on these pages; they recover to what was
 -- committed up to some number, or with the entry that stopped it.
 pub record IsLeft (p : Pages) (s : State) (c : List ℕ) : Type 0 where
@@ -36,20 +45,13 @@ pub record IsLeft (p : Pages) (s : State) (c : List ℕ) : Type 0 where
   pub recovers : Recovers HoldsPages p s.opening cut db
   pub prefix : IsPrefix s db
 
--- behind all that was committed, the entry that a step was committing at which the disk failed, which stopped the engine
-pub record HasOneMore (s : State) (db : Database) : Type 0 where
-  pub stopped : IsSome s.stop
-  pub entry : Entry
-  pub number : entry.number ≡ (committed s.store).number + 1
-  pub is : db ≡ fold (s.store.history ++ entry ∷ []) s.store.origin
-
 -- The same of bytes that may be left now: they recover to all that was committed, or with one entry more.
 pub record IsLast (p : Pages) (s : State) (c : List ℕ) : Type 0 where
   pub cut : Cut
   pub borne : IsBorne c cut
   pub db : Database
   pub recovers : Recovers HoldsPages p s.opening cut db
-  pub all : (db ≡ committed s.store) ⊎ HasOneMore s db
+  pub all : IsWhole s db
 
 -- a crash might have left these bytes since that moment, and so since each earlier one
 abbrev pub LeftSince : {D : Type 0} → (left_since : D → ℕ → List ℕ → Type 0) → D → ℕ → List ℕ → Type 0

@@ -127,7 +127,7 @@ impl Stepper for Core<PageMaps, NoJournal> {
 
     ghost runs_well = { λ _ _ stands. stands.well };
 
-    ghost keeps_all = { λ _ _ _ _ _ no. absurd no };
+    ghost keeps_all = { λ _ _ _ _ no. absurd no };
 
     ghost counts_now = { λ _ _ _ _ no. no };
 

@@ -1,5 +1,5 @@
 -- Lines that were run, one after another.
-use Rattle.std.specs.Prelude.{◌≡◌, ℕ, List, [], ◌∷◌, ◌++◌, None, Result, Ok, Err, OnOk}
+use Rattle.std.specs.Prelude.{◌≡◌, ℕ, List, [], ◌∷◌, ◌++◌, None, Result, Ok, Err, OnOk, OnErr}
 use mathlib.Core.Path.{refl, sym, ap, subst, ◌∙◌}
 use Rattle.std.proofs.Common.{append-nil}
 use Rattle.std.proofs.lemmas.List.{append_assoc}
@@ -25,9 +25,10 @@ use Rattle.session_asks.specs.Askable.{the_programs}
 use Rattle.line_requests.specs.declared.asked.Request.{Request}
 use Rattle.line_requests.specs.Requests.{SaysSo}
 use Rattle.session_table.specs.declared.slot.Slot.{Slot}
-use Rattle.session_table.specs.Going.{the_tell, StandsIn}
+use Rattle.session_table.specs.Going.{the_tell, StandsIn, Leads}
 use Rattle.session_table.specs.Slots.{table_of, AllGo, GoFirst}
 use Rattle.session_table.specs.Requests.{RanLine}
+use Rattle.session_table.proofs.Leading.{line_leads}
 use Rattle.script_run.specs.Lines.{WasOpened, HasRun, IsRunning, RanOneMore, Rests}
 
 abbrev pub Runs : List Said → Table → Story → List ℕ → Table → Story → Type 0
@@ -96,6 +97,21 @@ pub line_ran : {A E : Type 0} (r : Result A E) (Before Now : State → Type 0) (
     → OnOk r (StandsIn Now (RanOneMore db lines out MaySay slots s old new slots'))
 line_ran (Ok x) Before Now slots slots' asked MaySay old new says ran s db lines out st h = so (ran s st h.go) (λ after r. one_more db lines out slots slots' asked MaySay old new s after says h r)
 line_ran (Err x) Before Now slots slots' asked MaySay old new says ran s db lines out st h = tt
+
+-- steps led to where a line was run
+pub ran_leads : (Now : State → Type 0) (db : Database) (lines : List Said) (out : List ℕ) (MaySay : Said → Type 0) (slots slots' : List Slot) (s : Story) (old new : List ℕ) → StandsIn Now (RanOneMore db lines out MaySay slots s old new slots') → StandsIn Now (Leads s)
+ran_leads Now db lines out MaySay slots slots' s old new h = so h (λ after r. line_leads r.said (table_of slots) s r.piece (table_of slots') after r.run)
+
+-- what holds anyhow
+pub on_error : {A E X : Type 0} (r : Result A E) → X → OnErr r X
+on_error (Ok a) x = tt
+on_error (Err e) x = x
+
+-- a line lacked memory for its answer
+pub lost_at : {A E : Type 0} (r : Result A E) (Before Now : State → Type 0) (slots : List Slot) → OnErr r ((s : Story) → Before s.state → AllGo slots s → StandsIn Now (Leads s)) → (s : Story) (db : Database) (lines : List Said) (out : List ℕ) → Before s.state → HasRun db lines out slots s
+    → OnErr r (StandsIn Now (Leads s))
+lost_at (Ok x) Before Now slots lost s db lines out st h = tt
+lost_at (Err x) Before Now slots lost s db lines out st h = lost s st h.go
 
 -- what it printed was put behind what waits
 pub moved_behind : (Now : State → Type 0) (db : Database) (lines : List Said) (out : List ℕ) (MaySay : Said → Type 0) (slots slots' : List Slot) (s : Story) (empty text piece waiting new : List ℕ) → empty ≡ [] → piece ≡ text

@@ -8,6 +8,7 @@ use Rattle.iv_meaning.specs.Database.{Database}
 use Rattle.iv_meaning.specs.Said.{Said, too_long, Says}
 use Rattle.iv_meaning.specs.Serial.{opened_with}
 use Rattle.iv_meaning.specs.Script.{IsOutput, AnswersFirst}
+use Rattle.txn_machine.specs.Log.{Opening}
 use Rattle.txn_machine.specs.State.{State}
 use Rattle.txn_machine.specs.Alone.{Story}
 use Rattle.line_wire.specs.Wire.{WroteFront, most_bytes}
@@ -17,6 +18,8 @@ use Rattle.line_wire.specs.declared.line.Line.{Line}
 use Rattle.line_wire.specs.declared.line.Line.TheVariants.{Text, TooLong, End}
 use Rattle.session_table.specs.declared.slot.Slot.{Slot}
 use Rattle.session_table.specs.Going.{StandsIn}
+use Rattle.session_table.specs.Slots.{table_of}
+use Rattle.session_table.proofs.Leading.{line_leads}
 use Rattle.script_run.specs.Lines.{HasRun, RanOneMore}
 use Rattle.script_run.specs.Writing.{MovesOn, Finishes, FinishFaults}
 use Rattle.script_run.specs.Run.{Answered, AnswersTaken, Output, Taken, TookAll}
@@ -24,9 +27,11 @@ use Rattle.script_run.specs.declared.status.Status.{Status}
 use Rattle.script_run.specs.declared.status.Status.TheVariants.{WriteFault}
 use Rattle.script_run.proofs.Apart.{EndsLines, append_none, line_bytes, line_front, lines_more, no_end, one_more}
 use Rattle.script_run.proofs.Ran.{serial}
+use Rattle.script_run.proofs.Going.{goes_on, has_left}
 
 -- What was read ends where a line does, and its lines were run. What was written and what waits is what they printed.
-pub record Serving (db : Database) (input before : List ℕ) (now : Reading) (left written : Option (List ℕ)) (waiting : List ℕ) (slots : List Slot) (s : Story) : Type 0 where
+pub record Serving (db : Database) (opening : Opening) (input before : List ℕ) (now : Reading) (left written : Option (List ℕ)) (waiting : List ℕ) (slots : List Slot) (s : Story) : Type 0 where
+  pub opens : s.state.opening ≡ opening
   pub rest : List ℕ
   pub tells : left ≡ Some rest
   pub count : now.taken + length rest ≡ length input
@@ -48,9 +53,10 @@ zip_more R (a ∷ xs) [] x y h r = absurd h
 zip_more R (a ∷ xs) (b ∷ ys) x y h r = (h.0, zip_more R xs ys x y h.1 r)
 
 -- a run begins
-pub begun : (db : Database) (input before : List ℕ) (now : Reading) (left written : Option (List ℕ)) (slots : List Slot) (s : Story) → now.held ≡ [] → now.taken ≡ 0 → left ≡ Some input → written ≡ Some before → AllZip Says [] []
-    → HasRun db [] [] slots s → Serving db input before now left written [] slots s
-begun db input before now left written slots s held taken l w none ran = record {
+pub begun : (db : Database) (opening : Opening) (input before : List ℕ) (now : Reading) (left written : Option (List ℕ)) (slots : List Slot) (s : Story) → now.held ≡ [] → now.taken ≡ 0 → left ≡ Some input → written ≡ Some before → AllZip Says [] []
+    → HasRun db [] [] slots s → s.state.opening ≡ opening → Serving db opening input before now left written [] slots s
+begun db opening input before now left written slots s held taken l w none ran opens = record {
+  opens = opens;
   rest = input;
   tells = l;
   count = omega (arith, taken);
@@ -65,10 +71,11 @@ begun db input before now left written slots s held taken l w none ran = record 
   ran = ran;
 }
 
-module _ (db : Database) (input before : List ℕ) (now : Reading) (left written : Option (List ℕ)) (waiting : List ℕ) (slots : List Slot) (s : Story) (h : Serving db input before now left written waiting slots s) where
+module _ (db : Database) (opening : Opening) (input before : List ℕ) (now : Reading) (left written : Option (List ℕ)) (waiting : List ℕ) (slots : List Slot) (s : Story) (h : Serving db opening input before now left written waiting slots s) where
   -- some of what waited was written
-  pub moved : (written' : Option (List ℕ)) (waiting' : List ℕ) → MovesOn (before ++ h.out) waiting waiting' written' → Serving db input before now left written' waiting' slots s
+  pub moved : (written' : Option (List ℕ)) (waiting' : List ℕ) → MovesOn (before ++ h.out) waiting waiting' written' → Serving db opening input before now left written' waiting' slots s
   moved written' waiting' m = record {
+    opens = h.opens;
     rest = h.rest;
     tells = h.tells;
     count = h.count;
@@ -145,14 +152,15 @@ is_ended read ahead ne (inl ends) = ends
 is_ended read ahead ne (inr none) = absurd (ne none)
 
 -- a line was read and answered
-pub served : (db : Database) (input before : List ℕ) (line : Line) (now next : Reading) (left left' written : Option (List ℕ)) (waiting waiting' : List ℕ) (slots slots' : List Slot) (s after : Story)
-    → (h : Serving db input before now left written waiting slots s) → FoundLine line (now.held ++ h.rest) now.taken (length h.rest) next left'
-    → RanOneMore db h.said (h.out ++ waiting) (MaySay line next.text) slots s waiting waiting' slots' after → Serving db input before next left' written waiting' slots' after
-served db input before line now next left left' written waiting waiting' slots slots' s after h f a =
+pub served : (db : Database) (opening : Opening) (input before : List ℕ) (line : Line) (now next : Reading) (left left' written : Option (List ℕ)) (waiting waiting' : List ℕ) (slots slots' : List Slot) (s after : Story)
+    → (h : Serving db opening input before now left written waiting slots s) → FoundLine line (now.held ++ h.rest) now.taken (length h.rest) next left'
+    → RanOneMore db h.said (h.out ++ waiting) (MaySay line next.text) slots s waiting waiting' slots' after → Serving db opening input before next left' written waiting' slots' after
+served db opening input before line now next left left' written waiting waiting' slots slots' s after h f a =
     let ahead : List ℕ = now.held ++ h.rest in
     let l = line_says line ahead next.text (next.held ++ f.counted.rest) a.said f.reads a.says in
     let one = one_more h.read ahead l.0 (is_ended h.read ahead l.0 h.ends_lines) in
     record {
+      opens = (goes_on s after (has_left db h.said (h.out ++ waiting) slots s h.ran).reached (line_leads a.said (table_of slots) s a.piece (table_of slots') after a.run)).opening ∙ h.opens;
       rest = f.counted.rest;
       tells = f.counted.tells;
       count = omega (arith, f.counted.count, h.count);
@@ -171,23 +179,23 @@ served db input before line now next left left' written waiting waiting' slots s
 -- ---- ends
 
 -- the engine stands in a state of a story in which so much was read and written
-pub so_written : {Stands : State → Type 0} (db : Database) (status result : Status) (input before : List ℕ) (now : Reading) (left left' written written' : Option (List ℕ)) (waiting waiting' : List ℕ) (slots : List Slot)
-    → StandsIn Stands (Serving db input before now left written waiting slots)
-    → ((s : Story) (h : Serving db input before now left written waiting slots s) → Answered db status input left' (h.out ++ waiting))
+pub so_written : {Stands : State → Type 0} (db : Database) (opening : Opening) (status result : Status) (input before : List ℕ) (now : Reading) (left left' written written' : Option (List ℕ)) (waiting waiting' : List ℕ) (slots : List Slot)
+    → StandsIn Stands (Serving db opening input before now left written waiting slots)
+    → ((s : Story) (h : Serving db opening input before now left written waiting slots s) → Answered db status input left' (h.out ++ waiting))
     → ((out : List ℕ) → written ≡ Some (before ++ out) → Finishes status result (before ++ out) waiting' written') → waiting' ≡ waiting → Output db result input before left' written'
-so_written db status result input before now left left' written written' waiting waiting' slots i answered finishes same =
+so_written db opening status result input before now left left' written written' waiting waiting' slots i answered finishes same =
     let h = i.holds in
-    ended db input before now left written waiting slots i.story h status result left' written'
+    ended db opening input before now left written waiting slots i.story h status result left' written'
     (subst (λ (waits : List ℕ). Finishes status result (before ++ h.out) waits written') same (finishes h.out h.wrote)) (answered i.story h)
 
 -- where some of what waited was written before
-pub so_moved : {Stands : State → Type 0} (db : Database) (input before : List ℕ) (now : Reading) (left written written' : Option (List ℕ)) (waiting waiting' : List ℕ) (slots : List Slot)
-    → StandsIn Stands (Serving db input before now left written waiting slots) → ((out : List ℕ) → written ≡ Some (before ++ out) → MovesOn (before ++ out) waiting waiting' written')
-    → StandsIn Stands (Serving db input before now left written' waiting' slots)
-so_moved db input before now left written written' waiting waiting' slots i moves = record {
+pub so_moved : {Stands : State → Type 0} (db : Database) (opening : Opening) (input before : List ℕ) (now : Reading) (left written written' : Option (List ℕ)) (waiting waiting' : List ℕ) (slots : List Slot)
+    → StandsIn Stands (Serving db opening input before now left written waiting slots) → ((out : List ℕ) → written ≡ Some (before ++ out) → MovesOn (before ++ out) waiting waiting' written')
+    → StandsIn Stands (Serving db opening input before now left written' waiting' slots)
+so_moved db opening input before now left written written' waiting waiting' slots i moves = record {
   story = i.story;
   stands = i.stands;
-  holds = moved db input before now left written waiting slots i.story i.holds written' waiting' (moves i.holds.out i.holds.wrote);
+  holds = moved db opening input before now left written waiting slots i.story i.holds written' waiting' (moves i.holds.out i.holds.wrote);
 }
 
 nothing_left : (a b : List ℕ) → a ++ b ≡ [] → b ≡ []

@@ -1,10 +1,10 @@
 //! A line of a script.
-ghost use Rattle.std.specs.Prelude.{◌≡◌, ℕ, List, OnOk};
+ghost use Rattle.std.specs.Prelude.{◌≡◌, ℕ, List, OnOk, OnErr};
 ghost use Rattle.iv_meaning.specs.Database.{Database};
 ghost use Rattle.iv_meaning.specs.Said.{Said, too_long, Says};
 ghost use Rattle.txn_machine.specs.Alone.{Story};
 ghost use Rattle.line_requests.specs.Requests.{SaysSo, IsRequest};
-ghost use Rattle.session_table.specs.Going.{StandsIn};
+ghost use Rattle.session_table.specs.Going.{StandsIn, Leads};
 ghost use Rattle.script_run.specs.Lines.{HasRun, IsRunning, RanOneMore};
 
 use iv_types::NoMemory;
@@ -29,7 +29,8 @@ fn asked(alloc: Global, line: &[u8]) -> Request
 ///
 /// # Errors
 ///
-/// Where there is no memory for what is printed. The text, the table and the engine are not to be used any more then.
+/// Where there is no memory for what is printed. The engine stands where some steps led it; the text and the table are not to be used any
+/// more then.
 pub fn one_line<E: Stepper>(
     alloc: Global,
     engine: &mut E,
@@ -40,6 +41,7 @@ pub fn one_line<E: Stepper>(
     requires running { IsRunning (E.stands engine.old) table.old }
     ensures ran { (s : Story) (db : Database) (lines : List Said) (out : List ℕ) → E.stands engine.old s.state → HasRun db lines out table.old s
         → OnOk result (StandsIn (E.stands engine.new) (RanOneMore db lines out (Says line.now) table.old s text.old.items text.new.items table.new)) }
+    ensures lost { (s : Story) (db : Database) (lines : List Said) (out : List ℕ) → E.stands engine.old s.state → HasRun db lines out table.old s → OnErr result (StandsIn (E.stands engine.new) (Leads s)) }
 {
     let request = asked(alloc, line);
     table.run_line(alloc, engine, text, request)
@@ -59,6 +61,7 @@ pub fn long_line<E: Stepper>(
     requires running { IsRunning (E.stands engine.old) table.old }
     ensures ran { (s : Story) (db : Database) (lines : List Said) (out : List ℕ) → E.stands engine.old s.state → HasRun db lines out table.old s
         → OnOk result (StandsIn (E.stands engine.new) (RanOneMore db lines out (λ said. said ≡ too_long) table.old s text.old.items text.new.items table.new)) }
+    ensures lost { (s : Story) (db : Database) (lines : List Said) (out : List ℕ) → E.stands engine.old s.state → HasRun db lines out table.old s → OnErr result (StandsIn (E.stands engine.new) (Leads s)) }
 {
     table.run_line(alloc, engine, text, Request::TooLong)
 }

@@ -5,8 +5,9 @@ ghost use Rattle.iv_meaning.specs.Database.{Database};
 ghost use Rattle.iv_meaning.specs.Said.{Said, too_long, Says};
 ghost use Rattle.txn_machine.specs.Alone.{Story};
 ghost use Rattle.line_wire.specs.Wire.{WroteFront};
-ghost use Rattle.session_table.specs.Going.{StandsIn};
+ghost use Rattle.session_table.specs.Going.{StandsIn, Leads};
 ghost use Rattle.script_run.specs.Lines.{WasOpened, HasRun, IsRunning, RanOneMore, Rests};
+ghost use Rattle.script_run.specs.Recovered.{Ends, Survives};
 ghost use Rattle.script_run.specs.Run.{Output, Taken, SourceFaults, SinkFaults};
 ghost use Rattle.script_run.specs.Writing.{MovesOn, Finishes, FinishFaults};
 
@@ -33,6 +34,7 @@ fn answer_line<E: Stepper>(
     requires running { IsRunning (E.stands engine.old) table.old }
     ensures ok { (s : Story) (db : Database) (lines : List Said) (out : List ℕ) → E.stands engine.old s.state → HasRun db lines out table.old s
         → OnOk result (StandsIn (E.stands engine.new) (RanOneMore db lines out (Says line.now) table.old s waiting.old.items waiting.new.items table.new)) }
+    ensures lost { (s : Story) (db : Database) (lines : List Said) (out : List ℕ) → E.stands engine.old s.state → HasRun db lines out table.old s → OnErr result (StandsIn (E.stands engine.new) (Leads s)) }
     ensures err { OnErr result (waiting.new.items ≡ waiting.old.items) }
 {
     text.clear();
@@ -52,6 +54,7 @@ fn refuse_line<E: Stepper>(
     requires running { IsRunning (E.stands engine.old) table.old }
     ensures ok { (s : Story) (db : Database) (lines : List Said) (out : List ℕ) → E.stands engine.old s.state → HasRun db lines out table.old s
         → OnOk result (StandsIn (E.stands engine.new) (RanOneMore db lines out (λ said. said ≡ too_long) table.old s waiting.old.items waiting.new.items table.new)) }
+    ensures lost { (s : Story) (db : Database) (lines : List Said) (out : List ℕ) → E.stands engine.old s.state → HasRun db lines out table.old s → OnErr result (StandsIn (E.stands engine.new) (Leads s)) }
     ensures err { OnErr result (waiting.new.items ≡ waiting.old.items) }
 {
     text.clear();
@@ -100,6 +103,8 @@ pub fn run_lines<E: Stepper, S: Source, K: Sink>(
     ensures disks { result ≢ Status.DiskFault }
     ensures images { result ≢ Status.BadImage }
     ensures output { (o : WasOpened (E.stands engine.old)) (input before : List ℕ) → S.left source.old ≡ Some input → K.written sink.old ≡ Some before → Output o.db result input before (S.left source.new) (K.written sink.new) }
+    ensures ends { (o : WasOpened (E.stands engine.old)) (input before : List ℕ) → S.left source.old ≡ Some input → K.written sink.old ≡ Some before → StandsIn (E.stands engine.new) (Ends o.db o.opening result input before (K.written sink.new)) }
+    ensures crash { E.is_told → (o : WasOpened (E.stands engine.old)) (input before : List ℕ) → S.left source.old ≡ Some input → K.written sink.old ≡ Some before → Survives o.db result input before (K.written sink.new) (E.recovered_since engine.new o.opening.moment) (E.may_recover engine.new) }
     ensures rests { result ≡ Status.Done → StandsIn (E.stands engine.new) Rests }
     ensures taken { (input : List ℕ) → S.left source.old ≡ Some input → Taken result input (S.left source.new) }
     ensures source_faults { SourceFaults result (S.faults source.old) (S.faults source.new) }

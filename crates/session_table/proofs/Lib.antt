@@ -5,6 +5,7 @@ pub mod Knowing
 pub mod Asking
 pub mod Tables
 pub mod Others
+pub mod Leading
 pub mod Passing
 pub mod Owning
 pub mod Once
@@ -16,3 +17,4 @@ pub mod Seating
 pub mod Removing
 pub mod Opening
 pub mod Ending
+pub mod Losing

@@ -16,11 +16,12 @@ use Rattle.session_table.specs.declared.slot.LineKind.{LineKind}
 use Rattle.session_table.specs.declared.slot.LineKind.TheVariants.{Idle, Waiting, Stepping, Held}
 use Rattle.session_table.specs.declared.slot.Slot.{Slot}
 use Rattle.session_asks.specs.Askable.{the_programs}
-use Rattle.session_table.specs.Going.{the_tell, MayGo, IsMoved, WentOn, outcome_in, ends_in}
+use Rattle.session_table.specs.Going.{the_tell, Leads, no_step, MayGo, IsMoved, WentOn, outcome_in, ends_in}
 use Rattle.session_table.specs.Slots.{seat_in, seat_or_none, table_of, numbers, AreSlots, AllGo, IsSlot, weight, waits_in}
 use Rattle.session_table.specs.Requests.{kept_line}
 use Rattle.session_table.specs.Trying.{TriedBy, Tried, Passed, Retried}
 use Rattle.session_table.proofs.Others.{other_run}
+use Rattle.session_table.proofs.Leading.{leads_on, passed_led}
 use Rattle.session_table.proofs.Tables.{table_set, waits_set, set_same, length_set, each_after}
 
 abbrev pub Passing : List ℕ → ℕ → Table → Story → List ℕ → Table → Story → Type 0
@@ -151,6 +152,7 @@ pub record PassesFrom (s : Story) (slots : List Slot) (out : List ℕ) (many : �
   pub told : out' ≡ out ++ piece
   pub joins : (count : ℕ) (more : List ℕ) (end_table : Table) (end : Story) → AllPasses (numbers 1 (length slots)) count (table_of slots') after more end_table end
       → (total : ℕ) × AllPasses (numbers 1 (length slots)) total (table_of slots) s (piece ++ more) end_table end
+  pub leads : Leads s after
   pub counts : many + waits_in slots' + s.state.steps ≤ after.state.steps + waits_in slots
   pub go : AllGo slots' after
 
@@ -160,6 +162,7 @@ passes_none s slots out go = record {
   piece = [];
   told = sym (append-nil out);
   joins = λ count more end_table end r. (count, r);
+  leads = no_step s;
   counts = omega arith;
   go = go;
 }
@@ -180,6 +183,7 @@ module _ (s t u : Story) (first now next : List Slot) (out told told' : List ℕ
     joins = λ n more end_table end r.
         let x = h.joins (suc n) (p.piece ++ more) end_table end (m.0, p.piece, table_of next, u, more, subst (λ k. Passing (numbers 1 (length first)) k (table_of now) t p.piece (table_of next) u) m.1 the_pass, r, refl) in
         (x.0, subst (λ l. AllPasses (numbers 1 (length first)) x.0 (table_of first) s l end_table end) (sym (append_assoc h.piece p.piece more)) x.1);
+    leads = leads_on s t u h.leads (passed_led 0 t now told moved next told' u p);
     counts = omega (arith, h.counts, p.counts, m.1);
     go = p.go;
   }

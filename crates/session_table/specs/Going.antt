@@ -39,6 +39,11 @@ pub record StandsIn (Stands : State → Type 0) (P : Story → Type 0) : Type 0 
   pub stands : Stands story.state
   pub holds : P story
 
+-- steps lead from a story to another
+pub data Leads : Story → Story → Type 0 where
+  no_step : (s : Story) → Leads s s
+  one_step : (s mid after : Story) (session : ℕ) (a : Act) (said : Answer) → DoesOf s session a said mid → Leads mid after → Leads s after
+
 -- ---- sessions
 
 -- a session may go on, and counts no more steps than the engine did

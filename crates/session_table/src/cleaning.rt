@@ -1,5 +1,5 @@
 //! The lines `clean` and `checkpoint`, whose steps no session asks for.
-ghost use Rattle.std.specs.Prelude.{◌≡◌, ◌∷◌, ◌++◌, [], OnOk};
+ghost use Rattle.std.specs.Prelude.{◌≡◌, ◌∷◌, ◌++◌, [], OnOk, OnErr};
 ghost use Rattle.iv_types.specs.declared.reply.Reply.TheVariants as reply;
 ghost use Rattle.iv_meaning.specs.Reply.{reply_lines};
 ghost use Rattle.iv_meaning.specs.Said.{cleans, checkpoints};
@@ -8,7 +8,7 @@ ghost use Rattle.txn_machine.specs.Alone.{Story};
 ghost use Rattle.txn_machine.specs.Laws.{IsReachedStory};
 ghost use Rattle.script_law.specs.Machine.{DoesOf};
 ghost use Rattle.txn_book.specs.Acts.{act_of, answer_of};
-ghost use Rattle.session_table.specs.Going.{StandsIn, the_tell};
+ghost use Rattle.session_table.specs.Going.{StandsIn, Leads, the_tell};
 ghost use Rattle.session_table.specs.Requests.{EngineDid};
 ghost use Rattle.session_table.specs.Cleaning.{IsEngines, IsPruned, IsCleaned, IsSaved, pruned_as, cleaned_as, saved_as, CleansBy, CleansLineBy};
 
@@ -126,7 +126,8 @@ pub fn clean_line<S: Stepper>(
     text: &mut Vec<u8>,
 ) -> Result<(), NoMemory>
     requires { StandsIn (S.stands engine.old) IsReachedStory }
-    ensures { OnOk result ((s : Story) → S.stands engine.old s.state → IsReachedStory s → StandsIn (S.stands engine.new) (EngineDid cleans s text.old.items text.new.items)) }
+    ensures did { OnOk result ((s : Story) → S.stands engine.old s.state → IsReachedStory s → StandsIn (S.stands engine.new) (EngineDid cleans s text.old.items text.new.items)) }
+    ensures lost { OnErr result ((s : Story) → S.stands engine.old s.state → IsReachedStory s → StandsIn (S.stands engine.new) (Leads s)) }
 {
     match clean(engine) {
         Ok(count) => push_counted(text, b"CLEAN", count),
@@ -145,7 +146,8 @@ pub fn save_line<S: Stepper>(
     text: &mut Vec<u8>,
 ) -> Result<(), NoMemory>
     requires { StandsIn (S.stands engine.old) IsReachedStory }
-    ensures { OnOk result ((s : Story) → S.stands engine.old s.state → IsReachedStory s → StandsIn (S.stands engine.new) (EngineDid checkpoints s text.old.items text.new.items)) }
+    ensures did { OnOk result ((s : Story) → S.stands engine.old s.state → IsReachedStory s → StandsIn (S.stands engine.new) (EngineDid checkpoints s text.old.items text.new.items)) }
+    ensures lost { OnErr result ((s : Story) → S.stands engine.old s.state → IsReachedStory s → StandsIn (S.stands engine.new) (Leads s)) }
 {
     match save(engine) {
         Ok(number) => push_counted(text, b"CHECKPOINT", number),

@@ -1,5 +1,5 @@
 //! Lines of sessions.
-ghost use Rattle.std.specs.Prelude.{◌≡◌, ◌⊎◌, ◌++◌, ℕ, OnOk, OnSome, true, false};
+ghost use Rattle.std.specs.Prelude.{◌≡◌, ◌⊎◌, ◌++◌, ℕ, OnOk, OnErr, OnSome, true, false};
 ghost use Rattle.txn_machine.specs.Alone.{Story};
 ghost use Rattle.script_law.specs.RunLines.{printed};
 ghost use Rattle.txn_sessions.specs.Sessions.{todo_of, IsIdle};
@@ -7,7 +7,7 @@ ghost use Rattle.txn_sessions.specs.Within.{IsWithin};
 ghost use Rattle.line_requests.specs.declared.asked.Ask.TheVariants as ask;
 ghost use Rattle.line_requests.specs.Requests.{read_of, IsAsk, WasRead};
 ghost use Rattle.session_table.specs.declared.slot.LineKind.TheVariants.{Idle, Waiting, Stepping, Held};
-ghost use Rattle.session_table.specs.Going.{StandsIn, MayGo, outcome_in, HasCome};
+ghost use Rattle.session_table.specs.Going.{StandsIn, Leads, MayGo, outcome_in, HasCome};
 ghost use Rattle.session_table.specs.Slots.{FitsLine};
 ghost use Rattle.session_table.specs.Requests.{Began, Gave, kept_line, WentOnce, SlotDid};
 
@@ -120,6 +120,7 @@ fn run_text<S: Stepper>(
     requires fits { FitsLine slot.old.line slot.old.session }
     requires engine { StandsIn (S.stands engine.old) (MayGo slot.old.session) }
     ensures did { OnOk result ((s : Story) → S.stands engine.old s.state → MayGo slot.old.session s → StandsIn (S.stands engine.new) (SlotDid slot.old.session.number (ask.Runs read) s slot.old text.old.items slot.new text.new.items)) }
+    ensures lost { OnErr result ((s : Story) → S.stands engine.old s.state → MayGo slot.old.session s → StandsIn (S.stands engine.new) (Leads s)) }
     ensures number { slot.new.session.number ≡ slot.old.session.number }
     ensures fits { FitsLine slot.new.line slot.new.session }
 {
@@ -187,6 +188,7 @@ fn step_line<S: Stepper>(
     requires fits { FitsLine slot.old.line slot.old.session }
     requires engine { StandsIn (S.stands engine.old) (MayGo slot.old.session) }
     ensures did { OnOk result ((s : Story) → S.stands engine.old s.state → MayGo slot.old.session s → StandsIn (S.stands engine.new) (SlotDid slot.old.session.number ask.Steps s slot.old text.old.items slot.new text.new.items)) }
+    ensures lost { OnErr result ((s : Story) → S.stands engine.old s.state → MayGo slot.old.session s → StandsIn (S.stands engine.new) (Leads s)) }
     ensures number { slot.new.session.number ≡ slot.old.session.number }
     ensures fits { FitsLine slot.new.line slot.new.session }
 {
@@ -213,6 +215,7 @@ pub fn session_line<S: Stepper>(
     requires fits { FitsLine slot.old.line slot.old.session }
     requires engine { StandsIn (S.stands engine.old) (MayGo slot.old.session) }
     ensures did { OnOk result ((s : Story) → S.stands engine.old s.state → MayGo slot.old.session s → StandsIn (S.stands engine.new) (SlotDid slot.old.session.number ask s slot.old text.old.items slot.new text.new.items)) }
+    ensures lost { OnErr result ((s : Story) → S.stands engine.old s.state → MayGo slot.old.session s → StandsIn (S.stands engine.new) (Leads s)) }
     ensures number { slot.new.session.number ≡ slot.old.session.number }
     ensures fits { FitsLine slot.new.line slot.new.session }
 {

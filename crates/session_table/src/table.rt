@@ -1,11 +1,11 @@
 //! The table of sessions, and lines that are run on it.
-ghost use Rattle.std.specs.Prelude.{◌≡◌, ℕ, OnOk, IfOk, length};
+ghost use Rattle.std.specs.Prelude.{◌≡◌, ℕ, OnOk, OnErr, IfOk, length};
 ghost use Rattle.txn_machine.specs.Alone.{Story};
 ghost use Rattle.script_law.specs.RunLines.{new_table, all_sessions, LeaveAll};
 ghost use Rattle.script_law.specs.Machine.{DoesOf, seen_of};
 ghost use Rattle.session_asks.specs.Askable.{the_programs};
 ghost use Rattle.line_requests.specs.Requests.{IsRequest};
-ghost use Rattle.session_table.specs.Going.{StandsIn, the_tell};
+ghost use Rattle.session_table.specs.Going.{StandsIn, Leads, the_tell};
 ghost use Rattle.session_table.specs.Slots.{AreSlots, AreNew, AllGo, GoFirst, table_of};
 ghost use Rattle.session_table.specs.Requests.{DidOwn, RanLine};
 
@@ -35,6 +35,7 @@ fn own_part<S: Stepper>(
     requires slots { AreSlots slots.old }
     requires engine { StandsIn (S.stands engine.old) (AllGo slots.old) }
     ensures did { OnOk result ((s : Story) → S.stands engine.old s.state → AllGo slots.old s → StandsIn (S.stands engine.new) (DidOwn request s slots.old text.old.items slots.new text.new.items)) }
+    ensures lost { OnErr result ((s : Story) → S.stands engine.old s.state → AllGo slots.old s → StandsIn (S.stands engine.new) (Leads s)) }
     ensures slots { AreSlots slots.new }
 {
     match request {
@@ -66,6 +67,7 @@ fn run_on<S: Stepper>(
     requires slots { AreSlots slots.old }
     requires engine { StandsIn (S.stands engine.old) (AllGo slots.old) }
     ensures ran { OnOk result ((s : Story) → S.stands engine.old s.state → AllGo slots.old s → StandsIn (S.stands engine.new) (RanLine request s slots.old text.old.items slots.new text.new.items)) }
+    ensures lost { OnErr result ((s : Story) → S.stands engine.old s.state → AllGo slots.old s → StandsIn (S.stands engine.new) (Leads s)) }
     ensures slots { AreSlots slots.new }
 {
     own_part(alloc, engine, slots, text, request)?;
@@ -127,7 +129,7 @@ impl SessionTable {
     ///
     /// # Errors
     ///
-    /// Where there is no memory for what is printed. Nothing is said of the table, the engine and the text then.
+    /// Where there is no memory for what is printed. The engine stands where some steps led it; nothing is said of the table and the text then.
     pub fn run_line<S: Stepper>(
         &mut self,
         alloc: Global,
@@ -137,7 +139,8 @@ impl SessionTable {
     ) -> Result<(), NoMemory>
         requires request { IsRequest request }
         requires engine { StandsIn (S.stands engine.old) (AllGo self.old) }
-        ensures { OnOk result ((s : Story) → S.stands engine.old s.state → AllGo self.old s → StandsIn (S.stands engine.new) (RanLine request s self.old text.old.items self.new text.new.items)) }
+        ensures ran { OnOk result ((s : Story) → S.stands engine.old s.state → AllGo self.old s → StandsIn (S.stands engine.new) (RanLine request s self.old text.old.items self.new text.new.items)) }
+        ensures lost { OnErr result ((s : Story) → S.stands engine.old s.state → AllGo self.old s → StandsIn (S.stands engine.new) (Leads s)) }
     {
         run_on(alloc, engine, &mut self.slots, text, request)
     }

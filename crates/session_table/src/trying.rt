@@ -1,11 +1,11 @@
 //! Sessions whose lines wait are tried again.
-ghost use Rattle.std.specs.Prelude.{◌≡◌, ◌≢◌, ◌≤◌, ◌<◌, ◌+◌, ◌-◌, ◌^◌, IfOk, OnOk, ◌++◌, length, true, false, Some, slice_get};
+ghost use Rattle.std.specs.Prelude.{◌≡◌, ◌≢◌, ◌≤◌, ◌<◌, ◌+◌, ◌-◌, ◌^◌, IfOk, OnOk, OnErr, ◌++◌, length, true, false, Some, slice_get};
 ghost use Rattle.txn_machine.specs.Alone.{Story};
 ghost use Rattle.script_law.specs.RunLines.{printed_later};
 ghost use Rattle.txn_sessions.specs.Sessions.{todo_of};
 ghost use Rattle.session_table.specs.declared.slot.LineKind.TheVariants.{Waiting};
 ghost use Rattle.session_table.specs.declared.slot.Slot.{Slot as SlotValue};
-ghost use Rattle.session_table.specs.Going.{StandsIn, MayGo, outcome_in};
+ghost use Rattle.session_table.specs.Going.{StandsIn, Leads, MayGo, outcome_in};
 ghost use Rattle.session_table.specs.Slots.{FitsLine, AreSlots, AllGo};
 ghost use Rattle.session_table.specs.Requests.{kept_line};
 ghost use Rattle.session_table.specs.Trying.{Tried, NoneWaits, Passed, Retried};
@@ -49,6 +49,7 @@ fn try_slot<S: Stepper>(
     requires fits { FitsLine slot.old.line slot.old.session }
     requires engine { StandsIn (S.stands engine.old) (MayGo slot.old.session) }
     ensures tried { IfOk result (λ moved. (s : Story) → S.stands engine.old s.state → MayGo slot.old.session s → StandsIn (S.stands engine.new) (Tried s slot.old text.old.items moved slot.new text.new.items)) }
+    ensures lost { OnErr result ((s : Story) → S.stands engine.old s.state → MayGo slot.old.session s → StandsIn (S.stands engine.new) (Leads s)) }
     ensures number { slot.new.session.number ≡ slot.old.session.number }
     ensures fits { FitsLine slot.new.line slot.new.session }
 {
@@ -101,6 +102,7 @@ fn pass_from<S: Stepper>(
     requires slots { AreSlots slots.old }
     requires engine { StandsIn (S.stands engine.old) (AllGo slots.old) }
     ensures passed { IfOk result (λ moved. (s : Story) → S.stands engine.old s.state → AllGo slots.old s → StandsIn (S.stands engine.new) (Passed place s slots.old text.old.items moved slots.new text.new.items)) }
+    ensures lost { OnErr result ((s : Story) → S.stands engine.old s.state → AllGo slots.old s → StandsIn (S.stands engine.new) (Leads s)) }
     ensures slots { AreSlots slots.new }
 {
     let at = next_waiting(slots, place);
@@ -127,6 +129,7 @@ pub fn retry<S: Stepper>(
     requires slots { AreSlots slots.old }
     requires engine { StandsIn (S.stands engine.old) (AllGo slots.old) }
     ensures retried { OnOk result ((s : Story) → S.stands engine.old s.state → AllGo slots.old s → StandsIn (S.stands engine.new) (Retried s slots.old text.old.items slots.new text.new.items)) }
+    ensures lost { OnErr result ((s : Story) → S.stands engine.old s.state → AllGo slots.old s → StandsIn (S.stands engine.new) (Leads s)) }
     ensures slots { AreSlots slots.new }
 {
     for _ in 0..u64::MAX {

@@ -28,8 +28,18 @@ pub record Elapses (May : Database → Type 0) (before now : ℕ) (past since : 
   pub later : before ≤ now
   pub nothing_else : (t : ℕ) (db : Database) → t ≤ before → since t db → past t db ⊎ May db
 
--- What was committed up to some number; or, behind all that was committed, the entry that a step was committing at which the disk failed,
--- which stopped the engine.
+-- behind all that was committed, the entry that a step was committing at which the disk failed, which stopped the engine
+pub record HasOneMore (s : State) (db : Database) : Type 0 where
+  pub stopped : IsSome s.stop
+  pub entry : Entry
+  pub number : entry.number ≡ (committed s.store).number + 1
+  pub is : db ≡ fold (s.store.history ++ entry ∷ []) s.store.origin
+
+-- all that was committed, or with that entry
+abbrev pub IsWhole : State → Database → Type 0
+IsWhole s db = (db ≡ committed s.store) ⊎ HasOneMore s db
+
+-- what was committed up to some number, or all of it with that entry
 pub data IsPrefix (s : State) (db : Database) : Type 0 where
   committed_to : (number : ℕ) → number ≤ (committed s.store).number → db ≡ state_at s.store.origin s.store.history number → IsPrefix s db
-  with_one_more : IsSome s.stop → (e : Entry) → e.number ≡ (committed s.store).number + 1 → db ≡ fold (s.store.history ++ e ∷ []) s.store.origin → IsPrefix s db
+  with_one_more : HasOneMore s db → IsPrefix s db

@@ -8,7 +8,7 @@ ghost use Rattle.txn_machine.specs.State.{State};
 ghost use Rattle.txn_machine.specs.Laws.{IsReached};
 ghost use Rattle.txn_book.specs.Acts.{last_refusal};
 ghost use Rattle.txn_book.specs.Moves.{IsAsked, IsAskable, Moves, CountsFault, kept_count};
-ghost use Rattle.txn_book.specs.Crashes.{MayCommit, Elapses, IsPrefix};
+ghost use Rattle.txn_book.specs.Crashes.{MayCommit, Elapses, IsWhole, IsPrefix};
 
 use crate::step::{Answer, LastRefusal, Step};
 
@@ -62,8 +62,8 @@ pub trait Stepper {
     /// While it is not stopped, its disk has failed no more than when it was opened.
     ghost runs_well: { (engine : Self) (s : State) → stands engine s → s.stop ≡ None → faults engine ≡ s.opening.faults };
 
-    /// While it is not stopped, a crash recovers just what is committed.
-    ghost keeps_all: { (engine : Self) (s : State) (db : Database) → stands engine s → s.stop ≡ None → may_recover engine db → db ≡ committed s.store };
+    /// A crash recovers all that is committed, and nothing more unless it is stopped.
+    ghost keeps_all: { (engine : Self) (s : State) (db : Database) → stands engine s → may_recover engine db → IsWhole s db };
 
     /// This moment is one of those since an earlier one.
     ghost counts_now: { (engine : Self) (t : ℕ) (db : Database) → t ≤ moment engine → may_recover engine db → recovered_since engine t db };

@@ -4,16 +4,25 @@ use Rattle.std.specs.Prelude.{Option, Result, IfOk, IfErr, min}
 use Rattle.iv_types.specs.Faults.{Rose, CountsFault}
 use Rattle.iv_types.specs.declared.fault.Failed.{Failed}
 use Rattle.outside.specs.Outside.{CountsClosed, ReadsAsBefore}
+use Rattle.iv_meaning.specs.Database.{Database}
+use Rattle.txn_machine.specs.Log.{Opening}
+use Rattle.txn_book.specs.Crashes.{IsWhole, IsPrefix}
+use Rattle.session_table.specs.Going.{StandsIn}
 use Rattle.txn_log.specs.Replay.{Pages, recovered}
 use Rattle.image_opening.specs.Telling.{Refuses}
 use Rattle.image_opening.specs.declared.fault.OpenFault.{OpenFault}
+use Rattle.image_opening.specs.declared.fault.OpenFault.TheVariants as why
+use Rattle.log_journal.specs.Standing.{disk_of}
+use Rattle.engine_core.specs.CrashLaws.{reads_weaker, images_read, last_read}
 use Rattle.engine_core.specs.Standing.{IsOnDisk}
-use Rattle.database_opening.specs.Opened.{DiskCore, IsOpenOn, OpensAs}
+use Rattle.database_opening.specs.Opened.{DiskCore, IsOpenOn, OpensAs, IsRefusal}
 use Rattle.script_run.specs.Lines.{WasOpened}
+use Rattle.script_run.specs.Recovered.{IsAllOf, IsFrontOf, history_of, Ends}
+use Rattle.script_run.proofs.Recovering.{front_of, all_of}
 use Rattle.script_run.specs.Run.{Output, Taken, SourceFaults, SinkFaults}
 use Rattle.script_run.specs.declared.status.Status.{Status}
 use Rattle.script_run.specs.declared.status.Status.TheVariants.{Done, Usage, ReadFault, WriteFault, DiskFault, BadImage, NoMemory, TooMuch}
-use Rattle.view_server.specs.OnDisk.{EndsWith, EndsSo, FaultsOnDisk, IsOfLines, IsThere, IsTold, IsToldOf, RanOn, lines, refused, nothing, TellsBad, ToldBad}
+use Rattle.view_server.specs.OnDisk.{EndsWith, EndsSo, FaultsOnDisk, IsOfLines, IsThere, IsKeptOn, IsTold, IsToldOf, RanOn, lines, refused, nothing, TellsBad, ToldBad}
 
 -- ---- a core that was opened
 
@@ -22,18 +31,43 @@ module _ {D : Type 0} (is_told : Type 0) (size_of : D → ℕ) (seen : D → Lis
   was_opened p h = record { db = p.db; stored = p.view; opening = h.opening; is_opened = h.was_opened; stands = h.stands }
 
   -- the output of its lines is that on the database which is there
-  pub ran_lines : (There : List ℕ → Type 0) → ((c : List ℕ) → There c → OpensAs is_told size_of seen may_leave moment left_since faults c core) → (p : Pages) → IsOpenOn is_told size_of seen may_leave moment left_since faults core p
+  pub ran_lines : (There Same : List ℕ → Type 0) (Leaves : Status → Database → Type 0) → ((c : List ℕ) → There c → OpensAs is_told size_of seen may_leave moment left_since faults c core) → (p : Pages) → IsOpenOn is_told size_of seen may_leave moment left_since faults core p
       → (of status : Status) → EndsWith of status → (input before : List ℕ) (left written : Option (List ℕ)) → Taken of input left
-      → ((q : Pages) → IsOpenOn is_told size_of seen may_leave moment left_since faults core q → Output q.db of input before left written) → RanOn There status input before left written
-  ran_lines There opens p here of status ends input before left written taken out =
-      lines of ends taken p.db (out p here) (λ c there. let found = opens c there in (found.0, (λ i im. let o = found.1 i im in (o.0, (o.1.0, o.1.1, out (recovered o.1.0) o.1.2)))))
+      → ((q : Pages) → IsOpenOn is_told size_of seen may_leave moment left_since faults core q → Output q.db of input before left written) → ((q : Pages) → IsOpenOn is_told size_of seen may_leave moment left_since faults core q → Leaves of q.db) → RanOn There Same Leaves status input before left written
+  ran_lines There Same Leaves opens p here of status ends input before left written taken out kept =
+      lines of ends taken p.db (out p here) (λ c there. let found = opens c there in (found.0, (λ i im. let o = found.1 i im in (o.0, (o.1.0, o.1.1, out (recovered o.1.0) o.1.2, kept (recovered o.1.0) o.1.2)))))
+
+  -- what its lines committed is kept on its disk
+  pub kept_behind : (last : DiskCore D) (disk : D) → disk ≡ disk_of last.journal → (p : Pages) (here : IsOpenOn is_told size_of seen may_leave moment left_since faults core p) → is_told → (of : Status) (input before : List ℕ) (written : Option (List ℕ))
+      → StandsIn (IsOnDisk is_told size_of seen may_leave moment left_since faults last) (Ends p.db here.opening of input before written) → IsKeptOn may_leave moment left_since disk p.db of input before written
+  kept_behind last disk is p here told of input before written i =
+      let s = i.story.state in
+      let e = i.holds in
+      let later = i.stands.lasts.later told in
+      record {
+        committed = e.committed;
+        opened = here.opening.moment;
+        past = omega (arith, later, ap (λ (o : Opening). o.moment) e.opening_is, ap moment is);
+        since = λ c left. reads_weaker (IsPrefix s) (IsFrontOf e.committed.world.origin (history_of e.committed)) (front_of s e.committed.world.origin (history_of e.committed) e.origin e.history) c
+            (images_read is_told size_of seen may_leave moment left_since faults told last s c i.stands
+            (subst (λ (o : Opening). left_since (disk_of last.journal) o.moment c) (sym e.opening_is) (subst (λ (x : D). left_since x here.opening.moment c) is left)));
+        now = λ c left. reads_weaker (IsWhole s) (IsAllOf e.committed.world.origin (history_of e.committed)) (all_of s e.committed.world.origin (history_of e.committed) e.origin e.history) c
+            (last_read is_told size_of seen may_leave moment left_since faults told last s c i.stands (subst (λ (x : D). may_leave x c) is left));
+      }
 
 -- ---- what was told
 
-pub ran_told : (There : List ℕ → Type 0) (fault : OpenFault) → ((c : List ℕ) → There c → Refuses c fault) → (status : Status) (input before : List ℕ) (left written : Option (List ℕ)) → left ≡ Some input
-    → IsToldOf fault status before written → RanOn There status input before left written
-ran_told There fault refuses status input before left written none (inl told) = refused fault refuses told.0 told.1 none told.2
-ran_told There fault refuses status input before left written none (inr bare) = nothing bare.0 none bare.1
+-- what is told is a refusal
+is_refusal : (fault : OpenFault) (line : List ℕ) → IsTold fault line → IsRefusal fault
+is_refusal (why.BadImage bad) line told = tt
+is_refusal (why.BadView wrong) line told = tt
+is_refusal why.DiskFault line told = told
+is_refusal why.NoMemory line told = told
+
+pub ran_told : (There Same : List ℕ → Type 0) (Leaves : Status → Database → Type 0) (fault : OpenFault) → ((c : List ℕ) → There c → Refuses c fault) → ((c : List ℕ) → IsRefusal fault → There c → Same c) → (status : Status) (input before : List ℕ) (left written : Option (List ℕ)) → left ≡ Some input
+    → IsToldOf fault status before written → RanOn There Same Leaves status input before left written
+ran_told There Same Leaves fault refuses same status input before left written none (inl told) = refused fault (λ c there. (refuses c there, same c (is_refusal fault told.0 told.1) there)) told.0 told.1 none told.2
+ran_told There Same Leaves fault refuses same status input before left written none (inr bare) = nothing bare.0 none bare.1
 
 -- a line that was made or not, and told then
 pub told_line : {T S N : Type 0} (items : T → List ℕ) (written : S → Option (List ℕ)) (old new : S) (fault : OpenFault) (wanted : List ℕ) → IsTold fault wanted → (line : Result T N) → IfOk line (λ text. items text ≡ wanted)
@@ -42,11 +76,13 @@ pub told_line : {T S N : Type 0} (items : T → List ℕ) (written : S → Optio
 told_line items written old new fault wanted is (Ok text) are status told none before w = inl (wanted, is, subst (λ (line : List ℕ). ToldBad status line before (written new)) are (told before w))
 told_line items written old new fault wanted is (Err e) are status told none before w = inr (inr none.0, ap written none.1 ∙ w)
 
--- of fewer bytes
-pub ran_more : (There Other : List ℕ → Type 0) → ((c : List ℕ) → Other c → There c) → (status : Status) (input before : List ℕ) (left written : Option (List ℕ)) → RanOn There status input before left written → RanOn Other status input before left written
-ran_more There Other fewer status input before left written (lines of ends taken db out there) = lines of ends taken db out (λ c is. there c (fewer c is))
-ran_more There Other fewer status input before left written (refused fault refuses line told none bad) = refused fault (λ c is. refuses c (fewer c is)) line told none bad
-ran_more There Other fewer status input before left written (nothing bare none same) = nothing bare none same
+-- of fewer bytes, and by what is left
+pub ran_more : (There Other Same Still : List ℕ → Type 0) (Leaves Left : Status → Database → Type 0) → ((c : List ℕ) → Other c → There c) → ((c : List ℕ) → Same c → Still c) → ((of : Status) (db : Database) → Leaves of db → Left of db) → (status : Status) (input before : List ℕ) (left written : Option (List ℕ)) → RanOn There Same Leaves status input before left written → RanOn Other Still Left status input before left written
+ran_more There Other Same Still Leaves Left fewer stays still status input before left written (lines of ends taken db out there) =
+    lines of ends taken db out (λ c is. let found = there c (fewer c is) in (found.0, (λ i im. let o = found.1 i im in (o.0, (o.1.0, o.1.1, o.1.2, still of (recovered o.1.0).db o.1.3)))))
+ran_more There Other Same Still Leaves Left fewer stays still status input before left written (refused fault refuses line told none bad) =
+    refused fault (λ c is. let r = refuses c (fewer c is) in (r.0, stays c r.1)) line told none bad
+ran_more There Other Same Still Leaves Left fewer stays still status input before left written (nothing bare none same) = nothing bare none same
 
 -- the disk that lay there reads as the one that was opened
 pub reads_so : {D : Type 0} (outside_tells disk_tells : Type 0) (size : D → ℕ) (seen : D → List ℕ) (may_leave : D → List ℕ → Type 0) (lay : Option D) (disk : D) → (outside_tells → ReadsAsBefore size seen may_leave lay disk)

@@ -1,5 +1,5 @@
 -- What comes of a script on the database of a disk.
-use Rattle.std.specs.Prelude.{◌≡◌, ◌≢◌, ◌⊎◌, ℕ, List, ◌++◌, Option, Some, Result, Ok, Err}
+use Rattle.std.specs.Prelude.{◌≡◌, ◌≢◌, ◌⊎◌, ◌≤◌, ℕ, List, ◌++◌, Option, Some, Result, Ok, Err}
 use Rattle.iv_types.specs.Faults.{Rose}
 use Rattle.iv_types.specs.declared.fault.Failed.{Failed}
 use Rattle.iv_meaning.specs.Database.{Database}
@@ -12,7 +12,9 @@ use Rattle.image_opening.specs.Images.{IsImageIn}
 use Rattle.image_opening.specs.Telling.{Refuses}
 use Rattle.image_opening.specs.declared.fault.OpenFault.{OpenFault}
 use Rattle.image_opening.specs.declared.fault.OpenFault.TheVariants as why
+use Rattle.engine_core.specs.Crashes.{ReadsBack}
 use Rattle.image_refusals.specs.Lines.{rule_line, row_line}
+use Rattle.script_run.specs.Recovered.{IsAllOf, IsFrontOf, Committed, history_of}
 use Rattle.script_run.specs.Run.{Output, Taken}
 use Rattle.script_run.specs.declared.status.Status.{Status}
 use Rattle.script_run.specs.declared.status.Status.TheVariants.{Done, Usage, WriteFault, DiskFault, BadImage, NoMemory}
@@ -62,18 +64,46 @@ pub record IsOfLines (status : Status) : Type 0 where
   pub disks : status ≢ DiskFault
   pub images : status ≢ BadImage
 
--- what a run on the disk with these bytes has done
-pub data RanOn (There : List ℕ → Type 0) (status : Status) (input before : List ℕ) (left written : Option (List ℕ)) : Type 0 where
+-- What was committed by lines that were run on a database is kept on this disk: what a crash at any moment since one behind the opening
+-- left bears an image, which recovers to what was committed up to some number; and what one may leave now to all of it.
+pub record IsKeptOn {D : Type 0} (may_leave : D → List ℕ → Type 0) (moment : D → ℕ) (left_since : D → ℕ → List ℕ → Type 0) (disk : D) (db : Database) (of : Status) (input before : List ℕ) (written : Option (List ℕ)) : Type 0 where
+  pub committed : Committed db of input before written
+  pub opened : ℕ
+  pub past : opened ≤ moment disk
+  pub since : (c : List ℕ) → left_since disk opened c → ReadsBack (IsFrontOf committed.world.origin (history_of committed)) c
+  pub now : (c : List ℕ) → may_leave disk c → ReadsBack (IsAllOf committed.world.origin (history_of committed)) c
+
+-- such a disk lies there
+pub record LiesKept {D : Type 0} (may_leave : D → List ℕ → Type 0) (moment : D → ℕ) (left_since : D → ℕ → List ℕ → Type 0) (lies : Option D) (input before : List ℕ) (written : Option (List ℕ)) (of : Status) (db : Database) : Type 0 where
+  pub disk : D
+  pub there : lies ≡ Some disk
+  pub kept : IsKeptOn may_leave moment left_since disk db of input before written
+
+-- where the outside and its disks are told
+abbrev pub Keeps : {D : Type 0} (outside_tells disk_tells : Type 0) (may_leave : D → List ℕ → Type 0) (moment : D → ℕ) (left_since : D → ℕ → List ℕ → Type 0) (lies : Option D) (input before : List ℕ) (written : Option (List ℕ)) → Status → Database → Type 0
+Keeps outside_tells disk_tells may_leave moment left_since lies input before written of db = outside_tells → disk_tells → LiesKept may_leave moment left_since lies input before written of db
+
+-- a disk lies there that reads so, where the outside is told
+pub record LiesAs {D : Type 0} (seen : D → List ℕ) (lies : Option D) (c : List ℕ) : Type 0 where
+  pub disk : D
+  pub there : lies ≡ Some disk
+  pub reads : seen disk ≡ c
+
+abbrev pub Stays : {D : Type 0} (outside_tells : Type 0) (seen : D → List ℕ) (lies : Option D) → List ℕ → Type 0
+Stays outside_tells seen lies c = outside_tells → LiesAs seen lies c
+
+-- what a run on the disk with these bytes has done, and what it leaves
+pub data RanOn (There Same : List ℕ → Type 0) (Leaves : Status → Database → Type 0) (status : Status) (input before : List ℕ) (left written : Option (List ℕ)) : Type 0 where
   -- The lines were run on some database: the bytes fail no rule up to 12, so that an image stands there, and it was that which the image
-  -- recovers to, which is refused for nothing.
+  -- recovers to, which is refused for nothing. What they committed is kept.
   lines : (of : Status) → EndsWith of status → Taken of input left → (db : Database) → Output db of input before left written
-      → ((c : List ℕ) → There c → PassesUpTo 12 c × ((i : PlacedImage) → IsImageIn c i → IsFine i × ((r : Reading) × ReversesAs i r × Output (recovered r).db of input before left written)))
-      → RanOn There status input before left written
-  -- The bytes bear no database, for what was told; no line was read.
-  refused : (fault : OpenFault) → ((c : List ℕ) → There c → Refuses c fault) → (line : List ℕ) → IsTold fault line → left ≡ Some input → ToldBad status line before written
-      → RanOn There status input before left written
+      → ((c : List ℕ) → There c → PassesUpTo 12 c × ((i : PlacedImage) → IsImageIn c i → IsFine i × ((r : Reading) × ReversesAs i r × Output (recovered r).db of input before left written × Leaves of (recovered r).db)))
+      → RanOn There Same Leaves status input before left written
+  -- The bytes bear no database, for what was told, and stay as they are; no line was read.
+  refused : (fault : OpenFault) → ((c : List ℕ) → There c → Refuses c fault × Same c) → (line : List ℕ) → IsTold fault line → left ≡ Some input → ToldBad status line before written
+      → RanOn There Same Leaves status input before left written
   -- The disk could not be opened, or failed as it was, or there was no memory for it; no line was read and nothing was told.
-  nothing : (status ≡ DiskFault) ⊎ (status ≡ NoMemory) → left ≡ Some input → written ≡ Some before → RanOn There status input before left written
+  nothing : (status ≡ DiskFault) ⊎ (status ≡ NoMemory) → left ≡ Some input → written ≡ Some before → RanOn There Same Leaves status input before left written
 
 -- the outside's count of disks rises with a fault of the disk, and it may have risen where another cause is told
 abbrev pub FaultsOnDisk : Status → ℕ → ℕ → Type 0

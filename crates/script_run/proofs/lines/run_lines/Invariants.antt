@@ -9,7 +9,7 @@ abbrev pub invariant-loop-lines : goal.invariant-loop-lines
 invariant-loop-lines g l = record {
   running : IsRunning (g.E.Stepper.stands l.engine) l.table;
   served : (o : WasOpened (g.E.Stepper.stands l.fn.engine)) (input before : List ℕ) → g.S.Source.left l.fn.source ≡ Some input → g.K.Sink.written l.fn.sink ≡ Some before
-      → StandsIn (g.E.Stepper.stands l.engine) (Serving o.db input before l.lines (g.S.Source.left l.source) (g.K.Sink.written l.sink) (l.waiting.items) l.table);
+      → StandsIn (g.E.Stepper.stands l.engine) (Serving o.db o.opening input before l.lines (g.S.Source.left l.source) (g.K.Sink.written l.sink) (l.waiting.items) l.table);
   counted : (input : List ℕ) → g.S.Source.left l.fn.source ≡ Some input → (rest : List ℕ) × (g.S.Source.left l.source ≡ Some rest) × (l.lines.taken + length rest ≡ length input);
   reads : g.S.Source.faults l.source ≡ g.S.Source.faults l.fn.source;
   writes : g.K.Sink.faults l.sink ≡ g.K.Sink.faults l.fn.sink;

@@ -1,9 +1,18 @@
 use Rattle.std.proofs.lemmas.Result.{on_ok_weaker}
+use Rattle.txn_machine.specs.Acts as act
+use Rattle.txn_machine.specs.Answers as answer
 use Rattle.session_table.proofs.Removing.{save_told, save_refused}
+use Rattle.session_table.proofs.Losing.{lost_so, step_lost}
 use Rattle.session_table.proofs.cleaning.save_line.Goals as goal
 
-pub returns-in-Ok : goal.returns-in-Ok
-returns-in-Ok g c = on_ok_weaker c.push_counted.result (λ told. save_told (g.S.Stepper.stands c.args.engine.now) c.in-Ok.number c.args.text.now.items c.push_counted.new.text.items told c.in-Ok.ensures) c.push_counted.ensures
+pub returns-in-Ok-clause-did : goal.returns-in-Ok-clause-did
+returns-in-Ok-clause-did g c = on_ok_weaker c.push_counted.result (λ told. save_told (g.S.Stepper.stands c.args.engine.now) c.in-Ok.number c.args.text.now.items c.push_counted.new.text.items told c.in-Ok.ensures) c.push_counted.ensures
 
-pub returns-in-Err : goal.returns-in-Err
-returns-in-Err g c = on_ok_weaker c.push_refused.result (λ told. save_refused (g.S.Stepper.stands c.args.engine.now) c.in-Err.why c.args.text.now.items c.push_refused.new.text.items told c.in-Err.ensures) c.push_refused.ensures
+pub returns-in-Ok-clause-lost : goal.returns-in-Ok-clause-lost
+returns-in-Ok-clause-lost g c = lost_so c.push_counted.result (step_lost (g.S.Stepper.stands c.args.engine.now) 0 act.Checkpoint (answer.Saved c.in-Ok.number) c.in-Ok.ensures)
+
+pub returns-in-Err-clause-did : goal.returns-in-Err-clause-did
+returns-in-Err-clause-did g c = on_ok_weaker c.push_refused.result (λ told. save_refused (g.S.Stepper.stands c.args.engine.now) c.in-Err.why c.args.text.now.items c.push_refused.new.text.items told c.in-Err.ensures) c.push_refused.ensures
+
+pub returns-in-Err-clause-lost : goal.returns-in-Err-clause-lost
+returns-in-Err-clause-lost g c = lost_so c.push_refused.result (step_lost (g.S.Stepper.stands c.args.engine.now) 0 act.Checkpoint (answer.Refused c.in-Err.why) c.in-Err.ensures)

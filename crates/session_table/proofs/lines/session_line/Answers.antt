@@ -4,6 +4,7 @@ use Rattle.iv_types.specs.declared.refusal.Refusal.TheVariants as refusal
 use Rattle.iv_types.specs.declared.reply.Reply.TheVariants as reply
 use Rattle.iv_meaning.specs.Reply.{reply_lines}
 use Rattle.session_table.proofs.Doing.{not_read_told, loaded_stood}
+use Rattle.session_table.proofs.Losing.{lost_so, stood}
 use Rattle.session_table.proofs.lines.session_line.Goals as goal
 
 pub returns-in-Loads-clause-did : goal.returns-in-Loads-clause-did
@@ -18,3 +19,9 @@ returns-in-Runs-clause-did g c = rw c.in-Runs.is c.run_text.ensures.did
 
 pub returns-in-Steps-clause-did : goal.returns-in-Steps-clause-did
 returns-in-Steps-clause-did g c = rw c.in-Steps.is c.step_line.ensures.did
+
+pub returns-in-Loads-clause-lost : goal.returns-in-Loads-clause-lost
+returns-in-Loads-clause-lost g c = lost_so c.load_text.result (λ s st go. stood (g.S.Stepper.stands c.args.engine.now) s st)
+
+pub returns-in-Unread-clause-lost : goal.returns-in-Unread-clause-lost
+returns-in-Unread-clause-lost g c = lost_so c.push_one.result (λ s st go. stood (g.S.Stepper.stands c.args.engine.now) s st)

@@ -10,6 +10,7 @@ use Rattle.session_table.specs.Going.{StandsIn}
 use Rattle.session_table.specs.Slots.{AreSlots, AllGo}
 use Rattle.session_table.specs.Trying.{NoneWaits, Passed}
 use Rattle.session_table.proofs.Seating.{pass_over_all, slot_needs, seats_kept, try_needs, pass_done, pass_none}
+use Rattle.session_table.proofs.Losing.{lost_so, slot_lost, more_lost}
 use Rattle.session_table.proofs.trying.+pass_from.Goals as goal
 
 -- what is known from the first that waits on is known from the place on
@@ -41,6 +42,13 @@ try_slot-requires-clause-engine g t c =
     let at : slice_get c.args.slots.now c.next_waiting-at.result ≡ Some slot = slice_get-get_or c.args.slots.now c.next_waiting-at.result c.index-slots-at.result lt in
     slot_needs c.next_waiting-at.result c.args.slots.now slot at c.requires.engine
 
+pub returns-in_err-first-clause-lost : goal.returns-in_err-first-clause-lost
+returns-in_err-first-clause-lost g t c =
+    let lt : c.next_waiting-at.result < length c.args.slots.now = omega arith in
+    let slot = slice_index_or c.args.slots.now c.next_waiting-at.result c.index-slots-at.result in
+    let at : slice_get c.args.slots.now c.next_waiting-at.result ≡ Some slot = slice_get-get_or c.args.slots.now c.next_waiting-at.result c.index-slots-at.result lt in
+    lost_so c.from_residual.result (slot_lost (g.S.Stepper.stands c.args.engine.now) c.next_waiting-at.result c.args.slots.now slot at c.in_err-first.ensures.lost)
+
 pub returns-in_err-first-clause-slots : goal.returns-in_err-first-clause-slots
 returns-in_err-first-clause-slots g t c =
     let lt : c.next_waiting-at.result < length c.args.slots.now = omega arith in
@@ -65,6 +73,13 @@ pass_from-requires g t c κs within =
         ),
       ),
     )
+
+pub returns-in_err-more-clause-lost : goal.returns-in_err-more-clause-lost
+returns-in_err-more-clause-lost g t c =
+    let lt : c.next_waiting-at.result < length c.args.slots.now = omega arith in
+    let slot = slice_index_or c.args.slots.now c.next_waiting-at.result c.index-slots-at.result in
+    let at : slice_get c.args.slots.now c.next_waiting-at.result ≡ Some slot = slice_get-get_or c.args.slots.now c.next_waiting-at.result c.index-slots-at.result lt in
+    lost_so c.from_residual-in_err-more.result (more_lost (g.S.Stepper.stands c.args.engine.now) c.next_waiting-at.result c.args.slots.now slot c.try_slot.new.slot at c.requires.slots c.args.text.now.items c.try_slot.new.text.items c.in_ok-first.first c.in_ok-first.ensures.tried c.in_err-more.ensures.lost)
 
 pub returns-clause-passed : goal.returns-clause-passed
 returns-clause-passed g t c =
