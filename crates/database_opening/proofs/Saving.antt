@@ -49,11 +49,11 @@ saved_by store h commits next p can faults moment =
 -- ---- a crash then
 
 -- it recovers what was opened
-pub lasts_from : {D : Type 0} (is_told : Type 0) (size_of : D → ℕ) (seen : D → List ℕ) (may_leave : D → List ℕ → Type 0) (moment : D → ℕ) (left_since : D → ℕ → List ℕ → Type 0)
+pub lasts_from : {D : Type 0} (is_told : Type 0) (size_of : D → ℕ) (seen : D → List ℕ) (may_leave : D → List ℕ → Type 0) (moment : D → ℕ) (left_since : D → ℕ → List ℕ → Type 0) (faults : D → ℕ)
     → ((disk : D) (c : List ℕ) → left_since disk (moment disk) c → may_leave disk c) → (journal : LogJournal D) (opening : Opening) (p : Pages) (was : IsOpened p.db p.view) → AllCreate [] opening.definitions p.db.schema
     → opening.moment ≡ moment (disk_of journal) → (rs : Records) (has : Has is_told size_of seen may_leave journal rs) → IsSaved (opened_state opening (opened p.db p.view)) rs.saved → rs.saved.carried ≡ [] → rs.flushed ≡ [] → rs.waiting ≡ []
-    → Lasts is_told may_leave moment left_since p journal (opened_state opening (opened p.db p.view)) rs
-lasts_from is_told size_of seen may_leave moment left_since only_now journal opening p was create now rs has saved carried flushed waiting = record {
+    → Lasts is_told may_leave moment left_since faults p journal (opened_state opening (opened p.db p.view)) rs
+lasts_from is_told size_of seen may_leave moment left_since faults only_now journal opening p was create now rs has saved carried flushed waiting = record {
   was_opened = was;
   creates = λ runs. texts_create;
   tied = λ runs. tied;
@@ -66,8 +66,9 @@ lasts_from is_told size_of seen may_leave moment left_since only_now journal ope
         db = p.db;
         recovers = recovers;
         prefix = committed_to p.db.number (omega arith) refl;
+        exact = inl (p.db.number, omega arith, refl);
       };
-  now = λ told c may. record { cut = cut_of rs; borne = borne told c may; db = p.db; recovers = recovers; all = inl refl };
+  now = λ told c may. record { cut = cut_of rs; borne = borne told c may; db = p.db; recovers = recovers; all = inl refl; exact = inl refl };
 }
   where
     s : State

@@ -1,6 +1,7 @@
 -- What a crash at any moment of a step recovers.
 use Rattle.std.specs.Prelude.{IsSome}
-use Rattle.std.proofs.Common.{◌≡◌, ◌⊎◌, inl, inr, ℕ, ◌+◌, ◌≤◌, List, [], ◌∷◌, ◌++◌, None, refl, sym, ◌∙◌, ap, subst, arith}
+use Rattle.std.proofs.Common.{◌≡◌, ◌⊎◌, inl, inr, ⊎_elim, ℕ, ◌+◌, ◌≤◌, List, [], ◌∷◌, ◌++◌, None, refl, sym, ◌∙◌, ap, subst, arith}
+use Rattle.iv_types.specs.Faults.{Rose}
 use Rattle.iv_meaning.specs.Database.{Database}
 use Rattle.iv_meaning.specs.History.{Entry, fold, state_at}
 use Rattle.txn_machine.specs.Acts as act
@@ -30,7 +31,7 @@ use Rattle.log_journal.specs.declared.journal.LogJournal.{LogJournal}
 use Rattle.core_recording.specs.Giving.{LeavesOne}
 use Rattle.record_worlds.specs.Pages.{HoldsPages}
 use Rattle.record_worlds.specs.Tied.{TiesTo, Recovers}
-use Rattle.engine_core.specs.Crashes.{IsLeft, IsLast}
+use Rattle.engine_core.specs.Crashes.{IsUpTo, IsLeft, IsLast}
 
 -- ---- prefixes of what was committed
 
@@ -38,8 +39,14 @@ use Rattle.engine_core.specs.Crashes.{IsLeft, IsLast}
 at_number : (s : State) → IsReached s → state_at s.store.origin s.store.history (committed s.store).number ≡ committed s.store
 at_number s r = state_now s.store.origin s.store.history (reached s r).history
 
+pub up_to_now : (s : State) → IsReached s → IsUpTo s (committed s.store)
+up_to_now s r = ((committed s.store).number, omega arith, sym (at_number s r))
+
+is_prefix : (s : State) (db : Database) → IsUpTo s db → IsPrefix s db
+is_prefix s db up = committed_to up.0 up.1 up.2
+
 pub prefix_now : (s : State) → IsReached s → IsPrefix s (committed s.store)
-prefix_now s r = committed_to (committed s.store).number (omega arith) (sym (at_number s r))
+prefix_now s r = is_prefix s (committed s.store) (up_to_now s r)
 
 -- a step enters one entry at most
 pub record Enters (s t : Store) : Type 0 where
@@ -83,21 +90,26 @@ stopped_with s after t store some origin db is e number history = record {
 }
 
 -- a prefix stays one
-pub prefix_grows : (s after : State) → s.stop ≡ None → Enters s.store after.store → (db : Database) → IsPrefix s db → IsPrefix after db
-prefix_grows s after runs h db (committed_to n le is) = elim h.history [
+pub up_to_grows : (s after : State) → Enters s.store after.store → (db : Database) → IsUpTo s db → IsUpTo after db
+up_to_grows s after h db (n, le, is) = elim h.history [
   | inl same ↦
-      committed_to n (let number = number_same s.store after.store h.origin same in omega (arith, number, le)) (is ∙ (λ x. state_at (sym h.origin x) (sym same x) n))
+      (n, let number = number_same s.store after.store h.origin same in omega (arith, number, le), is ∙ (λ x. state_at (sym h.origin x) (sym same x) n))
   | inr more ↦
       let number = number_more s.store after.store h.origin more.0 more.2 in
       let next = more.1 in
-      committed_to n (omega (arith, number, next, le))
-      (is ∙ (sym (state_at_push s.store.origin s.store.history more.0 n (omega (arith, next, le))) ∙ (λ x. state_at (sym h.origin x) (sym more.2 x) n)))
+      (n, omega (arith, number, next, le), is ∙ (sym (state_at_push s.store.origin s.store.history more.0 n (omega (arith, next, le))) ∙ (λ x. state_at (sym h.origin x) (sym more.2 x) n)))
 ]
+
+pub prefix_grows : (s after : State) → s.stop ≡ None → Enters s.store after.store → (db : Database) → IsPrefix s db → IsPrefix after db
+prefix_grows s after runs h db (committed_to n le is) = is_prefix after db (up_to_grows s after h db (n, le, is))
 prefix_grows s after runs h db (with_one_more more) = absurd (some_not_none s.stop more.stopped runs)
 
+pub up_to_same : (s after : State) → after.store ≡ s.store → (db : Database) → IsUpTo s db → IsUpTo after db
+up_to_same s after store db (n, le, is) =
+    (n, subst (λ (x : Store). n ≤ (committed x).number) (sym store) le, subst (λ (x : Store). db ≡ state_at x.origin x.history n) (sym store) is)
+
 pub prefix_same : (s after : State) → after.store ≡ s.store → after.stop ≡ s.stop → (db : Database) → IsPrefix s db → IsPrefix after db
-prefix_same s after store stop db (committed_to n le is) =
-    committed_to n (subst (λ (x : Store). n ≤ (committed x).number) (sym store) le) (subst (λ (x : Store). db ≡ state_at x.origin x.history n) (sym store) is)
+prefix_same s after store stop db (committed_to n le is) = is_prefix after db (up_to_same s after store db (n, le, is))
 prefix_same s after store stop db (with_one_more more) = with_one_more (same_more s after store stop db more)
 
 -- and what a step was committing that stopped the engine is one
@@ -127,22 +139,26 @@ all_running s after runs store db (inr h) = absurd (some_not_none s.stop h.stopp
 
 -- ---- what is left
 
-pub last_after : (p : Pages) (s after : State) (c : List ℕ) → after.opening ≡ s.opening → ((db : Database) → IsWhole s db → IsWhole after db) → IsLast p s c → IsLast p after c
-last_after p s after c same more l = record {
+pub last_after : (p : Pages) (s after : State) (count now : ℕ) (c : List ℕ) → after.opening ≡ s.opening → after.store ≡ s.store → (Rose s.opening.faults count → Rose after.opening.faults now) → ((db : Database) → IsWhole s db → IsWhole after db)
+    → IsLast p s count c → IsLast p after now c
+last_after p s after count now c same store rise more l = record {
   cut = l.cut;
   borne = l.borne;
   db = l.db;
   recovers = subst (λ (o : Opening). Recovers HoldsPages p o l.cut l.db) (sym same) l.recovers;
   all = more l.db l.all;
+  exact = ⊎_elim (λ is. inl (is ∙ ap committed (sym store))) (λ rose. inr (rise rose)) l.exact;
 }
 
-pub left_after : (p : Pages) (s after : State) (c : List ℕ) → after.opening ≡ s.opening → ((db : Database) → IsPrefix s db → IsPrefix after db) → IsLeft p s c → IsLeft p after c
-left_after p s after c same more l = record {
+pub left_after : (p : Pages) (s after : State) (count now : ℕ) (c : List ℕ) → after.opening ≡ s.opening → (Rose s.opening.faults count → Rose after.opening.faults now) → ((db : Database) → IsUpTo s db → IsUpTo after db)
+    → ((db : Database) → IsPrefix s db → IsPrefix after db) → IsLeft p s count c → IsLeft p after now c
+left_after p s after count now c same rise up more l = record {
   cut = l.cut;
   borne = l.borne;
   db = l.db;
   recovers = subst (λ (o : Opening). Recovers HoldsPages p o l.cut l.db) (sym same) l.recovers;
   prefix = more l.db l.prefix;
+  exact = ⊎_elim (λ is. inl (up l.db is)) (λ rose. inr (rise rose)) l.exact;
 }
 
 -- ---- what a step gives

@@ -1,6 +1,7 @@
 -- A step of a core on a disk, with what a crash at any moment of it recovers.
 use Rattle.std.specs.Prelude.{IsSome}
 use Rattle.std.proofs.Common.{◌≡◌, ◌⊎◌, inl, inr, ⊎_elim, Bool, true, false, ℕ, ◌+◌, ◌≤◌, List, [], Option, Some, None, refl, sym, ◌∙◌, ap, subst, arith}
+use Rattle.iv_types.specs.Faults.{Rose}
 use Rattle.iv_types.specs.declared.refusal.EngineRefusal.TheVariants as refusal
 use Rattle.iv_meaning.specs.Database.{Database}
 use Rattle.txn_machine.specs.Acts as act
@@ -31,8 +32,8 @@ use Rattle.record_worlds.specs.Pages.{HoldsPages}
 use Rattle.record_worlds.specs.Tied.{IsTied, SavesAll, TiesTo, Recovers, MayCommit}
 use Rattle.record_worlds.specs.Laws.{StepLaw, CutLaw, FaultLaw}
 use Rattle.engine_core.specs.Acting.{Recorded}
-use Rattle.engine_core.specs.Crashes.{IsLeft, IsLast, Lasts}
-use Rattle.engine_core.proofs.Crashing.{Enters, enters, prefix_now, prefix_grows, prefix_same, prefix_stopped, left_after, Given, given, GivenUp, given_up, Passes, passes, all_stopped, all_same, all_running, last_after}
+use Rattle.engine_core.specs.Crashes.{IsUpTo, IsLeft, IsLast, Lasts}
+use Rattle.engine_core.proofs.Crashing.{Enters, enters, up_to_now, up_to_grows, up_to_same, prefix_now, prefix_grows, prefix_same, prefix_stopped, left_after, Given, given, GivenUp, given_up, Passes, passes, all_stopped, all_same, all_running, last_after}
 use Rattle.engine_core.proofs.Creating.{creates_after}
 use Rattle.engine_core.proofs.Once.{says_once}
 use Rattle.engine_core.proofs.Recording.{opening_stays, fault_stops}
@@ -75,7 +76,7 @@ pub record MayTell (s : State) (i : ℕ) (a : Act) (said : Answer) (db : Databas
   pub says : Says s i a answer effects
   pub is : (db ≡ committed s.store) ⊎ (db ≡ committed (run the_views s.store i effects))
 
-module _ {D : Type 0} (is_told : Type 0) (size_of : D → ℕ) (seen : D → List ℕ) (may_leave : D → List ℕ → Type 0) (moment : D → ℕ) (left_since : D → ℕ → List ℕ → Type 0) where
+module _ {D : Type 0} (is_told : Type 0) (size_of : D → ℕ) (seen : D → List ℕ) (may_leave : D → List ℕ → Type 0) (moment : D → ℕ) (left_since : D → ℕ → List ℕ → Type 0) (faults : D → ℕ) where
   abbrev HasThem : LogJournal D → Records → Type 0
   HasThem = Has is_told size_of seen may_leave
 
@@ -93,7 +94,7 @@ module _ {D : Type 0} (is_told : Type 0) (size_of : D → ℕ) (seen : D → Lis
 
   pub record Stepped (p : Pages) (s : State) (i : ℕ) (a : Act) (said : Answer) (rs : Records) (old : LogJournal D) (core : CoreState Tree) (journal : LogJournal D) (after : State) : Type 0 where
     pub records : Records
-    pub lasts : Lasts is_told may_leave moment left_since p journal after records
+    pub lasts : Lasts is_told may_leave moment left_since faults p journal after records
     pub behind : after.stop ≡ None → IsBehind map_of spare_of limit_of HasThem area_limit core journal after.log records
     pub few : rs.saves ≤ s.steps + 1 → records.saves ≤ after.steps + 1
     pub later : is_told → moment (disk_of old) ≤ moment (disk_of journal)
@@ -102,7 +103,8 @@ module _ {D : Type 0} (is_told : Type 0) (size_of : D → ℕ) (seen : D → Lis
 
   module _ (counts_now : (disk : D) (t : ℕ) (c : List ℕ) → t ≤ moment disk → may_leave disk c → left_since disk t c) (only_now : (disk : D) (c : List ℕ) → left_since disk (moment disk) c → may_leave disk c)
       (step_law : StepLaw HoldsPages) (cut_law : CutLaw HoldsPages) (fault_law : FaultLaw HoldsPages) (p : Pages) (s : State) (i : ℕ) (a : Act) (said : Answer) (rs : Records) (old : LogJournal D) (core : CoreState Tree) (journal : LogJournal D)
-      (lasts : Lasts is_told may_leave moment left_since p old s rs) (saves : s.stop ≡ None → (saved : Saved) → IsSaved s saved → SavesAll HoldsPages s saved) (r : DiskRecorded s i a said rs old core journal) (s_reached : IsReached s) where
+      (lasts : Lasts is_told may_leave moment left_since faults p old s rs) (well : s.stop ≡ None → faults (disk_of old) ≡ s.opening.faults) (rises : is_fault said ≡ true → Rose (faults (disk_of old)) (faults (disk_of journal)))
+      (stays : is_fault said ≡ false → faults (disk_of journal) ≡ faults (disk_of old)) (saves : s.stop ≡ None → (saved : Saved) → IsSaved s saved → SavesAll HoldsPages s saved) (r : DiskRecorded s i a said rs old core journal) (s_reached : IsReached s) where
     abbrev after : State
     after = r.moved.after
 
@@ -114,6 +116,10 @@ module _ {D : Type 0} (is_told : Type 0) (size_of : D → ℕ) (seen : D → Lis
 
     same_opening : after.opening ≡ s.opening
     same_opening = opening_stays s i a said after step
+
+    -- a count that rose before the step has risen behind it
+    rise_on : faults (disk_of journal) ≡ faults (disk_of old) → Rose s.opening.faults (faults (disk_of old)) → Rose after.opening.faults (faults (disk_of journal))
+    rise_on same rose = subst (λ n. Rose n (faults (disk_of journal))) (ap (λ (o : Opening). o.faults) (sym same_opening)) (subst (λ n. Rose s.opening.faults n) (sym same) rose)
 
     -- of a core that is stopped
     module _ (stop : Stop) (stopped : s.stop ≡ Some stop) where
@@ -138,9 +144,10 @@ module _ {D : Type 0} (is_told : Type 0) (size_of : D → ℕ) (seen : D → Lis
           tied = λ runs. absurd (not_running runs);
           later = λ told. let le = lasts.later told in let disk = ap moment same_disk in let opening = ap (λ (o : Opening). o.moment) same_opening in omega (arith, le, disk, opening);
           images = λ told c left.
-              left_after p s after c same_opening (prefix_same s after (ap (λ (x : State). x.store) told_so.left) still)
+              left_after p s after (faults (disk_of old)) (faults (disk_of journal)) c same_opening (rise_on (ap faults same_disk)) (up_to_same s after (ap (λ (x : State). x.store) told_so.left)) (prefix_same s after (ap (λ (x : State). x.store) told_so.left) still)
               (lasts.images told c (subst (λ (d : D). left_since d s.opening.moment c) same_disk (subst (λ (o : Opening). left_since (disk_of journal) o.moment c) same_opening left)));
-          now = λ told c may. last_after p s after c same_opening (all_same s after (ap (λ (x : State). x.store) told_so.left) still) (lasts.now told c (subst (λ (d : D). may_leave d c) same_disk may));
+          now = λ told c may.
+              last_after p s after (faults (disk_of old)) (faults (disk_of journal)) c same_opening (ap (λ (x : State). x.store) told_so.left) (rise_on (ap faults same_disk)) (all_same s after (ap (λ (x : State). x.store) told_so.left) still) (lasts.now told c (subst (λ (d : D). may_leave d c) same_disk may));
         };
         behind = λ runs. absurd (not_running runs);
         few = λ few. let steps = ap (λ (x : State). x.steps) told_so.left in omega (arith, few, steps);
@@ -175,6 +182,9 @@ module _ {D : Type 0} (is_told : Type 0) (size_of : D → ℕ) (seen : D → Lis
       prefix_before : IsPrefix after (committed s.store)
       prefix_before = prefix_grows s after runs entered (committed s.store) (prefix_now s s_reached)
 
+      up_to_before : IsUpTo after (committed s.store)
+      up_to_before = up_to_grows s after entered (committed s.store) (up_to_now s s_reached)
+
       -- what a crash left since a moment, by what it leaves in the step
       since : (y : Cut) (db : Database) → Recovers HoldsPages p s.opening y db → MayTell s i a said db → Passes is_told moment left_since old journal (cut_of rs) y
           → (t : ℕ) (c : List ℕ) → t ≤ moment (disk_of old) → left_since (disk_of journal) t c → left_since (disk_of old) t c ⊎ NewLeft p s i a said c
@@ -186,13 +196,14 @@ module _ {D : Type 0} (is_told : Type 0) (size_of : D → ℕ) (seen : D → Lis
           (pass.before t c le left)
 
       -- and since the core was opened
-      images_since : (y : Cut) (db : Database) → Recovers HoldsPages p s.opening y db → IsPrefix after db → Passes is_told moment left_since old journal (cut_of rs) y → is_told
-          → (c : List ℕ) → left_since (disk_of journal) after.opening.moment c → IsLeft p after c
-      images_since y db recovers prefix pass told c left = ⊎_elim
-          (λ was. left_after p s after c same_opening (prefix_grows s after runs entered) (lasts.images told c was))
+      images_since : (y : Cut) (db : Database) → Recovers HoldsPages p s.opening y db → IsPrefix after db → IsUpTo after db ⊎ Rose after.opening.faults (faults (disk_of journal))
+          → (Rose s.opening.faults (faults (disk_of old)) → Rose after.opening.faults (faults (disk_of journal))) → Passes is_told moment left_since old journal (cut_of rs) y → is_told
+          → (c : List ℕ) → left_since (disk_of journal) after.opening.moment c → IsLeft p after (faults (disk_of journal)) c
+      images_since y db recovers prefix exact rise pass told c left = ⊎_elim
+          (λ was. left_after p s after (faults (disk_of old)) (faults (disk_of journal)) c same_opening rise (up_to_grows s after entered) (prefix_grows s after runs entered) (lasts.images told c was))
           (⊎_elim
-          (λ borne. record { cut = cut_of rs; borne = borne; db = committed s.store; recovers = subst (λ (o : Opening). Recovers HoldsPages p o (cut_of rs) (committed s.store)) (sym same_opening) before_now; prefix = prefix_before })
-          (λ borne. record { cut = y; borne = borne; db = db; recovers = subst (λ (o : Opening). Recovers HoldsPages p o y db) (sym same_opening) recovers; prefix = prefix }))
+          (λ borne. record { cut = cut_of rs; borne = borne; db = committed s.store; recovers = subst (λ (o : Opening). Recovers HoldsPages p o (cut_of rs) (committed s.store)) (sym same_opening) before_now; prefix = prefix_before; exact = inl up_to_before })
+          (λ borne. record { cut = y; borne = borne; db = db; recovers = subst (λ (o : Opening). Recovers HoldsPages p o y db) (sym same_opening) recovers; prefix = prefix; exact = exact }))
           (pass.before s.opening.moment c (lasts.later told) (subst (λ (o : Opening). left_since (disk_of journal) o.moment c) same_opening left))
 
       later_since : (y : Cut) → Passes is_told moment left_since old journal (cut_of rs) y → is_told → after.opening.moment ≤ moment (disk_of journal)
@@ -249,7 +260,7 @@ module _ {D : Type 0} (is_told : Type 0) (size_of : D → ℕ) (seen : D → Lis
             creates = λ _. texts_so;
             tied = λ _. after_tied;
             later = λ told. later_since (cut_of is_given.records) (pass told) told;
-            images = λ told. images_since (cut_of is_given.records) (committed after.store) after_now (prefix_now after reached) (pass told) told;
+            images = λ told. images_since (cut_of is_given.records) (committed after.store) after_now (prefix_now after reached) (inl (up_to_now after reached)) (rise_on (stays fine)) (pass told) told;
             now = λ told c may. record {
               cut = cut_of is_given.records;
               borne = subst (λ (bytes : List ℕ). IsBorne bytes (cut_of is_given.records)) (sym ((is_given.has_them.kept.header told).durable c may))
@@ -257,6 +268,7 @@ module _ {D : Type 0} (is_told : Type 0) (size_of : D → ℕ) (seen : D → Lis
               db = committed after.store;
               recovers = subst (λ (o : Opening). Recovers HoldsPages p o (cut_of is_given.records) (committed after.store)) (sym same_opening) after_now;
               all = inl refl;
+              exact = inl refl;
             };
           };
           behind = behind_after;
@@ -315,10 +327,14 @@ module _ {D : Type 0} (is_told : Type 0) (size_of : D → ℕ) (seen : D → Lis
         pass_up : is_told → Passes is_told moment left_since old journal (cut_of rs) is_up.cut
         pass_up told = passes is_told moment left_since old journal (cut_of rs) is_up.cut told is_up.left
 
-        now_up : is_told → (c : List ℕ) → may_leave (disk_of journal) c → IsLast p after c
+        -- the count has risen since the core was opened
+        rose_up : Rose after.opening.faults (faults (disk_of journal))
+        rose_up = subst (λ n. Rose n (faults (disk_of journal))) (well runs ∙ ap (λ (o : Opening). o.faults) (sym same_opening)) (rises bad)
+
+        now_up : is_told → (c : List ℕ) → may_leave (disk_of journal) c → IsLast p after (faults (disk_of journal)) c
         now_up told c may =
             let pass = pass_up told in ⊎_elim
-            (λ was. last_after p s after c same_opening (all_running s after runs none_done) (lasts.now told c (only_now (disk_of old) c was)))
+            (λ was. last_after p s after (faults (disk_of old)) (faults (disk_of journal)) c same_opening none_done (λ rose. rose_up) (all_running s after runs none_done) (lasts.now told c (only_now (disk_of old) c was)))
             (⊎_elim
             (λ borne. record {
               cut = cut_of rs;
@@ -326,6 +342,7 @@ module _ {D : Type 0} (is_told : Type 0) (size_of : D → ℕ) (seen : D → Lis
               db = committed s.store;
               recovers = subst (λ (o : Opening). Recovers HoldsPages p o (cut_of rs) (committed s.store)) (sym same_opening) before_now;
               all = inl (ap committed (sym none_done));
+              exact = inr rose_up;
             })
             (λ borne. record {
               cut = is_up.cut;
@@ -336,6 +353,7 @@ module _ {D : Type 0} (is_told : Type 0) (size_of : D → ℕ) (seen : D → Lis
                   (λ same. inl (same ∙ ap committed (sym none_done)))
                   (λ other. all_stopped s after (run the_views s.store i would.effects) none_done stopped_then (enters s i a would.said would.effects step.may runs would.says) found.0 other)
                   would.is;
+              exact = inr rose_up;
             }))
             (pass.before (moment (disk_of old)) c (omega arith) (counts_now (disk_of journal) (moment (disk_of old)) c pass.later may))
 
@@ -347,7 +365,7 @@ module _ {D : Type 0} (is_told : Type 0) (size_of : D → ℕ) (seen : D → Lis
             creates = λ none. absurd (stops none);
             tied = λ none. absurd (stops none);
             later = λ told. later_since is_up.cut (pass_up told) told;
-            images = λ told. images_since is_up.cut found.0 found.2 prefix_would (pass_up told) told;
+            images = λ told. images_since is_up.cut found.0 found.2 prefix_would (inr rose_up) (λ rose. rose_up) (pass_up told) told;
             now = now_up;
           };
           behind = λ none. absurd (stops none);

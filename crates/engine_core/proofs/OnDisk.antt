@@ -43,7 +43,7 @@ each_up_to P Q (suc t) h = ⊎_elim
 module _ {D : Type 0} (is_told : Type 0) (size_of : D → ℕ) (seen : D → List ℕ) (may_leave : D → List ℕ → Type 0) (moment : D → ℕ) (left_since : D → ℕ → List ℕ → Type 0) (faults : D → ℕ)
     (counts_now : (disk : D) (t : ℕ) (c : List ℕ) → t ≤ moment disk → may_leave disk c → left_since disk t c) (only_now : (disk : D) (c : List ℕ) → left_since disk (moment disk) c → may_leave disk c)
     (old new : Core Tree (LogJournal D)) (s : State) (step : asked.Step) (said : told.Answer) (h : IsOnDisk is_told size_of seen may_leave moment left_since faults old s) (counts : CountsFault said (faults (disk_of old.journal)) (faults (disk_of new.journal)))
-    (r : DiskRecorded is_told size_of seen may_leave moment left_since s step.session (act_of step.act) (answer_of said) h.is_in.records old.journal new.state new.journal) where
+    (r : DiskRecorded is_told size_of seen may_leave moment left_since faults s step.session (act_of step.act) (answer_of said) h.is_in.records old.journal new.state new.journal) where
   step_law : StepLaw HoldsPages
   step_law p was opening s rs is i a said after may does fine = step_ties p was opening HoldsPages s rs is i a said after may does fine
 
@@ -56,8 +56,8 @@ module _ {D : Type 0} (is_told : Type 0) (size_of : D → ℕ) (seen : D → Lis
   saves : s.stop ≡ None → (saved : Saved) → IsSaved s saved → SavesAll HoldsPages s saved
   saves runs saved is = saves_all h.pages h.lasts.was_opened s.opening s h.is_in.records (h.lasts.tied runs) saved is (h.lasts.creates runs)
 
-  done : Stepped is_told size_of seen may_leave moment left_since h.pages s step.session (act_of step.act) (answer_of said) h.is_in.records old.journal new.state new.journal r.moved.after
-  done = stepped is_told size_of seen may_leave moment left_since counts_now only_now step_law cut_law fault_law h.pages s step.session (act_of step.act) (answer_of said) h.is_in.records old.journal new.state new.journal h.lasts saves r h.is_in.stands.reached
+  done : Stepped is_told size_of seen may_leave moment left_since faults h.pages s step.session (act_of step.act) (answer_of said) h.is_in.records old.journal new.state new.journal r.moved.after
+  done = stepped is_told size_of seen may_leave moment left_since faults counts_now only_now step_law cut_law fault_law h.pages s step.session (act_of step.act) (answer_of said) h.is_in.records old.journal new.state new.journal h.lasts h.is_in.well counts.rises counts.stays saves r h.is_in.stands.reached
 
   well_then : r.moved.after.stop ≡ None → faults (disk_of new.journal) ≡ r.moved.after.opening.faults
   well_then none =
@@ -79,7 +79,7 @@ module _ {D : Type 0} (is_told : Type 0) (size_of : D → ℕ) (seen : D → Lis
   }
 
   -- what is new may be what the step commits
-  new_so : (c : List ℕ) (db : Database) → NewLeft is_told size_of seen may_leave moment left_since h.pages s step.session (act_of step.act) (answer_of said) c → RecoverTo c db → MayCommit s step said db
+  new_so : (c : List ℕ) (db : Database) → NewLeft is_told size_of seen may_leave moment left_since faults h.pages s step.session (act_of step.act) (answer_of said) c → RecoverTo c db → MayCommit s step said db
   new_so c db left to =
       let same = only_to h.pages s.opening c left.cut left.db db left.borne left.recovers to in
       record {
@@ -99,6 +99,6 @@ module _ {D : Type 0} (is_told : Type 0) (size_of : D → ℕ) (seen : D → Lis
         ⊎_elim
         (λ was. inl (told, (c, was, since.1.2)))
         (λ left. inr (new_so c db left since.1.2))
-        (each_up_to (λ u. left_since (disk_of old.journal) u c) (NewLeft is_told size_of seen may_leave moment left_since h.pages s step.session (act_of step.act) (answer_of said) c) t
+        (each_up_to (λ u. left_since (disk_of old.journal) u c) (NewLeft is_told size_of seen may_leave moment left_since faults h.pages s step.session (act_of step.act) (answer_of said) c) t
         (λ u within. done.images told u c (omega (arith, within, le)) (since.1.1 u within)));
   }

@@ -2,7 +2,8 @@
 --
 -- What a crash recovers of a core on a disk is what was committed.
 use Rattle.std.specs.Prelude.{◌≡◌, ℕ, ◌≤◌, List}
-use Rattle.std.proofs.Common.{sym, subst, ◌∙◌, arith}
+use Rattle.std.proofs.Common.{⊎_elim, sym, subst, ◌∙◌, arith}
+use Rattle.iv_types.specs.Faults.{Rose}
 use Rattle.iv_meaning.specs.Database.{Database}
 use Rattle.txn_machine.specs.Laws.{IsOpened}
 use Rattle.txn_machine.specs.Log.{Opening}
@@ -22,7 +23,7 @@ use Rattle.record_worlds.specs.Pages.{HoldsPages}
 use Rattle.record_worlds.specs.Tied.{IsTied, Recovers}
 use Rattle.record_worlds.proofs.Stopping.{cut_recovers}
 use Rattle.saved_pages.proofs.Bearing.{bears}
-use Rattle.engine_core.specs.Crashes.{RecoverTo, ReadsBack, MayRecover, RecoveredSince}
+use Rattle.engine_core.specs.Crashes.{RecoverTo, ReadsBack, IsUpTo, MayRecover, RecoveredSince}
 use Rattle.engine_core.specs.Standing.{IsOnDisk}
 use Rattle.engine_core.specs.declared.engine.Core.{Core}
 
@@ -82,3 +83,15 @@ module _ {D : Type 0} (is_told : Type 0) (size_of : D → ℕ) (seen : D → Lis
   last_read told core s c h left =
       let l = h.lasts.now told c left in
       read_back h.pages s.opening c l.cut l.db (IsWhole s) l.borne l.recovers l.all
+
+  -- where the disk has not failed, to no entry more
+  module _ (core : Core Tree (LogJournal D)) (s : State) (c : List ℕ) (h : IsOnDisk is_told size_of seen may_leave moment left_since faults core s) (sound : Rose s.opening.faults (faults (disk_of core.journal)) → ⊥) where
+    pub images_sound : is_told → left_since (disk_of core.journal) s.opening.moment c → ReadsBack (IsUpTo s) c
+    images_sound told left =
+        let l = h.lasts.images told c left in
+        read_back h.pages s.opening c l.cut l.db (IsUpTo s) l.borne l.recovers (⊎_elim (λ up. up) (λ rose. absurd (sound rose)) l.exact)
+
+    pub last_sound : is_told → may_leave (disk_of core.journal) c → ReadsBack (λ db. db ≡ committed s.store) c
+    last_sound told left =
+        let l = h.lasts.now told c left in
+        read_back h.pages s.opening c l.cut l.db (λ db. db ≡ committed s.store) l.borne l.recovers (⊎_elim (λ same. same) (λ rose. absurd (sound rose)) l.exact)

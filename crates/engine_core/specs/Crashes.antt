@@ -1,12 +1,14 @@
 -- No clause of `run` rests on this module: it serves contracts between crates.
 --
 -- What a crash recovers of a core on a disk.
-use Rattle.std.specs.Prelude.{◌≡◌, ℕ, ◌≤◌, List, [], None}
+use Rattle.std.specs.Prelude.{◌≡◌, ◌⊎◌, ℕ, ◌≤◌, List, [], None}
+use Rattle.iv_types.specs.Faults.{Rose}
 use Rattle.iv_meaning.specs.Database.{Database}
+use Rattle.iv_meaning.specs.History.{state_at}
 use Rattle.txn_machine.specs.Laws.{IsOpened}
 use Rattle.txn_machine.specs.State.{State}
 use Rattle.txn_machine.specs.Steps.{texts_of}
-use Rattle.txn_machine.specs.Store.{schema_of}
+use Rattle.txn_machine.specs.Store.{committed, schema_of}
 use Rattle.txn_log.specs.Replay.{Pages, Reading, recovered}
 use Rattle.txn_log.specs.Appended.{Image, IsRead}
 use Rattle.txn_log.specs.Stored.{AllCreate}
@@ -36,22 +38,28 @@ pub record ReadsBack (P : Database → Type 0) (c : List ℕ) : Type 0 where
   pub is_read : IsRead image reading
   pub holds : P (recovered reading).db
 
+-- what was committed up to some number
+abbrev pub IsUpTo : State → Database → Type 0
+IsUpTo s db = (number : ℕ) × (number ≤ (committed s.store).number) × (db ≡ state_at s.store.origin s.store.history number)
+
 -- These bytes have what a checkpoint saved, and records behind it, of an engine that was opened on these pages; they recover to what was
--- committed up to some number, or with the entry that stopped it.
-pub record IsLeft (p : Pages) (s : State) (c : List ℕ) : Type 0 where
+-- committed up to some number, or with the entry that stopped it where the disk, whose count of faults is this one, has failed.
+pub record IsLeft (p : Pages) (s : State) (count : ℕ) (c : List ℕ) : Type 0 where
   pub cut : Cut
   pub borne : IsBorne c cut
   pub db : Database
   pub recovers : Recovers HoldsPages p s.opening cut db
   pub prefix : IsPrefix s db
+  pub exact : IsUpTo s db ⊎ Rose s.opening.faults count
 
 -- The same of bytes that may be left now: they recover to all that was committed, or with one entry more.
-pub record IsLast (p : Pages) (s : State) (c : List ℕ) : Type 0 where
+pub record IsLast (p : Pages) (s : State) (count : ℕ) (c : List ℕ) : Type 0 where
   pub cut : Cut
   pub borne : IsBorne c cut
   pub db : Database
   pub recovers : Recovers HoldsPages p s.opening cut db
   pub all : IsWhole s db
+  pub exact : (db ≡ committed s.store) ⊎ Rose s.opening.faults count
 
 -- a crash might have left these bytes since that moment, and so since each earlier one
 abbrev pub LeftSince : {D : Type 0} → (left_since : D → ℕ → List ℕ → Type 0) → D → ℕ → List ℕ → Type 0
@@ -59,13 +67,13 @@ LeftSince left_since disk t c = (u : ℕ) → u ≤ t → left_since disk u c
 
 -- A core was opened on these pages, of which its journal has the records, unless it is stopped; what a crash at any moment since then left
 -- recovers so, and what one may leave now to all that was committed.
-pub record Lasts {D : Type 0} (is_told : Type 0) (may_leave : D → List ℕ → Type 0) (moment : D → ℕ) (left_since : D → ℕ → List ℕ → Type 0) (p : Pages) (journal : LogJournal D) (s : State) (rs : Records) : Type 0 where
+pub record Lasts {D : Type 0} (is_told : Type 0) (may_leave : D → List ℕ → Type 0) (moment : D → ℕ) (left_since : D → ℕ → List ℕ → Type 0) (faults : D → ℕ) (p : Pages) (journal : LogJournal D) (s : State) (rs : Records) : Type 0 where
   pub was_opened : IsOpened p.db p.view
   pub creates : s.stop ≡ None → AllCreate [] (texts_of s) (schema_of s.store)
   pub tied : s.stop ≡ None → IsTied HoldsPages p s.opening s rs
   pub later : is_told → s.opening.moment ≤ moment (disk_of journal)
-  pub images : is_told → (c : List ℕ) → left_since (disk_of journal) s.opening.moment c → IsLeft p s c
-  pub now : is_told → (c : List ℕ) → may_leave (disk_of journal) c → IsLast p s c
+  pub images : is_told → (c : List ℕ) → left_since (disk_of journal) s.opening.moment c → IsLeft p s (faults (disk_of journal)) c
+  pub now : is_told → (c : List ℕ) → may_leave (disk_of journal) c → IsLast p s (faults (disk_of journal)) c
 
 module _ {D : Type 0} (is_told : Type 0) (left_since : D → ℕ → List ℕ → Type 0) where
   -- the databases that a crash recovers: now, and since a moment

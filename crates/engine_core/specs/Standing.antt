@@ -43,7 +43,7 @@ module _ {D : Type 0} (is_told : Type 0) (size_of : D → ℕ) (seen : D → Lis
   pub record IsOnDisk (core : Core Tree (LogJournal D)) (s : State) : Type 0 where
     pub is_in : IsIn map_of spare_of limit_of (Has is_told size_of seen may_leave) area_limit (λ journal. faults (disk_of journal)) core s
     pub pages : Pages
-    pub lasts : Lasts is_told may_leave moment left_since pages core.journal s is_in.records
+    pub lasts : Lasts is_told may_leave moment left_since faults pages core.journal s is_in.records
 
 -- a count of no faults is a u64
 pub none_below : 0 < 2 ^ 64

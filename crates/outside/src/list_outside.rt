@@ -177,6 +177,7 @@ impl Outside for ListOutside {
         ensures lie { Unit {0} → open_of self.old ≡ None → (name : List ℕ) → lies_of self.new name ≡ lies_of self.old name }
         ensures cause { CountsClosed (faults_since disk) (faults_of self.old) (faults_of self.new) }
         ensures told { CountsFault result (faults_of self.old) (faults_of self.new) }
+        ensures sound { OnOk result (faults_since disk ≡ 0) }
         ensures calls { calls_of self.new ≡ calls_of self.old }
         ensures settings { KeepsSettings self.old self.new }
     {

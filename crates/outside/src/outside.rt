@@ -70,7 +70,8 @@ pub trait Outside {
         ensures others { is_told → (name : List ℕ) → opened_as self.old ≡ Some name → OthersStay name (lies self.old) (lies self.new) }
         ensures lie { is_told → opened_as self.old ≡ None → (name : List ℕ) → lies self.new name ≡ lies self.old name }
         ensures cause { CountsClosed (Self.Disk.faults disk) (faults self.old) (faults self.new) }
-        ensures told { CountsFault result (faults self.old) (faults self.new) };
+        ensures told { CountsFault result (faults self.old) (faults self.new) }
+        ensures sound { OnOk result (Self.Disk.faults disk ≡ 0) };
 
     /// The count of faults is a `u64`, so it never falls.
     ghost counts_in: { (outside : Self) → faults outside < 2 ^ 64 };

@@ -1,11 +1,14 @@
 -- A script on the database of a disk.
-use Rattle.std.proofs.Common.{◌≡◌, inl, inr, ℕ, ◌+◌, ◌-◌, ◌≤◌, ◌^◌, List, Some, Ok, Err, refl, sym, ap, subst, ◌∙◌, arith}
-use Rattle.std.specs.Prelude.{Option, Result, IfOk, IfErr, min}
+use Rattle.std.proofs.Common.{◌≡◌, inl, inr, ⊎_elim, ℕ, zero, suc, ◌+◌, ◌-◌, ◌<◌, ◌≤◌, ◌^◌, List, Some, Ok, Err, refl, sym, ap, subst, ◌∙◌, arith}
+use Rattle.std.specs.Prelude.{Option, Result, IfOk, IfErr, OnOk, min}
 use Rattle.iv_types.specs.Faults.{Rose, CountsFault}
 use Rattle.iv_types.specs.declared.fault.Failed.{Failed}
 use Rattle.outside.specs.Outside.{CountsClosed, ReadsAsBefore}
 use Rattle.iv_meaning.specs.Database.{Database}
+use Rattle.iv_meaning.specs.History.{Entry, fold, state_at}
 use Rattle.txn_machine.specs.Log.{Opening}
+use Rattle.txn_machine.specs.State.{State}
+use Rattle.txn_machine.specs.Store.{committed}
 use Rattle.txn_book.specs.Crashes.{IsWhole, IsPrefix}
 use Rattle.session_table.specs.Going.{StandsIn}
 use Rattle.txn_log.specs.Replay.{Pages, recovered}
@@ -13,16 +16,37 @@ use Rattle.image_opening.specs.Telling.{Refuses}
 use Rattle.image_opening.specs.declared.fault.OpenFault.{OpenFault}
 use Rattle.image_opening.specs.declared.fault.OpenFault.TheVariants as why
 use Rattle.log_journal.specs.Standing.{disk_of}
-use Rattle.engine_core.specs.CrashLaws.{reads_weaker, images_read, last_read}
+use Rattle.engine_core.specs.Crashes.{ReadsBack, IsUpTo}
+use Rattle.engine_core.specs.CrashLaws.{reads_weaker, images_read, last_read, images_sound, last_sound}
 use Rattle.engine_core.specs.Standing.{IsOnDisk}
 use Rattle.database_opening.specs.Opened.{DiskCore, IsOpenOn, OpensAs, IsRefusal}
 use Rattle.script_run.specs.Lines.{WasOpened}
-use Rattle.script_run.specs.Recovered.{IsAllOf, IsFrontOf, history_of, Ends}
+use Rattle.script_run.specs.Recovered.{history_of, Ends}
 use Rattle.script_run.proofs.Recovering.{front_of, all_of}
 use Rattle.script_run.specs.Run.{Output, Taken, SourceFaults, SinkFaults}
 use Rattle.script_run.specs.declared.status.Status.{Status}
 use Rattle.script_run.specs.declared.status.Status.TheVariants.{Done, Usage, ReadFault, WriteFault, DiskFault, BadImage, NoMemory, TooMuch}
-use Rattle.view_server.specs.OnDisk.{EndsWith, EndsSo, FaultsOnDisk, IsOfLines, IsThere, IsKeptOn, IsTold, IsToldOf, RanOn, lines, refused, nothing, TellsBad, ToldBad}
+use Rattle.view_server.specs.OnDisk.{EndsWith, EndsSo, FaultsOnDisk, IsOfLines, IsThere, KeepsAll, KeepsFront, IsKeptOn, IsTold, IsToldOf, RanOn, lines, refused, nothing, TellsBad, ToldBad}
+
+-- ---- what is recovered
+
+module _ (s : State) (origin : Database) (history : List Entry) (o : s.store.origin ≡ origin) (h : s.store.history ≡ history) (count : ℕ) (db : Database) where
+  front_up : IsUpTo s db → KeepsFront count origin history db
+  front_up up = inl (up.0, subst (λ (x : Database). up.0 ≤ x.number) (λ k. fold (h k) (o k)) up.1, up.2 ∙ (λ k. state_at (o k) (h k) up.0))
+
+  front_more : 0 < count → IsPrefix s db → KeepsFront count origin history db
+  front_more failed prefix = ⊎_elim (λ up. inl up) (λ more. inr (failed, more)) (front_of s origin history o h db prefix)
+
+  all_now : db ≡ committed s.store → KeepsAll count origin history db
+  all_now is = inl (is ∙ (λ k. fold (h k) (o k)))
+
+  all_more : 0 < count → IsWhole s db → KeepsAll count origin history db
+  all_more failed whole = ⊎_elim (λ all. inl all) (λ more. inr (failed, more)) (all_of s origin history o h db whole)
+
+-- by whether the disk has failed
+by_faults : (P : Type 0) (count : ℕ) → (count ≡ 0 → P) → (0 < count → P) → P
+by_faults P zero sound failed = sound refl
+by_faults P (suc n) sound failed = failed (omega arith)
 
 -- ---- a core that was opened
 
@@ -38,9 +62,9 @@ module _ {D : Type 0} (is_told : Type 0) (size_of : D → ℕ) (seen : D → Lis
       lines of ends taken p.db (out p here) (λ c there. let found = opens c there in (found.0, (λ i im. let o = found.1 i im in (o.0, (o.1.0, o.1.1, out (recovered o.1.0) o.1.2, kept (recovered o.1.0) o.1.2)))))
 
   -- what its lines committed is kept on its disk
-  pub kept_behind : (last : DiskCore D) (disk : D) → disk ≡ disk_of last.journal → (p : Pages) (here : IsOpenOn is_told size_of seen may_leave moment left_since faults core p) → is_told → (of : Status) (input before : List ℕ) (written : Option (List ℕ))
-      → StandsIn (IsOnDisk is_told size_of seen may_leave moment left_since faults last) (Ends p.db here.opening of input before written) → IsKeptOn may_leave moment left_since disk p.db of input before written
-  kept_behind last disk is p here told of input before written i =
+  pub kept_behind : (last : DiskCore D) (disk : D) → disk ≡ disk_of last.journal → (p : Pages) (here : IsOpenOn is_told size_of seen may_leave moment left_since faults core p) → is_told → (of : Status) (input before : List ℕ) (written : Option (List ℕ)) → faults (disk_of core.journal) ≡ 0
+      → StandsIn (IsOnDisk is_told size_of seen may_leave moment left_since faults last) (Ends p.db here.opening of input before written) → IsKeptOn may_leave moment left_since faults disk p.db of input before written
+  kept_behind last disk is p here told of input before written none i =
       let s = i.story.state in
       let e = i.holds in
       let later = i.stands.lasts.later told in
@@ -48,12 +72,29 @@ module _ {D : Type 0} (is_told : Type 0) (size_of : D → ℕ) (seen : D → Lis
         committed = e.committed;
         opened = here.opening.moment;
         past = omega (arith, later, ap (λ (o : Opening). o.moment) e.opening_is, ap moment is);
-        since = λ c left. reads_weaker (IsPrefix s) (IsFrontOf e.committed.world.origin (history_of e.committed)) (front_of s e.committed.world.origin (history_of e.committed) e.origin e.history) c
-            (images_read is_told size_of seen may_leave moment left_since faults told last s c i.stands
-            (subst (λ (o : Opening). left_since (disk_of last.journal) o.moment c) (sym e.opening_is) (subst (λ (x : D). left_since x here.opening.moment c) is left)));
-        now = λ c left. reads_weaker (IsWhole s) (IsAllOf e.committed.world.origin (history_of e.committed)) (all_of s e.committed.world.origin (history_of e.committed) e.origin e.history) c
-            (last_read is_told size_of seen may_leave moment left_since faults told last s c i.stands (subst (λ (x : D). may_leave x c) is left));
+        since = λ c left.
+            let was = subst (λ (o : Opening). left_since (disk_of last.journal) o.moment c) (sym e.opening_is) (subst (λ (x : D). left_since x here.opening.moment c) is left) in
+            by_faults (ReadsBack (KeepsFront (faults disk) e.committed.world.origin (history_of e.committed)) c) (faults disk)
+            (λ sound. reads_weaker (IsUpTo s) (KeepsFront (faults disk) e.committed.world.origin (history_of e.committed)) (front_up s e.committed.world.origin (history_of e.committed) e.origin e.history (faults disk)) c
+            (images_sound is_told size_of seen may_leave moment left_since faults last s c i.stands (not_risen s e.opening_is sound) told was))
+            (λ failed. reads_weaker (IsPrefix s) (KeepsFront (faults disk) e.committed.world.origin (history_of e.committed)) (λ db. front_more s e.committed.world.origin (history_of e.committed) e.origin e.history (faults disk) db failed) c
+            (images_read is_told size_of seen may_leave moment left_since faults told last s c i.stands was));
+        now = λ c left.
+            let may = subst (λ (x : D). may_leave x c) is left in
+            by_faults (ReadsBack (KeepsAll (faults disk) e.committed.world.origin (history_of e.committed)) c) (faults disk)
+            (λ sound. reads_weaker (λ db. db ≡ committed s.store) (KeepsAll (faults disk) e.committed.world.origin (history_of e.committed)) (all_now s e.committed.world.origin (history_of e.committed) e.origin e.history (faults disk)) c
+            (last_sound is_told size_of seen may_leave moment left_since faults last s c i.stands (not_risen s e.opening_is sound) told may))
+            (λ failed. reads_weaker (IsWhole s) (KeepsAll (faults disk) e.committed.world.origin (history_of e.committed)) (λ db. all_more s e.committed.world.origin (history_of e.committed) e.origin e.history (faults disk) db failed) c
+            (last_read is_told size_of seen may_leave moment left_since faults told last s c i.stands may));
       }
+    where
+      -- a disk that has not failed has not failed since the opening
+      not_risen : (s : State) → s.opening ≡ here.opening → faults disk ≡ 0 → Rose s.opening.faults (faults (disk_of last.journal)) → ⊥
+      not_risen s opening sound rose =
+          let at : min (s.opening.faults + 1) (2 ^ 64 - 1) ≤ faults (disk_of last.journal) = rose in
+          let began : s.opening.faults ≡ 0 = ap (λ (o : Opening). o.faults) opening ∙ (sym (here.stands.is_in.well refl) ∙ none) in
+          let ends : faults (disk_of last.journal) ≡ 0 = ap faults (sym is) ∙ sound in
+          omega (arith, at, began, ends)
 
 -- ---- what was told
 
@@ -101,6 +142,12 @@ pub ends_with : (of : Status) (closed : Result (Unit {0}) Failed) (status : Stat
 ends_with of (Ok u) status h = inl h
 ends_with of (Err failed) status (inl h) = inr h
 ends_with of (Err failed) status (inr h) = inl h.1
+
+-- where a run ends with status 0 its disk was closed without a fault
+pub closed_well : (of : Status) (closed : Result (Unit {0}) Failed) (status : Status) → EndsSo of closed status → (P : Type 0) → OnOk closed P → status ≡ Done → P
+closed_well of (Ok u) status h P ok done = ok
+closed_well of (Err failed) status (inl both) P ok done = absurd (let bad : DiskFault ≡ Done = sym both.1 ∙ done in cc)
+closed_well of (Err failed) status (inr both) P ok done = absurd (both.0 (sym both.1 ∙ done))
 
 pub source_so : (of status : Status) → EndsWith of status → (before now : ℕ) → SourceFaults of before now → SourceFaults status before now
 source_so of status (inl same) before now h = subst (λ s. SourceFaults s before now) (sym same) h

@@ -1,8 +1,9 @@
 -- What comes of a script on the database of a disk.
-use Rattle.std.specs.Prelude.{◌≡◌, ◌≢◌, ◌⊎◌, ◌≤◌, ℕ, List, ◌++◌, Option, Some, Result, Ok, Err}
+use Rattle.std.specs.Prelude.{◌≡◌, ◌≢◌, ◌⊎◌, ◌<◌, ◌≤◌, ℕ, List, ◌++◌, Option, Some, Result, Ok, Err}
 use Rattle.iv_types.specs.Faults.{Rose}
 use Rattle.iv_types.specs.declared.fault.Failed.{Failed}
 use Rattle.iv_meaning.specs.Database.{Database}
+use Rattle.iv_meaning.specs.History.{Entry, fold, state_at}
 use Rattle.iv_meaning.specs.Objects.{schema_of}
 use Rattle.line_wire.specs.Wire.{WroteFront}
 use Rattle.txn_log.specs.Replay.{Reading, recovered}
@@ -14,7 +15,7 @@ use Rattle.image_opening.specs.declared.fault.OpenFault.{OpenFault}
 use Rattle.image_opening.specs.declared.fault.OpenFault.TheVariants as why
 use Rattle.engine_core.specs.Crashes.{ReadsBack}
 use Rattle.image_refusals.specs.Lines.{rule_line, row_line}
-use Rattle.script_run.specs.Recovered.{IsAllOf, IsFrontOf, Committed, history_of}
+use Rattle.script_run.specs.Recovered.{HasEntryMore, Committed, history_of}
 use Rattle.script_run.specs.Run.{Output, Taken}
 use Rattle.script_run.specs.declared.status.Status.{Status}
 use Rattle.script_run.specs.declared.status.Status.TheVariants.{Done, Usage, WriteFault, DiskFault, BadImage, NoMemory}
@@ -64,24 +65,34 @@ pub record IsOfLines (status : Status) : Type 0 where
   pub disks : status ≢ DiskFault
   pub images : status ≢ BadImage
 
+-- all of these entries, or with one more where a disk has failed so often
+abbrev pub KeepsAll : ℕ → Database → List Entry → Database → Type 0
+KeepsAll faults origin history db = (db ≡ fold history origin) ⊎ ((0 < faults) × HasEntryMore origin history db)
+
+-- those up to some number, or all with one more where it has failed
+abbrev pub KeepsFront : ℕ → Database → List Entry → Database → Type 0
+KeepsFront faults origin history db =
+    ((number : ℕ) × (number ≤ (fold history origin).number) × (db ≡ state_at origin history number)) ⊎ ((0 < faults) × HasEntryMore origin history db)
+
 -- What was committed by lines that were run on a database is kept on this disk: what a crash at any moment since one behind the opening
 -- left bears an image, which recovers to what was committed up to some number; and what one may leave now to all of it.
-pub record IsKeptOn {D : Type 0} (may_leave : D → List ℕ → Type 0) (moment : D → ℕ) (left_since : D → ℕ → List ℕ → Type 0) (disk : D) (db : Database) (of : Status) (input before : List ℕ) (written : Option (List ℕ)) : Type 0 where
+pub record IsKeptOn {D : Type 0} (may_leave : D → List ℕ → Type 0) (moment : D → ℕ) (left_since : D → ℕ → List ℕ → Type 0) (faults : D → ℕ) (disk : D) (db : Database) (of : Status) (input before : List ℕ) (written : Option (List ℕ)) : Type 0 where
   pub committed : Committed db of input before written
   pub opened : ℕ
   pub past : opened ≤ moment disk
-  pub since : (c : List ℕ) → left_since disk opened c → ReadsBack (IsFrontOf committed.world.origin (history_of committed)) c
-  pub now : (c : List ℕ) → may_leave disk c → ReadsBack (IsAllOf committed.world.origin (history_of committed)) c
+  pub since : (c : List ℕ) → left_since disk opened c → ReadsBack (KeepsFront (faults disk) committed.world.origin (history_of committed)) c
+  pub now : (c : List ℕ) → may_leave disk c → ReadsBack (KeepsAll (faults disk) committed.world.origin (history_of committed)) c
 
--- such a disk lies there
-pub record LiesKept {D : Type 0} (may_leave : D → List ℕ → Type 0) (moment : D → ℕ) (left_since : D → ℕ → List ℕ → Type 0) (lies : Option D) (input before : List ℕ) (written : Option (List ℕ)) (of : Status) (db : Database) : Type 0 where
+-- such a disk lies there; it has not failed where the run ends with status 0
+pub record LiesKept {D : Type 0} (may_leave : D → List ℕ → Type 0) (moment : D → ℕ) (left_since : D → ℕ → List ℕ → Type 0) (faults : D → ℕ) (lies : Option D) (status : Status) (input before : List ℕ) (written : Option (List ℕ)) (of : Status) (db : Database) : Type 0 where
   pub disk : D
   pub there : lies ≡ Some disk
-  pub kept : IsKeptOn may_leave moment left_since disk db of input before written
+  pub sound : status ≡ Done → faults disk ≡ 0
+  pub kept : IsKeptOn may_leave moment left_since faults disk db of input before written
 
 -- where the outside and its disks are told
-abbrev pub Keeps : {D : Type 0} (outside_tells disk_tells : Type 0) (may_leave : D → List ℕ → Type 0) (moment : D → ℕ) (left_since : D → ℕ → List ℕ → Type 0) (lies : Option D) (input before : List ℕ) (written : Option (List ℕ)) → Status → Database → Type 0
-Keeps outside_tells disk_tells may_leave moment left_since lies input before written of db = outside_tells → disk_tells → LiesKept may_leave moment left_since lies input before written of db
+abbrev pub Keeps : {D : Type 0} (outside_tells disk_tells : Type 0) (may_leave : D → List ℕ → Type 0) (moment : D → ℕ) (left_since : D → ℕ → List ℕ → Type 0) (faults : D → ℕ) (lies : Option D) (status : Status) (input before : List ℕ) (written : Option (List ℕ)) → Status → Database → Type 0
+Keeps outside_tells disk_tells may_leave moment left_since faults lies status input before written of db = outside_tells → disk_tells → LiesKept may_leave moment left_since faults lies status input before written of db
 
 -- a disk lies there that reads so, where the outside is told
 pub record LiesAs {D : Type 0} (seen : D → List ℕ) (lies : Option D) (c : List ℕ) : Type 0 where

@@ -84,9 +84,10 @@ fn run_core<D: Disk, S: Source, K: Sink>(
     sink: &mut K,
 ) -> (Status, D)
     requires opened { (p : Pages) × IsOpenOn D.is_told D.size_of D.seen D.may_leave D.moment D.left_since D.faults core p }
+    requires sound { D.faults (disk_of core.journal) ≡ 0 }
     ensures output { (p : Pages) → IsOpenOn D.is_told D.size_of D.seen D.may_leave D.moment D.left_since D.faults core p → (input before : List ℕ) → S.left source.old ≡ Some input → K.written sink.old ≡ Some before → Output p.db result.0 input before (S.left source.new) (K.written sink.new) }
     ensures taken { (input : List ℕ) → S.left source.old ≡ Some input → Taken result.0 input (S.left source.new) }
-    ensures kept { D.is_told → (p : Pages) → IsOpenOn D.is_told D.size_of D.seen D.may_leave D.moment D.left_since D.faults core p → (input before : List ℕ) → S.left source.old ≡ Some input → K.written sink.old ≡ Some before → IsKeptOn D.may_leave D.moment D.left_since result.1 p.db result.0 input before (K.written sink.new) }
+    ensures kept { D.is_told → (p : Pages) → IsOpenOn D.is_told D.size_of D.seen D.may_leave D.moment D.left_since D.faults core p → (input before : List ℕ) → S.left source.old ≡ Some input → K.written sink.old ≡ Some before → IsKeptOn D.may_leave D.moment D.left_since D.faults result.1 p.db result.0 input before (K.written sink.new) }
     ensures lines { IsOfLines result.0 }
     ensures source_faults { SourceFaults result.0 (S.faults source.old) (S.faults source.new) }
     ensures sink_faults { SinkFaults result.0 (K.faults sink.old) (K.faults sink.new) }
@@ -105,7 +106,7 @@ fn run_on_disk<O: Outside, S: Source, K: Sink>(
     disk: O::Disk,
 ) -> Status
     requires sound { O.Disk.faults disk ≡ 0 }
-    ensures ran { (name input before : List ℕ) → (O.is_told → O.opened_as outside.old ≡ Some name) → S.left source.old ≡ Some input → K.written sink.old ≡ Some before → RanOn (λ c. O.Disk.is_told × (O.Disk.seen disk ≡ c)) (Stays O.is_told O.Disk.seen (O.lies outside.new name)) (Keeps O.is_told O.Disk.is_told O.Disk.may_leave O.Disk.moment O.Disk.left_since (O.lies outside.new name) input before (K.written sink.new)) result input before (S.left source.new) (K.written sink.new) }
+    ensures ran { (name input before : List ℕ) → (O.is_told → O.opened_as outside.old ≡ Some name) → S.left source.old ≡ Some input → K.written sink.old ≡ Some before → RanOn (λ c. O.Disk.is_told × (O.Disk.seen disk ≡ c)) (Stays O.is_told O.Disk.seen (O.lies outside.new name)) (Keeps O.is_told O.Disk.is_told O.Disk.may_leave O.Disk.moment O.Disk.left_since O.Disk.faults (O.lies outside.new name) result input before (K.written sink.new)) result input before (S.left source.new) (K.written sink.new) }
     ensures command { result ≢ Status.Usage }
     ensures others { O.is_told → (name : List ℕ) → O.opened_as outside.old ≡ Some name → OthersStay name (O.lies outside.old) (O.lies outside.new) }
     ensures disk_faults { FaultsOnDisk result (O.faults outside.old) (O.faults outside.new) }
@@ -134,7 +135,7 @@ pub fn script_on_disk<O: Outside, S: Source, K: Sink>(
     sink: &mut K,
     file: &str,
 ) -> Status
-    ensures ran { (input before : List ℕ) → S.left source.old ≡ Some input → K.written sink.old ≡ Some before → RanOn (IsThere O.is_told O.Disk.is_told O.Disk.seen (O.lies outside.old file.now)) (Stays O.is_told O.Disk.seen (O.lies outside.new file.now)) (Keeps O.is_told O.Disk.is_told O.Disk.may_leave O.Disk.moment O.Disk.left_since (O.lies outside.new file.now) input before (K.written sink.new)) result input before (S.left source.new) (K.written sink.new) }
+    ensures ran { (input before : List ℕ) → S.left source.old ≡ Some input → K.written sink.old ≡ Some before → RanOn (IsThere O.is_told O.Disk.is_told O.Disk.seen (O.lies outside.old file.now)) (Stays O.is_told O.Disk.seen (O.lies outside.new file.now)) (Keeps O.is_told O.Disk.is_told O.Disk.may_leave O.Disk.moment O.Disk.left_since O.Disk.faults (O.lies outside.new file.now) result input before (K.written sink.new)) result input before (S.left source.new) (K.written sink.new) }
     ensures command { result ≢ Status.Usage }
     ensures others { O.is_told → OthersStay file.now (O.lies outside.old) (O.lies outside.new) }
     ensures disk_faults { FaultsOnDisk result (O.faults outside.old) (O.faults outside.new) }

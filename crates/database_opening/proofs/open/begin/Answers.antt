@@ -40,7 +40,7 @@ returns-in-Ok-clause-opened g c = λ p can.
               well = λ runs. refl;
             };
             pages = p;
-            lasts = lasts_from g.D.Disk.is_told g.D.Disk.size_of g.D.Disk.seen g.D.Disk.may_leave g.D.Disk.moment g.D.Disk.left_since g.met.D.Disk.only_now c.args.journal opening p (can.opens faults moment).was_opened can.create refl has.records has.has saved
+            lasts = lasts_from g.D.Disk.is_told g.D.Disk.size_of g.D.Disk.seen g.D.Disk.may_leave g.D.Disk.moment g.D.Disk.left_since g.D.Disk.faults g.met.D.Disk.only_now c.args.journal opening p (can.opens faults moment).was_opened can.create refl has.records has.has saved
                 (ap (λ (x : Saved). x.carried) has.saved) has.flushed has.waiting;
           });
       records = has.records;

@@ -1,7 +1,7 @@
 use Rattle.std.proofs.Common.{◌≡◌, ◌∙◌, List, ℕ, subst}
 use Rattle.image_opening.specs.Telling.{Refuses}
 use Rattle.database_opening.specs.Opened.{OpensAs}
-use Rattle.view_server.proofs.OnDisk.{ends_with, ran_lines, ran_told}
+use Rattle.view_server.proofs.OnDisk.{ends_with, closed_well, ran_lines, ran_told}
 use Rattle.view_server.proofs.on_disk.run_on_disk.Goals as goal
 
 pub returns-in-Ok-clause-ran : goal.returns-in-Ok-clause-ran
@@ -11,7 +11,7 @@ returns-in-Ok-clause-ran g c = λ name input before opened e w.
     (λ bytes there. subst (λ (x : List ℕ). OpensAs g.O.Disk.Disk.is_told g.O.Disk.Disk.size_of g.O.Disk.Disk.seen g.O.Disk.Disk.may_leave g.O.Disk.Disk.moment g.O.Disk.Disk.left_since g.O.Disk.Disk.faults x c.in-Ok.core) there.1 (c.in-Ok.ensures.recovered there.0))
     c.in-Ok.ensures.opened.0 c.in-Ok.ensures.opened.1 c.run_core-lines.result.0 c.ended.result (ends_with c.run_core-lines.result.0 c.close_disk.result c.ended.result c.ended.ensures)
     input before _ _ (c.run_core-lines.ensures.taken input e) (λ q here. c.run_core-lines.ensures.output q here input before e w)
-    (λ q here told tells. record { disk = _; there = c.close_disk.ensures.closed told name (opened told); kept = c.run_core-lines.ensures.kept tells q here input before e w })
+    (λ q here told tells. record { disk = _; there = c.close_disk.ensures.closed told name (opened told); sound = closed_well c.run_core-lines.result.0 c.close_disk.result c.ended.result c.ended.ensures _ c.close_disk.ensures.sound; kept = c.run_core-lines.ensures.kept tells q here input before e w })
 
 pub returns-in-Err-clause-ran : goal.returns-in-Err-clause-ran
 returns-in-Err-clause-ran g c = λ name input before opened e w.
