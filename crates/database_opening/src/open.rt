@@ -1,18 +1,21 @@
 //! A database, opened.
 ghost use Rattle.std.specs.Prelude.{◌≡◌, ◌≤◌, ℕ, List, Some, max, IfOk, IfErr, MatchResult};
-ghost use Rattle.disk_io.specs.Disk.{Only};
+ghost use Rattle.disk_io.specs.Disk.{Only, LeavesOnly};
 ghost use Rattle.iv_types.specs.Maps.{used};
 ghost use Rattle.table_store.specs.Lists.{map_at};
 ghost use Rattle.txn_log.specs.Damaged.{FitsDevice};
+ghost use Rattle.txn_log.specs.Refused.{PlacedImage};
 ghost use Rattle.txn_log.specs.Replay.{Pages};
 ghost use Rattle.wal_log.specs.Log.{new_log};
 ghost use Rattle.log_disk.specs.Placed.{data_limit};
 ghost use Rattle.log_journal.specs.Standing.{HasHeader, disk_of};
 ghost use Rattle.ordered_index.specs.Tree.{limit_of};
-ghost use Rattle.image_finding.specs.Headers.{as_header};
+ghost use Rattle.image_finding.specs.Headers.{as_header, StandsUpTo};
+ghost use Rattle.image_opening.specs.Images.{IsImageIn};
 ghost use Rattle.image_opening.specs.Telling.{HasNoPast, HasSound, Refuses};
 ghost use Rattle.image_opening.specs.declared.fault.OpenFault.TheVariants as why;
 ghost use Rattle.database_opening.specs.Opened.{CanBegin, HasBegun, IsOf, IsOpenOn, IsRefusal, OpenCounts, OpensAs};
+ghost use Rattle.database_opening.specs.Crashes.{disk_in, IsAsBefore, KeepsImage, OpensSafely};
 ghost use Rattle.database_opening.specs.Pages.{IsSameOver};
 
 use crate::pages::on_pages;
@@ -81,6 +84,7 @@ fn save<D: Disk>(
     requires can { (p : Pages) × CanBegin store header.now commits next p }
     ensures opened { IfOk result (λ core. (p : Pages) → CanBegin store header.now commits next p → IsOpenOn D.is_told D.size_of D.seen D.may_leave D.moment D.left_since D.faults core p) }
     ensures refused { IfErr result (λ refused. IsRefusal refused.fault → ⊥) }
+    ensures crash { D.is_told → (p : Pages) → CanBegin store header.now commits next p → LeavesOnly D.moment D.left_since disk (disk_in result) (IsAsBefore (as_header header.now) p.db (D.seen disk)) }
     ensures cause { OpenCounts D.faults (D.faults disk) result }
 {
     let mut journal = LogJournal::restarting(
@@ -135,6 +139,7 @@ fn open_recovered<D: Disk>(
     requires no_past { HasNoPast recovered.replay.store }
     ensures opened { IfOk result (λ core. (p : Pages) → IsOf recovered p → IsOpenOn D.is_told D.size_of D.seen D.may_leave D.moment D.left_since D.faults core p) }
     ensures refused { IfErr result (λ refused. IsRefusal refused.fault → ⊥) }
+    ensures crash { D.is_told → (p : Pages) → IsOf recovered p → LeavesOnly D.moment D.left_since disk (disk_in result) (IsAsBefore (as_header recovered.header) p.db (D.seen disk)) }
     ensures cause { OpenCounts D.faults (D.faults disk) result }
 {
     let Recovered { header, replay } = recovered;
@@ -171,6 +176,7 @@ fn open_settled<D: Disk>(
     ensures recovered { D.is_told → IfOk result (OpensAs D.is_told D.size_of D.seen D.may_leave D.moment D.left_since D.faults (D.seen disk)) }
     ensures refused { D.is_told → IfErr result (λ refused. Refuses (D.seen disk) refused.fault) }
     ensures untouched { D.is_told → IfErr result (λ refused. IsRefusal refused.fault → D.seen refused.disk ≡ D.seen disk) }
+    ensures crash { D.is_told → (i : PlacedImage) → IsImageIn (D.seen disk) i → LeavesOnly D.moment D.left_since disk (disk_in result) (KeepsImage (D.seen disk) i) }
     ensures cause { OpenCounts D.faults (D.faults disk) result }
 {
     match read_image(alloc, &mut disk) {
@@ -200,6 +206,8 @@ pub fn open_database<D: Disk>(
     ensures refused { D.is_told → IfErr result (λ refused. Refuses (D.seen disk) refused.fault) }
     // The disk of an image that is refused reads as before.
     ensures untouched { D.is_told → IfErr result (λ refused. IsRefusal refused.fault → D.seen refused.disk ≡ D.seen disk) }
+    // A crash at any moment of it leaves the image that stood there, or one that recovers to the same database.
+    ensures crash { D.is_told → (i : PlacedImage) → IsImageIn (D.seen disk) i → OpensSafely D.may_leave D.moment D.left_since (D.seen disk) i disk (disk_in result) }
     ensures cause { OpenCounts D.faults (D.faults disk) result }
 {
     let mut disk = disk;

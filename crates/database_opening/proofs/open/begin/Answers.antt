@@ -40,8 +40,8 @@ returns-in-Ok-clause-opened g c = λ p can.
               well = λ runs. refl;
             };
             pages = p;
-            lasts = lasts_from g.D.Disk.is_told g.D.Disk.size_of g.D.Disk.seen g.D.Disk.may_leave g.D.Disk.moment g.D.Disk.left_since g.D.Disk.faults g.met.D.Disk.only_now c.args.journal opening p (can.opens faults moment).was_opened can.create refl has.records has.has saved
-                (ap (λ (x : Saved). x.carried) has.saved) has.flushed has.waiting;
+            lasts = lasts_from opening p (can.opens faults moment).was_opened can.create has.records saved (ap (λ (x : Saved). x.carried) has.saved) has.flushed has.waiting
+                g.D.Disk.is_told g.D.Disk.size_of g.D.Disk.seen g.D.Disk.may_leave g.D.Disk.moment g.D.Disk.left_since g.D.Disk.faults g.met.D.Disk.only_now c.args.journal refl has.has;
           });
       records = has.records;
       has = subst (λ (core : Core Tree (LogJournal g.row.D.Denot)). Has g.D.Disk.is_told g.D.Disk.size_of g.D.Disk.seen g.D.Disk.may_leave core.journal has.records) (sym c.on.ensures) has.has;

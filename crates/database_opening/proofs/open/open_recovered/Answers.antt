@@ -20,3 +20,12 @@ returns-in-Ok-clause-opened g c =
     let greater = c.greater.ensures in
     let early : c.greater.result ≤ 2 ^ 62 + 1 = omega (arith, records, header, greater) in
     IfOk-weaker c.save.result _ _ (λ core f p is. f p (can_begin c.args.recovered sound c.requires.no_past (g.D.Disk.size_of c.args.disk) c.requires.fits c.in-Ok.store c.in-Ok.ensures.same c.in-Ok.ensures.limit c.greater.result early p is)) c.save.ensures.opened
+
+pub returns-in-Ok-clause-crash : goal.returns-in-Ok-clause-crash
+returns-in-Ok-clause-crash g c = λ told p is.
+    let sound = c.requires.sound in
+    let records = sound.next in
+    let header = c.requires.fits.numbers.2 in
+    let greater = c.greater.ensures in
+    let early : c.greater.result ≤ 2 ^ 62 + 1 = omega (arith, records, header, greater) in
+    c.save.ensures.crash told p (can_begin c.args.recovered sound c.requires.no_past (g.D.Disk.size_of c.args.disk) c.requires.fits c.in-Ok.store c.in-Ok.ensures.same c.in-Ok.ensures.limit c.greater.result early p is)

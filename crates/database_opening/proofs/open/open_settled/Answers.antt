@@ -5,6 +5,8 @@ use Rattle.txn_log.specs.Replay.{recovered}
 use Rattle.log_journal.specs.Standing.{HasHeader}
 use Rattle.image_finding.specs.Headers.{as_header, StandsUpTo}
 use Rattle.database_opening.proofs.Headers.{live_header}
+use Rattle.database_opening.specs.Crashes.{disk_in}
+use Rattle.database_opening.proofs.Leaving.{opened_leaves, read_leaves}
 use Rattle.database_opening.proofs.Refusing.{no_refusal}
 use Rattle.database_opening.proofs.open.open_settled.Goals as goal
 
@@ -40,3 +42,17 @@ returns-in-Ok-clause-untouched g c = λ told. MatchResult-weaker c.open_recovere
 
 pub returns-in-Err-clause-untouched : goal.returns-in-Err-clause-untouched
 returns-in-Err-clause-untouched g c = λ told is. c.in-Err.ensures.only_read.same_bytes told
+
+pub returns-in-Ok-clause-crash : goal.returns-in-Ok-clause-crash
+returns-in-Ok-clause-crash g c = λ told i im.
+    let opens = c.in-Ok.ensures.opened told in
+    let o = opens.1 i im in
+    let read = c.in-Ok.ensures.only_read in
+    opened_leaves g.D.Disk.is_told g.D.Disk.size_of g.D.Disk.seen g.D.Disk.may_leave g.D.Disk.moment g.D.Disk.left_since g.met.D.Disk.only_now (g.D.Disk.seen c.args.disk) i o.1.reading o.1.reverses (as_header c.in-Ok.recovered.header) opens.0
+    c.args.disk c.read_image.new.disk (disk_in c.open_recovered.result) (read.same_bytes told)
+    (read_leaves g.D.Disk.is_told g.D.Disk.size_of g.D.Disk.seen g.D.Disk.may_leave g.D.Disk.moment g.D.Disk.left_since g.met.D.Disk.only_now (g.D.Disk.seen c.args.disk) i c.args.disk c.read_image.new.disk (c.requires.settled told) read)
+    (c.open_recovered.ensures.crash told (recovered o.1.reading) (record { has = o.1.has; commits = o.1.commits }))
+
+pub returns-in-Err-clause-crash : goal.returns-in-Err-clause-crash
+returns-in-Err-clause-crash g c = λ told i im.
+    read_leaves g.D.Disk.is_told g.D.Disk.size_of g.D.Disk.seen g.D.Disk.may_leave g.D.Disk.moment g.D.Disk.left_since g.met.D.Disk.only_now (g.D.Disk.seen c.args.disk) i c.args.disk c.read_image.new.disk (c.requires.settled told) c.in-Err.ensures.only_read
