@@ -15,7 +15,7 @@ use Rattle.data_store.specs.declared.store.DataStore.{DataStore}
 use Rattle.image_finding.specs.Headers.{as_header, StandsUpTo}
 use Rattle.image_finding.specs.Reads.{IsOnlyRead}
 use Rattle.image_finding.specs.declared.header.LiveHeader.{LiveHeader}
-use Rattle.database_opening.specs.Crashes.{disk_in, IsAsBefore, KeepsImage, OpensSafely, synced}
+use Rattle.database_opening.specs.Crashes.{disk_in, IsAsBefore, KeepsImage, OpensSafely, unsynced, synced}
 use Rattle.database_opening.specs.Opened.{CanBegin, DiskCore, saved_of}
 use Rattle.database_opening.specs.declared.refused.OpenRefused.{OpenRefused}
 use Rattle.database_opening.proofs.Saving.{bears_opened}
@@ -74,3 +74,14 @@ module _ {D : Type 0} (is_told : Type 0) (size_of : D → ℕ) (seen : D → Lis
       (λ keeps. inr keeps)
       (run.before (moment old) c time.later left))
       run.each
+
+  -- and where that failed
+  pub unsynced_leaves : (s : List ℕ) (i : PlacedImage) (old new : D) → ((c : List ℕ) → may_leave new c → may_leave old c) → Elapses (moment old) (moment new) (left_since old) (left_since new) (may_leave new)
+      → OpensSafely may_leave moment left_since s i old new
+  unsynced_leaves s i old new crash time = unsynced time.later (λ c left. ⊎_elim (only_now old c) (crash c) (time.nothing_else (moment old) c (omega arith) left))
+
+  -- so what a crash may leave in the end is what it might have left before, or keeps the image
+  pub safe_then : ((disk : D) (t : ℕ) (c : List ℕ) → t ≤ moment disk → may_leave disk c → left_since disk t c) → (s : List ℕ) (i : PlacedImage) (old new : D) → OpensSafely may_leave moment left_since s i old new
+      → (c : List ℕ) → may_leave new c → may_leave old c ⊎ KeepsImage s i c
+  safe_then counts_now s i old new (unsynced later left) c may = inl (left c (counts_now new (moment old) c later may))
+  safe_then counts_now s i old new (synced at later past before since) c may = inr (since c (counts_now new at c past may))

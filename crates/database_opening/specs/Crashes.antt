@@ -29,6 +29,6 @@ KeepsImage s i c = (c ≡ s) ⊎ ((h : Header) × StandsUpTo 12 s h × ((r : Rea
 -- Up to the first sync a crash leaves what it might have left before, and from then on what keeps the image that stood there.
 pub data OpensSafely {D : Type 0} (may_leave : D → List ℕ → Type 0) (moment : D → ℕ) (left_since : D → ℕ → List ℕ → Type 0) (s : List ℕ) (i : PlacedImage) (old new : D) : Type 0 where
   -- the sync failed
-  unsynced : ((c : List ℕ) → left_since new (moment old) c → may_leave old c) → OpensSafely may_leave moment left_since s i old new
+  unsynced : moment old ≤ moment new → ((c : List ℕ) → left_since new (moment old) c → may_leave old c) → OpensSafely may_leave moment left_since s i old new
   synced : (at : ℕ) → moment old ≤ at → at ≤ moment new → ((c : List ℕ) → left_since new (moment old) c → may_leave old c ⊎ KeepsImage s i c) → ((c : List ℕ) → left_since new at c → KeepsImage s i c)
       → OpensSafely may_leave moment left_since s i old new

@@ -1,5 +1,5 @@
 -- A script on the database of a disk.
-use Rattle.std.proofs.Common.{◌≡◌, inl, inr, ⊎_elim, ℕ, zero, suc, ◌+◌, ◌-◌, ◌<◌, ◌≤◌, ◌^◌, List, Some, Ok, Err, refl, sym, ap, subst, ◌∙◌, arith}
+use Rattle.std.proofs.Common.{◌≡◌, ◌⊎◌, inl, inr, ⊎_elim, ℕ, zero, suc, ◌+◌, ◌-◌, ◌<◌, ◌≤◌, ◌^◌, List, Some, Ok, Err, refl, sym, ap, subst, ◌∙◌, arith}
 use Rattle.std.specs.Prelude.{Option, Result, IfOk, IfErr, OnOk, min}
 use Rattle.iv_types.specs.Faults.{Rose, CountsFault}
 use Rattle.iv_types.specs.declared.fault.Failed.{Failed}
@@ -12,6 +12,9 @@ use Rattle.txn_machine.specs.Store.{committed}
 use Rattle.txn_book.specs.Crashes.{IsWhole, IsPrefix}
 use Rattle.session_table.specs.Going.{StandsIn}
 use Rattle.txn_log.specs.Replay.{Pages, recovered}
+use Rattle.txn_log.specs.Refused.{PlacedImage}
+use Rattle.image_opening.specs.Faults.{counted_by}
+use Rattle.image_opening.specs.Images.{IsImageIn}
 use Rattle.image_opening.specs.Telling.{Refuses}
 use Rattle.image_opening.specs.declared.fault.OpenFault.{OpenFault}
 use Rattle.image_opening.specs.declared.fault.OpenFault.TheVariants as why
@@ -26,7 +29,8 @@ use Rattle.script_run.proofs.Recovering.{front_of, all_of}
 use Rattle.script_run.specs.Run.{Output, Taken, SourceFaults, SinkFaults}
 use Rattle.script_run.specs.declared.status.Status.{Status}
 use Rattle.script_run.specs.declared.status.Status.TheVariants.{Done, Usage, ReadFault, WriteFault, DiskFault, BadImage, NoMemory, TooMuch}
-use Rattle.view_server.specs.OnDisk.{EndsWith, EndsSo, FaultsOnDisk, IsOfLines, IsThere, KeepsAll, KeepsFront, IsKeptOn, IsTold, IsToldOf, RanOn, lines, refused, nothing, TellsBad, ToldBad}
+use Rattle.view_server.specs.OnDisk.{EndsWith, EndsSo, FaultsOnDisk, IsOfLines, IsStop, IsThere, KeepsAll, KeepsFront, IsKeptOn, IsTold, IsToldOf, MightLeave, RanOn, lines, refused, stopped, unopened, StaysSafe, TellsBad, ToldBad}
+use Rattle.view_server.specs.Init.{DiskFaults}
 
 -- ---- what is recovered
 
@@ -55,10 +59,10 @@ module _ {D : Type 0} (is_told : Type 0) (size_of : D → ℕ) (seen : D → Lis
   was_opened p h = record { db = p.db; stored = p.view; opening = h.opening; is_opened = h.was_opened; stands = h.stands }
 
   -- the output of its lines is that on the database which is there
-  pub ran_lines : (There Same : List ℕ → Type 0) (Leaves : Status → Database → Type 0) → ((c : List ℕ) → There c → OpensAs is_told size_of seen may_leave moment left_since faults c core) → (p : Pages) → IsOpenOn is_told size_of seen may_leave moment left_since faults core p
+  pub ran_lines : (There Same : List ℕ → Type 0) (Safe : List ℕ → PlacedImage → Type 0) (Unopened : Type 0) (Leaves : Status → Database → Type 0) (Counts : Status → Type 0) → ((c : List ℕ) → There c → OpensAs is_told size_of seen may_leave moment left_since faults c core) → (p : Pages) → IsOpenOn is_told size_of seen may_leave moment left_since faults core p
       → (of status : Status) → EndsWith of status → (input before : List ℕ) (left written : Option (List ℕ)) → Taken of input left
-      → ((q : Pages) → IsOpenOn is_told size_of seen may_leave moment left_since faults core q → Output q.db of input before left written) → ((q : Pages) → IsOpenOn is_told size_of seen may_leave moment left_since faults core q → Leaves of q.db) → RanOn There Same Leaves status input before left written
-  ran_lines There Same Leaves opens p here of status ends input before left written taken out kept =
+      → ((q : Pages) → IsOpenOn is_told size_of seen may_leave moment left_since faults core q → Output q.db of input before left written) → ((q : Pages) → IsOpenOn is_told size_of seen may_leave moment left_since faults core q → Leaves of q.db) → RanOn There Same Safe Unopened Leaves Counts status input before left written
+  ran_lines There Same Safe Unopened Leaves Counts opens p here of status ends input before left written taken out kept =
       lines of ends taken p.db (out p here) (λ c there. let found = opens c there in (found.0, (λ i im. let o = found.1 i im in (o.0, (o.1.0, o.1.1, out (recovered o.1.0) o.1.2, kept (recovered o.1.0) o.1.2)))))
 
   -- what its lines committed is kept on its disk
@@ -105,25 +109,37 @@ is_refusal (why.BadView wrong) line told = tt
 is_refusal why.DiskFault line told = told
 is_refusal why.NoMemory line told = told
 
-pub ran_told : (There Same : List ℕ → Type 0) (Leaves : Status → Database → Type 0) (fault : OpenFault) → ((c : List ℕ) → There c → Refuses c fault) → ((c : List ℕ) → IsRefusal fault → There c → Same c) → (status : Status) (input before : List ℕ) (left written : Option (List ℕ)) → left ≡ Some input
-    → IsToldOf fault status before written → RanOn There Same Leaves status input before left written
-ran_told There Same Leaves fault refuses same status input before left written none (inl told) = refused fault (λ c there. (refuses c there, same c (is_refusal fault told.0 told.1) there)) told.0 told.1 none told.2
-ran_told There Same Leaves fault refuses same status input before left written none (inr bare) = nothing bare.0 none bare.1
+-- a status that tells a stop
+is_stop : (fault : OpenFault) (status : Status) → IsStop fault status → (status ≡ DiskFault) ⊎ (status ≡ NoMemory)
+is_stop (why.BadImage bad) status other = absurd other
+is_stop (why.BadView wrong) status other = absurd other
+is_stop why.DiskFault status is = inl is
+is_stop why.NoMemory status is = inr is
+
+pub ran_told : (There Same : List ℕ → Type 0) (Safe : List ℕ → PlacedImage → Type 0) (Unopened : Type 0) (Leaves : Status → Database → Type 0) (Counts : Status → Type 0) (fault : OpenFault) → ((c : List ℕ) → There c → Refuses c fault) → ((c : List ℕ) → IsRefusal fault → There c → Same c)
+    → ((c : List ℕ) → There c → (i : PlacedImage) → IsImageIn c i → Safe c i) → (status : Status) → Counts status → (input before : List ℕ) (left written : Option (List ℕ)) → left ≡ Some input
+    → IsToldOf fault status before written → RanOn There Same Safe Unopened Leaves Counts status input before left written
+ran_told There Same Safe Unopened Leaves Counts fault refuses same safe status counts input before left written none (inl told) = refused fault (λ c there. (refuses c there, same c (is_refusal fault told.0 told.1) there)) told.0 told.1 none told.2
+ran_told There Same Safe Unopened Leaves Counts fault refuses same safe status counts input before left written none (inr bare) = stopped (is_stop fault status bare.0) counts safe none bare.1
 
 -- a line that was made or not, and told then
 pub told_line : {T S N : Type 0} (items : T → List ℕ) (written : S → Option (List ℕ)) (old new : S) (fault : OpenFault) (wanted : List ℕ) → IsTold fault wanted → (line : Result T N) → IfOk line (λ text. items text ≡ wanted)
     → (status : Status) → IfOk line (λ text. (b : List ℕ) → written old ≡ Some b → ToldBad status (items text) b (written new)) → IfErr line (λ _. (status ≡ NoMemory) × (new ≡ old))
     → (before : List ℕ) → written old ≡ Some before → IsToldOf fault status before (written new)
-told_line items written old new fault wanted is (Ok text) are status told none before w = inl (wanted, is, subst (λ (line : List ℕ). ToldBad status line before (written new)) are (told before w))
-told_line items written old new fault wanted is (Err e) are status told none before w = inr (inr none.0, ap written none.1 ∙ w)
+told_line items written old new fault wanted is (Ok text) are status told none before w = inl (wanted, is, inl (subst (λ (line : List ℕ). ToldBad status line before (written new)) are (told before w)))
+told_line items written old new fault wanted is (Err e) are status told none before w = inl (wanted, is, inr (none.0, ap written none.1 ∙ w))
 
 -- of fewer bytes, and by what is left
-pub ran_more : (There Other Same Still : List ℕ → Type 0) (Leaves Left : Status → Database → Type 0) → ((c : List ℕ) → Other c → There c) → ((c : List ℕ) → Same c → Still c) → ((of : Status) (db : Database) → Leaves of db → Left of db) → (status : Status) (input before : List ℕ) (left written : Option (List ℕ)) → RanOn There Same Leaves status input before left written → RanOn Other Still Left status input before left written
-ran_more There Other Same Still Leaves Left fewer stays still status input before left written (lines of ends taken db out there) =
+pub ran_more : (There Other Same Still : List ℕ → Type 0) (Safe Kept : List ℕ → PlacedImage → Type 0) (Unopened Closed : Type 0) (Leaves Left : Status → Database → Type 0) (Counts Counted : Status → Type 0) → ((c : List ℕ) → Other c → There c) → ((c : List ℕ) → Same c → Still c)
+    → ((c : List ℕ) → Other c → (i : PlacedImage) → Safe c i → Kept c i) → (Unopened → Closed) → ((of : Status) (db : Database) → Leaves of db → Left of db) → (status : Status) → (Counts status → Counted status) → (input before : List ℕ) (left written : Option (List ℕ))
+    → RanOn There Same Safe Unopened Leaves Counts status input before left written → RanOn Other Still Kept Closed Left Counted status input before left written
+ran_more There Other Same Still Safe Kept Unopened Closed Leaves Left Counts Counted fewer stays keeps closed still status counts input before left written (lines of ends taken db out there) =
     lines of ends taken db out (λ c is. let found = there c (fewer c is) in (found.0, (λ i im. let o = found.1 i im in (o.0, (o.1.0, o.1.1, o.1.2, still of (recovered o.1.0).db o.1.3)))))
-ran_more There Other Same Still Leaves Left fewer stays still status input before left written (refused fault refuses line told none bad) =
+ran_more There Other Same Still Safe Kept Unopened Closed Leaves Left Counts Counted fewer stays keeps closed still status counts input before left written (refused fault refuses line told none bad) =
     refused fault (λ c is. let r = refuses c (fewer c is) in (r.0, stays c r.1)) line told none bad
-ran_more There Other Same Still Leaves Left fewer stays still status input before left written (nothing bare none same) = nothing bare none same
+ran_more There Other Same Still Safe Kept Unopened Closed Leaves Left Counts Counted fewer stays keeps closed still status counts input before left written (stopped bare count safe none same) =
+    stopped bare (counts count) (λ c is i im. keeps c is i (safe c (fewer c is) i im)) none same
+ran_more There Other Same Still Safe Kept Unopened Closed Leaves Left Counts Counted fewer stays keeps closed still status counts input before left written (unopened bare count as_was none same) = unopened bare (counts count) (closed as_was) none same
 
 -- the disk that lay there reads as the one that was opened
 pub reads_so : {D : Type 0} (outside_tells disk_tells : Type 0) (size : D → ℕ) (seen : D → List ℕ) (may_leave : D → List ℕ → Type 0) (lay : Option D) (disk : D) → (outside_tells → ReadsAsBefore size seen may_leave lay disk)
@@ -136,7 +152,37 @@ reads_so outside_tells disk_tells size seen may_leave lay disk opened c is =
     some_same : {A : Type 0} (x y : A) → Some x ≡ Some y → x ≡ y
     some_same x y e = cc
 
+-- and what it might have left it might have left before
+pub safe_so : {D : Type 0} (outside_tells : Type 0) (size : D → ℕ) (seen : D → List ℕ) (may_leave : D → List ℕ → Type 0) (lay lies : Option D) (disk : D) → (outside_tells → ReadsAsBefore size seen may_leave lay disk)
+    → (s : List ℕ) (i : PlacedImage) → StaysSafe outside_tells may_leave (may_leave disk) lies s i → StaysSafe outside_tells may_leave (MightLeave may_leave lay) lies s i
+safe_so outside_tells size seen may_leave lay lies disk opened s i safe told =
+    let l = safe told in
+    let before = opened told in
+    record {
+      disk = l.disk;
+      there = l.there;
+      safe = λ c may. ⊎_elim (λ left. inl (record { disk = before.closed; there = before.there; left = before.crash c left })) (λ keeps. inr keeps) (l.safe c may);
+    }
+
 -- ---- statuses
+
+pub counted_so : (fault : OpenFault) (before now : ℕ) → before ≡ 0 → counted_by fault before now → counted_by fault 0 now
+counted_so fault before now none counts = subst (λ n. counted_by fault n now) none counts
+
+-- a count goes on from one that stood
+pub counts_on : (status : Status) (first before now : ℕ) → before ≡ first → DiskFaults status before now → DiskFaults status first now
+counts_on status first before now same h = subst (λ n. DiskFaults status n now) same h
+
+-- a count that is exact
+pub exact_so : (status : Status) (before now : ℕ) → DiskFaults status before now → FaultsOnDisk status before now
+exact_so Done before now h = h
+exact_so Usage before now h = inl h
+exact_so ReadFault before now h = inl h
+exact_so WriteFault before now h = inl h
+exact_so DiskFault before now h = h
+exact_so BadImage before now h = h
+exact_so NoMemory before now h = inl h
+exact_so TooMuch before now h = inl h
 
 pub ends_with : (of : Status) (closed : Result (Unit {0}) Failed) (status : Status) → EndsSo of closed status → EndsWith of status
 ends_with of (Ok u) status h = inl h
@@ -184,10 +230,10 @@ faults_so of is (Err failed) status (inl both) before now h = subst (λ s. Fault
 faults_so of is (Err failed) status (inr both) before now h = subst (λ s. FaultsOnDisk s before now) (sym both.1) (rose_so of is both.0 before now h)
 
 -- and so where an image was refused
-pub told_faults : (status : Status) → TellsBad status → (before now : ℕ) → now ≡ before → FaultsOnDisk status before now
-told_faults status (inl bad) before now same = subst (λ s. FaultsOnDisk s before now) (sym bad) same
-told_faults status (inr (inl write)) before now same = subst (λ s. FaultsOnDisk s before now) (sym write) (inl same)
-told_faults status (inr (inr none)) before now same = subst (λ s. FaultsOnDisk s before now) (sym none) (inl same)
+pub told_faults : (status : Status) → TellsBad status → (before now : ℕ) → now ≡ before → DiskFaults status before now
+told_faults status (inl bad) before now same = subst (λ s. DiskFaults s before now) (sym bad) same
+told_faults status (inr (inl write)) before now same = subst (λ s. DiskFaults s before now) (sym write) same
+told_faults status (inr (inr none)) before now same = subst (λ s. DiskFaults s before now) (sym none) same
 
 pub closed_sound : (count before now : ℕ) → count ≡ 0 → CountsClosed count before now → now ≡ before
 closed_sound count before now none closed = closed.sound none

@@ -15,6 +15,7 @@ use Rattle.image_opening.specs.declared.fault.OpenFault.{OpenFault}
 use Rattle.image_opening.specs.declared.fault.OpenFault.TheVariants as why
 use Rattle.engine_core.specs.Crashes.{ReadsBack}
 use Rattle.image_refusals.specs.Lines.{rule_line, row_line}
+use Rattle.database_opening.specs.Crashes.{KeepsImage}
 use Rattle.script_run.specs.Recovered.{HasEntryMore, Committed, history_of}
 use Rattle.script_run.specs.Run.{Output, Taken}
 use Rattle.script_run.specs.declared.status.Status.{Status}
@@ -50,10 +51,20 @@ IsTold (why.BadView wrong) line = line ≡ row_line (schema_of wrong.catalog) wr
 IsTold why.DiskFault line = ⊥
 IsTold why.NoMemory line = ⊥
 
--- what is told, or that nothing is: the disk failed, or there was no memory for a line
+-- the line was told, unless there was no memory for it
+abbrev pub TellsIt : Status → List ℕ → List ℕ → Option (List ℕ) → Type 0
+TellsIt status line before written = ToldBad status line before written ⊎ ((status ≡ NoMemory) × (written ≡ Some before))
+
+-- the image was not refused, and the status tells why it was not opened
+abbrev pub IsStop : OpenFault → Status → Type 0
+IsStop (why.BadImage bad) status = ⊥
+IsStop (why.BadView wrong) status = ⊥
+IsStop why.DiskFault status = status ≡ DiskFault
+IsStop why.NoMemory status = status ≡ NoMemory
+
+-- what is told, or that nothing is, where the disk or memory failed
 abbrev pub IsToldOf : OpenFault → Status → List ℕ → Option (List ℕ) → Type 0
-IsToldOf fault status before written =
-    ((line : List ℕ) × IsTold fault line × ToldBad status line before written) ⊎ (((status ≡ DiskFault) ⊎ (status ≡ NoMemory)) × (written ≡ Some before))
+IsToldOf fault status before written = ((line : List ℕ) × IsTold fault line × TellsIt status line before written) ⊎ (IsStop fault status × (written ≡ Some before))
 
 -- a line was told, or the sink failed, or there was no memory for it
 abbrev pub TellsBad : Status → Type 0
@@ -103,18 +114,37 @@ pub record LiesAs {D : Type 0} (seen : D → List ℕ) (lies : Option D) (c : Li
 abbrev pub Stays : {D : Type 0} (outside_tells : Type 0) (seen : D → List ℕ) (lies : Option D) → List ℕ → Type 0
 Stays outside_tells seen lies c = outside_tells → LiesAs seen lies c
 
--- what a run on the disk with these bytes has done, and what it leaves
-pub data RanOn (There Same : List ℕ → Type 0) (Leaves : Status → Database → Type 0) (status : Status) (input before : List ℕ) (left written : Option (List ℕ)) : Type 0 where
+-- what a crash might leave of a disk that lies there
+pub record MightLeave {D : Type 0} (may_leave : D → List ℕ → Type 0) (lies : Option D) (c : List ℕ) : Type 0 where
+  pub disk : D
+  pub there : lies ≡ Some disk
+  pub left : may_leave disk c
+
+-- A disk lies there of which a crash leaves what it might have left before, or what keeps this image.
+pub record LiesSafe {D : Type 0} (may_leave : D → List ℕ → Type 0) (earlier : List ℕ → Type 0) (lies : Option D) (s : List ℕ) (i : PlacedImage) : Type 0 where
+  pub disk : D
+  pub there : lies ≡ Some disk
+  pub safe : (c : List ℕ) → may_leave disk c → earlier c ⊎ KeepsImage s i c
+
+abbrev pub StaysSafe : {D : Type 0} (outside_tells : Type 0) (may_leave : D → List ℕ → Type 0) (earlier : List ℕ → Type 0) (lies : Option D) → List ℕ → PlacedImage → Type 0
+StaysSafe outside_tells may_leave earlier lies s i = outside_tells → LiesSafe may_leave earlier lies s i
+
+-- What a run on the disk with these bytes has done, and what it leaves. The count of faults goes with the status where no line was read.
+pub data RanOn (There Same : List ℕ → Type 0) (Safe : List ℕ → PlacedImage → Type 0) (Unopened : Type 0) (Leaves : Status → Database → Type 0) (Counts : Status → Type 0) (status : Status) (input before : List ℕ) (left written : Option (List ℕ)) : Type 0 where
   -- The lines were run on some database: the bytes fail no rule up to 12, so that an image stands there, and it was that which the image
   -- recovers to, which is refused for nothing. What they committed is kept.
   lines : (of : Status) → EndsWith of status → Taken of input left → (db : Database) → Output db of input before left written
       → ((c : List ℕ) → There c → PassesUpTo 12 c × ((i : PlacedImage) → IsImageIn c i → IsFine i × ((r : Reading) × ReversesAs i r × Output (recovered r).db of input before left written × Leaves of (recovered r).db)))
-      → RanOn There Same Leaves status input before left written
-  -- The bytes bear no database, for what was told, and stay as they are; no line was read.
-  refused : (fault : OpenFault) → ((c : List ℕ) → There c → Refuses c fault × Same c) → (line : List ℕ) → IsTold fault line → left ≡ Some input → ToldBad status line before written
-      → RanOn There Same Leaves status input before left written
-  -- The disk could not be opened, or failed as it was, or there was no memory for it; no line was read and nothing was told.
-  nothing : (status ≡ DiskFault) ⊎ (status ≡ NoMemory) → left ≡ Some input → written ≡ Some before → RanOn There Same Leaves status input before left written
+      → RanOn There Same Safe Unopened Leaves Counts status input before left written
+  -- The bytes bear no database, for what was told, unless there was no memory for the line, and stay as they are; no line was read.
+  refused : (fault : OpenFault) → ((c : List ℕ) → There c → Refuses c fault × Same c) → (line : List ℕ) → IsTold fault line → left ≡ Some input → TellsIt status line before written
+      → RanOn There Same Safe Unopened Leaves Counts status input before left written
+  -- The disk failed as its database was opened, or there was no memory for it, and the image that stood there is kept; no line was read and
+  -- nothing was told.
+  stopped : (status ≡ DiskFault) ⊎ (status ≡ NoMemory) → Counts status → ((c : List ℕ) → There c → (i : PlacedImage) → IsImageIn c i → Safe c i) → left ≡ Some input → written ≡ Some before
+      → RanOn There Same Safe Unopened Leaves Counts status input before left written
+  -- The disk could not be opened, or there was no memory for that; no line was read and nothing was told.
+  unopened : (status ≡ DiskFault) ⊎ (status ≡ NoMemory) → Counts status → Unopened → left ≡ Some input → written ≡ Some before → RanOn There Same Safe Unopened Leaves Counts status input before left written
 
 -- the outside's count of disks rises with a fault of the disk, and it may have risen where another cause is told
 abbrev pub FaultsOnDisk : Status → ℕ → ℕ → Type 0

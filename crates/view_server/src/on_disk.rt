@@ -6,7 +6,8 @@ ghost use Rattle.outside.specs.Outside.{CountsClosed, OthersStay};
 ghost use Rattle.script_run.specs.Run.{Output, Taken, SourceFaults, SinkFaults};
 ghost use Rattle.txn_log.specs.Replay.{Pages};
 ghost use Rattle.database_opening.specs.Opened.{IsOpenOn};
-ghost use Rattle.view_server.specs.OnDisk.{EndsSo, FaultsOnDisk, IsKeptOn, IsOfLines, IsThere, IsToldOf, Keeps, RanOn, Stays, TellsBad, ToldBad};
+ghost use Rattle.view_server.specs.OnDisk.{EndsSo, FaultsOnDisk, IsKeptOn, IsOfLines, IsThere, IsToldOf, Keeps, MightLeave, RanOn, Stays, StaysSafe, TellsBad, ToldBad};
+ghost use Rattle.view_server.specs.Init.{DiskFaults};
 
 use database_opening::{OpenRefused, open_database};
 use disk_io::Disk;
@@ -63,7 +64,7 @@ fn tell<K: Sink>(sink: &mut K, line: Result<Vec<u8>, NoMemory>) -> Status
 // Tells why no database is opened.
 fn tell_refusal<K: Sink>(alloc: Global, sink: &mut K, fault: OpenFault) -> Status
     ensures told { (before : List ℕ) → K.written sink.old ≡ Some before → IsToldOf fault result before (K.written sink.new) }
-    ensures counts { (count before now : ℕ) → counted_by fault 0 count → CountsClosed count before now → FaultsOnDisk result before now }
+    ensures counts { (count before now : ℕ) → counted_by fault 0 count → CountsClosed count before now → DiskFaults result before now }
     ensures command { result ≢ Status.Usage }
     ensures sources { (count : ℕ) → SourceFaults result count count }
     ensures sink_faults { SinkFaults result (K.faults sink.old) (K.faults sink.new) }
@@ -106,7 +107,7 @@ fn run_on_disk<O: Outside, S: Source, K: Sink>(
     disk: O::Disk,
 ) -> Status
     requires sound { O.Disk.faults disk ≡ 0 }
-    ensures ran { (name input before : List ℕ) → (O.is_told → O.opened_as outside.old ≡ Some name) → S.left source.old ≡ Some input → K.written sink.old ≡ Some before → RanOn (λ c. O.Disk.is_told × (O.Disk.seen disk ≡ c)) (Stays O.is_told O.Disk.seen (O.lies outside.new name)) (Keeps O.is_told O.Disk.is_told O.Disk.may_leave O.Disk.moment O.Disk.left_since O.Disk.faults (O.lies outside.new name) result input before (K.written sink.new)) result input before (S.left source.new) (K.written sink.new) }
+    ensures ran { (name input before : List ℕ) → (O.is_told → O.opened_as outside.old ≡ Some name) → S.left source.old ≡ Some input → K.written sink.old ≡ Some before → RanOn (λ c. O.Disk.is_told × (O.Disk.seen disk ≡ c)) (Stays O.is_told O.Disk.seen (O.lies outside.new name)) (StaysSafe O.is_told O.Disk.may_leave (O.Disk.may_leave disk) (O.lies outside.new name)) ⊥ (Keeps O.is_told O.Disk.is_told O.Disk.may_leave O.Disk.moment O.Disk.left_since O.Disk.faults (O.lies outside.new name) result input before (K.written sink.new)) (λ status. DiskFaults status (O.faults outside.old) (O.faults outside.new)) result input before (S.left source.new) (K.written sink.new) }
     ensures command { result ≢ Status.Usage }
     ensures others { O.is_told → (name : List ℕ) → O.opened_as outside.old ≡ Some name → OthersStay name (O.lies outside.old) (O.lies outside.new) }
     ensures disk_faults { FaultsOnDisk result (O.faults outside.old) (O.faults outside.new) }
@@ -135,7 +136,7 @@ pub fn script_on_disk<O: Outside, S: Source, K: Sink>(
     sink: &mut K,
     file: &str,
 ) -> Status
-    ensures ran { (input before : List ℕ) → S.left source.old ≡ Some input → K.written sink.old ≡ Some before → RanOn (IsThere O.is_told O.Disk.is_told O.Disk.seen (O.lies outside.old file.now)) (Stays O.is_told O.Disk.seen (O.lies outside.new file.now)) (Keeps O.is_told O.Disk.is_told O.Disk.may_leave O.Disk.moment O.Disk.left_since O.Disk.faults (O.lies outside.new file.now) result input before (K.written sink.new)) result input before (S.left source.new) (K.written sink.new) }
+    ensures ran { (input before : List ℕ) → S.left source.old ≡ Some input → K.written sink.old ≡ Some before → RanOn (IsThere O.is_told O.Disk.is_told O.Disk.seen (O.lies outside.old file.now)) (Stays O.is_told O.Disk.seen (O.lies outside.new file.now)) (StaysSafe O.is_told O.Disk.may_leave (MightLeave O.Disk.may_leave (O.lies outside.old file.now)) (O.lies outside.new file.now)) (O.is_told → O.lies outside.new file.now ≡ O.lies outside.old file.now) (Keeps O.is_told O.Disk.is_told O.Disk.may_leave O.Disk.moment O.Disk.left_since O.Disk.faults (O.lies outside.new file.now) result input before (K.written sink.new)) (λ status. DiskFaults status (O.faults outside.old) (O.faults outside.new)) result input before (S.left source.new) (K.written sink.new) }
     ensures command { result ≢ Status.Usage }
     ensures others { O.is_told → OthersStay file.now (O.lies outside.old) (O.lies outside.new) }
     ensures disk_faults { FaultsOnDisk result (O.faults outside.old) (O.faults outside.new) }

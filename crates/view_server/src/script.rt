@@ -12,7 +12,7 @@ ghost use Rattle.command_words.specs.Words.{IsScript, IsScriptOn, IsMake, IsInit
 ghost use Rattle.outside.specs.Outside.{OthersStay};
 ghost use Rattle.view_server.specs.declared.script.TheConstants.{DATA_LIMIT};
 ghost use Rattle.view_server.specs.Init.{DiskFaults, EndsInit, HasBlank, IsMade, ToldInit};
-ghost use Rattle.view_server.specs.OnDisk.{FaultsOnDisk, IsThere, Keeps, RanOn, Stays};
+ghost use Rattle.view_server.specs.OnDisk.{FaultsOnDisk, IsThere, Keeps, MightLeave, RanOn, Stays, StaysSafe};
 ghost use Rattle.view_server.specs.Usage.{ToldUsage};
 
 use crate::init::init;
@@ -143,8 +143,9 @@ pub fn run<O: Outside, S: Source, K: Sink>(
 
     // A script on a disk: the database is what the image on the disk of that name recovers to, where the outside tells its disks, and the
     // output is that of the input on it, and a crash at any moment since it was opened, or afterwards, recovers what was committed; or the
-    // image is refused, for what is told, and the disk reads as before.
-    ensures on_disk { (file : List ℕ) → IsScriptOn file words.now → (input before : List ℕ) → S.left source.old ≡ Some input → K.written sink.old ≡ Some before → RanOn (IsThere O.is_told O.Disk.is_told O.Disk.seen (O.lies outside.old file)) (Stays O.is_told O.Disk.seen (O.lies outside.new file)) (Keeps O.is_told O.Disk.is_told O.Disk.may_leave O.Disk.moment O.Disk.left_since O.Disk.faults (O.lies outside.new file) result input before (K.written sink.new)) result input before (S.left source.new) (K.written sink.new) }
+    // image is refused, for what is told, and the disk reads as before; or no line is read, and a crash leaves the image that lay there,
+    // or one that recovers to the same database.
+    ensures on_disk { (file : List ℕ) → IsScriptOn file words.now → (input before : List ℕ) → S.left source.old ≡ Some input → K.written sink.old ≡ Some before → RanOn (IsThere O.is_told O.Disk.is_told O.Disk.seen (O.lies outside.old file)) (Stays O.is_told O.Disk.seen (O.lies outside.new file)) (StaysSafe O.is_told O.Disk.may_leave (MightLeave O.Disk.may_leave (O.lies outside.old file)) (O.lies outside.new file)) (O.is_told → O.lies outside.new file ≡ O.lies outside.old file) (Keeps O.is_told O.Disk.is_told O.Disk.may_leave O.Disk.moment O.Disk.left_since O.Disk.faults (O.lies outside.new file) result input before (K.written sink.new)) (λ status. DiskFaults status (O.faults outside.old) (O.faults outside.new)) result input before (S.left source.new) (K.written sink.new) }
     ensures disk_kept { O.is_told → (file : List ℕ) → IsScriptOn file words.now → OthersStay file (O.lies outside.old) (O.lies outside.new) }
     ensures on_disk_faults { (file : List ℕ) → IsScriptOn file words.now → FaultsOnDisk result (O.faults outside.old) (O.faults outside.new) }
 
